@@ -1,0 +1,4 @@
+pub mod Lists
+pub mod TurnLemmas
+pub mod HistoryLemmas
+pub mod Ends
