@@ -1,0 +1,9 @@
+use Rattle.std.proofs.Common.{◌≡◌, length}
+use Rattle.kak_ports.proofs.Writing.{Written}
+use Rattle.kak_ports.proofs.real.WriteSinkSink.put.Given as goal
+
+abbrev pub invariant-loop-rest : goal.invariant-loop-rest
+invariant-loop-rest g l = Written (g.W.Write.contents l.initial.self.writer) (g.W.Write.contents l.self.writer) l.bytes l.rest × (l.self.faults ≡ l.initial.self.faults)
+
+abbrev pub decreases-loop-rest : goal.decreases-loop-rest
+decreases-loop-rest g l = length l.rest

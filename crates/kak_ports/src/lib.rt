@@ -1,0 +1,19 @@
+//! The outside as the editor sees it: traits whose calls say what they do to the bytes behind them, where these are
+//! told, and which fail only where a count of faults rises. Beside each trait stand an object in memory, whose
+//! failures are planned, and one over the real thing, which tells no bytes.
+#![tactic(auto)]
+
+pub mod memory;
+pub mod real;
+pub mod sink;
+pub mod small;
+pub mod source;
+
+pub use memory::{FailingCalls, MemSink, MemSource};
+pub use real::{ReadSource, WriteSink};
+pub use sink::{Put, Sink};
+pub use small::{Octets, Words};
+pub use source::{Source, Took};
+
+#[cfg(test)]
+mod tests;

@@ -1,0 +1,98 @@
+//! Ports over std's readers and writers: the edge of what is proved.
+
+ghost use Rattle.std.specs.Prelude.{◌≡◌, ◌≤◌, length, drop};
+ghost use Rattle.kak_ports.specs.Ports.{Rose};
+
+use crate::sink::{Put, Sink};
+use crate::source::{Source, Took};
+use std::io::{Read, Write};
+
+/// A source over a reader. It tells what the reader tells, which for a file, a pipe or a terminal is nothing.
+#[derive(Drop)]
+pub struct ReadSource<R> {
+    reader: R,
+    faults: u64,
+}
+
+impl<R: Read> ReadSource<R> {
+    /// A source that has not failed yet.
+    pub fn new(reader: R) -> ReadSource<R>
+        ensures reader { result.reader ≡ reader }
+        ensures faults { result.faults ≡ 0 }
+    {
+        ReadSource { reader, faults: 0 }
+    }
+}
+
+impl<R: Read> Source for ReadSource<R> {
+    ghost left = { λ s. R.remaining s.reader };
+
+    ghost faults = { λ s. s.faults };
+
+    fn take(&mut self, into: &mut [u8]) -> Took {
+        match self.reader.read(into) {
+            Ok(0) => Took::End,
+            Ok(count) => Took::Got(count),
+            Err(_) => {
+                self.faults = self.faults.saturating_add(1);
+                Took::Failed
+            }
+        }
+    }
+}
+
+// The bytes behind the first `count`.
+fn all_after(bytes: &[u8], count: usize) -> &[u8]
+    requires { count ≤ length bytes.now }
+    ensures { result.now ≡ drop count bytes.now }
+{
+    &bytes[count..]
+}
+
+/// A sink over a writer. It tells what the writer tells, which for a file, a pipe or a terminal is nothing.
+#[derive(Drop)]
+pub struct WriteSink<W> {
+    writer: W,
+    faults: u64,
+}
+
+impl<W: Write> WriteSink<W> {
+    /// A sink that has not failed yet.
+    pub fn new(writer: W) -> WriteSink<W>
+        ensures writer { result.writer ≡ writer }
+        ensures faults { result.faults ≡ 0 }
+    {
+        WriteSink { writer, faults: 0 }
+    }
+
+    // Counts a fault.
+    fn fail(&mut self) -> Put
+        ensures failed { result ≡ Put.Failed }
+        ensures writer { self.new.writer ≡ self.old.writer }
+        ensures counted { Rose self.old.faults self.new.faults }
+    {
+        self.faults = self.faults.saturating_add(1);
+        Put::Failed
+    }
+}
+
+impl<W: Write> Sink for WriteSink<W> {
+    ghost told = { λ s. W.contents s.writer };
+
+    ghost faults = { λ s. s.faults };
+
+    fn put(&mut self, bytes: &[u8]) -> Put {
+        let mut rest = bytes;
+        while !rest.is_empty() {
+            match self.writer.write(rest) {
+                Ok(0) => return self.fail(),
+                Ok(count) => rest = all_after(rest, count),
+                Err(_) => return self.fail(),
+            }
+        }
+        match self.writer.flush() {
+            Ok(()) => Put::Done,
+            Err(_) => self.fail(),
+        }
+    }
+}

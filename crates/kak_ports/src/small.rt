@@ -1,0 +1,109 @@
+//! Lists of bytes and of texts as small types of their own, which contracts see as their lists.
+
+ghost use Rattle.std.specs.Prelude.{◌≡◌, ◌<◌, [], ◌∷◌, ◌++◌, length, OnOk, OnErr, string_bytes, slice_index_or};
+
+use std::alloc::{AllocError, Global};
+use std::marker::Model;
+
+/// Bytes, seen as their list.
+#[derive(Drop, Debug)]
+pub struct Octets {
+    bytes: Vec<u8>,
+}
+
+impl Model for Octets {
+    ghost use Rattle.std.specs.Prelude.{List, ℕ};
+
+    ghost Value = { List ℕ };
+
+    ghost view = { λ o. o.bytes.items };
+}
+
+impl Octets {
+    /// No bytes.
+    pub fn new(alloc: Global) -> Octets
+        ensures { result ≡ [] }
+    {
+        Octets {
+            bytes: Vec::new(alloc),
+        }
+    }
+
+    /// The bytes of a vector, which is taken over.
+    pub fn of_vec(bytes: Vec<u8>) -> Octets
+        ensures { result ≡ bytes.items }
+    {
+        Octets { bytes }
+    }
+
+    /// The bytes as a vector.
+    pub fn into_vec(self) -> Vec<u8>
+        ensures { result.items ≡ self }
+    {
+        let Octets { bytes } = self;
+        bytes
+    }
+
+    /// The bytes as a slice.
+    pub fn as_slice(&self) -> &[u8]
+        ensures { result.now ≡ self.now }
+    {
+        self.bytes.as_slice()
+    }
+
+    /// How many bytes there are.
+    pub fn len(&self) -> usize
+        ensures { result ≡ length self.now }
+    {
+        self.bytes.as_slice().len()
+    }
+}
+
+/// Texts, seen as the list of their bytes.
+#[derive(Drop, Debug)]
+pub struct Words {
+    words: Vec<String>,
+}
+
+impl Model for Words {
+    ghost use Rattle.std.specs.Prelude.{List, ℕ, map, string_bytes};
+
+    ghost Value = { List (List ℕ) };
+
+    ghost view = { λ w. map (λ word. string_bytes word) w.words.items };
+}
+
+impl Words {
+    /// No words.
+    pub fn new(alloc: Global) -> Words
+        ensures { result ≡ [] }
+    {
+        Words {
+            words: Vec::new(alloc),
+        }
+    }
+
+    /// Adds a word at the end. An `Err` leaves the words.
+    pub fn push(&mut self, word: String) -> Result<(), AllocError>
+        ensures ok { OnOk result (self.new ≡ self.old ++ string_bytes word ∷ []) }
+        ensures err { OnErr result (self.new ≡ self.old) }
+    {
+        self.words.push(word)?;
+        Ok(())
+    }
+
+    /// How many words there are.
+    pub fn len(&self) -> usize
+        ensures { result ≡ length self.now }
+    {
+        self.words.len()
+    }
+
+    /// The n-th word, from 0.
+    pub fn get(&self, n: usize) -> &str
+        requires { n < length self.now }
+        ensures { result.now ≡ slice_index_or self.now n [] }
+    {
+        self.words[n].as_str()
+    }
+}
