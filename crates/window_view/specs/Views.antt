@@ -1,0 +1,7 @@
+-- A window of the code as a view.
+use Rattle.window_view.specs.declared.window.Window.{Window}
+use Rattle.window_view.specs.View.{View}
+
+-- what a window shows
+abbrev pub view_of : Window → View
+view_of w = record { top = w.top; left = w.left; rows = w.rows; columns = w.columns }

@@ -1,0 +1,7 @@
+//! The window of a client on a text: which lines and display columns it shows, and how it follows the cursor.
+#![tactic(auto)]
+
+pub mod laws;
+pub mod window;
+
+pub use window::Window;

@@ -1,0 +1,59 @@
+//! A window and its moves.
+
+ghost use Rattle.std.specs.Prelude.{◌≡◌, ◌+◌, ◌^◌, ◌<◌, ◌≤◌};
+ghost use Rattle.window_view.specs.View.{View, followed};
+
+/// A window: its first line and its first display column, both from 0, and its size, each number from 1 to 1,000.
+#[derive(Clone, Copy, Debug, PartialEq, Eq)]
+pub struct Window {
+    pub top: u32,
+    pub left: u32,
+    pub rows: u16,
+    pub columns: u16,
+    ghost some_rows: { 1 ≤ rows },
+    ghost few_rows: { rows ≤ 1000 },
+    ghost some_columns: { 1 ≤ columns },
+    ghost few_columns: { columns ≤ 1000 },
+}
+
+impl Window {
+    ghost use Rattle.window_view.specs.Views.{view_of};
+
+    /// A window at the start of a text.
+    pub fn new(rows: u16, columns: u16) -> Window
+        requires some_rows { 1 ≤ rows }
+        requires few_rows { rows ≤ 1000 }
+        requires some_columns { 1 ≤ columns }
+        requires few_columns { columns ≤ 1000 }
+        ensures { view_of result ≡ record { top = 0; left = 0; rows = rows; columns = columns } }
+    {
+        Window {
+            top: 0,
+            left: 0,
+            rows,
+            columns,
+        }
+    }
+
+    /// Moves by the least amount that has the cursor's line and its cells in the part that the text has: `column` is
+    /// the display column of its first cell, `width` the number of its cells, and `gutter` the number of cells that
+    /// stand before the text.
+    pub fn follow(&mut self, line: u32, column: u32, width: u32, gutter: u32)
+        requires { column + width < 2 ^ 32 }
+        ensures { view_of self.new ≡ followed (view_of self.old) line column width gutter }
+    {
+        let rows = u32::from(self.rows);
+        if line < self.top {
+            self.top = line;
+        } else if line - self.top >= rows {
+            self.top = line - (rows - 1);
+        }
+        let part = u32::from(self.columns).saturating_sub(gutter).max(1);
+        let cells = width.max(1);
+        if column < self.left {
+            self.left = column;
+        } else if u64::from(column) + u64::from(cells) > u64::from(self.left) + u64::from(part) {
+            self.left = column - (part - cells.min(part));
+        }
+    }
+}
