@@ -1,0 +1,4 @@
+pub mod Colours
+pub mod Faces
+pub mod Standard
+pub mod Examples

@@ -1,0 +1,105 @@
+ghost use Rattle.std.specs.Prelude.{◌≡◌};
+ghost use Rattle.kak_faces.specs.Colours.{colour_name, united};
+
+/// A colour of the terminal's palette, or `Default`, which leaves the choice to the face below it.
+#[derive(Clone, Copy, PartialEq, Eq, Debug)]
+pub enum NamedColour {
+    Default,
+    Black,
+    Red,
+    Green,
+    Yellow,
+    Blue,
+    Magenta,
+    Cyan,
+    White,
+    BrightBlack,
+    BrightRed,
+    BrightGreen,
+    BrightYellow,
+    BrightBlue,
+    BrightMagenta,
+    BrightCyan,
+    BrightWhite,
+}
+
+impl NamedColour {
+    /// The colour's name, as face texts and drawings have it.
+    pub fn name(self) -> &'static str
+        ensures { result.now ≡ colour_name self }
+    {
+        match self {
+            NamedColour::Default => "default",
+            NamedColour::Black => "black",
+            NamedColour::Red => "red",
+            NamedColour::Green => "green",
+            NamedColour::Yellow => "yellow",
+            NamedColour::Blue => "blue",
+            NamedColour::Magenta => "magenta",
+            NamedColour::Cyan => "cyan",
+            NamedColour::White => "white",
+            NamedColour::BrightBlack => "bright-black",
+            NamedColour::BrightRed => "bright-red",
+            NamedColour::BrightGreen => "bright-green",
+            NamedColour::BrightYellow => "bright-yellow",
+            NamedColour::BrightBlue => "bright-blue",
+            NamedColour::BrightMagenta => "bright-magenta",
+            NamedColour::BrightCyan => "bright-cyan",
+            NamedColour::BrightWhite => "bright-white",
+        }
+    }
+}
+
+/// A colour: one with a name, or the amounts of red, green and blue, each from 0 to 255.
+#[derive(Clone, Copy, PartialEq, Eq, Debug)]
+pub enum Colour {
+    Named(NamedColour),
+    Rgb(u8, u8, u8),
+}
+
+/// The attributes of a face. The last three say that a colour or the attributes stay as they are
+/// where another face is merged with this one.
+#[derive(Clone, Copy, PartialEq, Eq, Debug)]
+pub struct Attributes {
+    pub underline: bool,
+    pub reverse: bool,
+    pub bold: bool,
+    pub blink: bool,
+    pub dim: bool,
+    pub italic: bool,
+    pub final_fg: bool,
+    pub final_bg: bool,
+    pub final_attr: bool,
+}
+
+impl Attributes {
+    /// No attribute at all.
+    pub const NONE: Attributes = Attributes {
+        underline: false,
+        reverse: false,
+        bold: false,
+        blink: false,
+        dim: false,
+        italic: false,
+        final_fg: false,
+        final_bg: false,
+        final_attr: false,
+    };
+
+    /// The attributes that one or the other has.
+    pub fn union(self, other: Attributes) -> Attributes
+        ensures { result ≡ united self other }
+    {
+        Attributes {
+            underline: self.underline | other.underline,
+            reverse: self.reverse | other.reverse,
+            bold: self.bold | other.bold,
+            blink: self.blink | other.blink,
+            dim: self.dim | other.dim,
+            italic: self.italic | other.italic,
+            final_fg: self.final_fg | other.final_fg,
+            final_bg: self.final_bg | other.final_bg,
+            final_attr: self.final_attr | other.final_attr,
+        }
+    }
+}
