@@ -1,0 +1,24 @@
+-- Where the places and selections of a text go when the text is changed once, by coordinates.
+use Rattle.std.specs.Prelude.{◌≡◌, ℕ, ◌≤◌, List}
+use Rattle.text_model.specs.declared.TheConstants.{MAX_CHARS}
+use Rattle.text_model.specs.declared.coords.Coord.{Coord}
+use Rattle.text_model.specs.declared.coords.Shift.{Shift}
+use Rattle.text_model.specs.Texts.{IsText, offset, IsPlace}
+use Rattle.text_model.specs.Changes.{Move, IsShift}
+use Rattle.text_model.specs.Mapping.{shifted}
+
+-- a coordinate within what a text may have
+pub record IsSmall (at : Coord) : Type 0 where
+  pub lines : at.line ≤ MAX_CHARS
+  pub columns : at.column ≤ MAX_CHARS
+
+-- a change of a text, from the old one to the new one
+pub record IsStep (old new : List ℕ) (shift : Shift) (m : Move) : Type 0 where
+  pub old_text : IsText old
+  pub new_text : IsText new
+  pub shift_is : IsShift old new shift m
+
+-- a place of the old text has become that place of the new one
+pub record Carries (old new : List ℕ) (m : Move) (at to : Coord) : Type 0 where
+  pub is_place : IsPlace new to
+  pub goes : offset new to ≡ shifted m (offset old at)
