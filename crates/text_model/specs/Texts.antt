@@ -1,5 +1,6 @@
 -- Texts as lists of characters, their lines, and the offsets and coordinates of their places.
-use Rattle.std.specs.Prelude.{◌≡◌, ◌≢◌, ℕ, ◌+◌, ◌-◌, ◌<◌, Bool, ◌==◌, if◌then◌else◌, ◌⊎◌, List, [], ◌∷◌, ◌++◌, length, take, slice_index, slice_index_or}
+use Rattle.std.specs.Prelude.{◌≡◌, ◌≢◌, ℕ, ◌+◌, ◌-◌, ◌<◌, ◌≤◌, Bool, ◌==◌, if◌then◌else◌, ◌⊎◌, List, [], ◌∷◌, ◌++◌, length, take, slice_index, slice_index_or}
+use Rattle.text_model.specs.declared.TheConstants.{MAX_CHARS}
 use Rattle.text_model.specs.declared.coords.Coord.{Coord}
 use Rattle.text_model.specs.Coords.{origin, reached}
 
@@ -11,6 +12,11 @@ ends_in_newline s = slice_index s (length s - 1) == 10
 pub record IsText (text : List ℕ) : Type 0 where
   pub some : 0 < length text
   pub ended : slice_index text (length text - 1) ≡ 10
+
+-- a text that can be kept: its length is within the limit
+pub record IsStored (text : List ℕ) : Type 0 where
+  pub is_text : IsText text
+  pub small : length text ≤ MAX_CHARS
 
 -- a line: not empty, its last character is a newline, and no other is
 pub record IsLine (line : List ℕ) : Type 0 where

@@ -1,0 +1,44 @@
+use super::*;
+use std::test::Fail;
+
+#[test]
+fn a_text_gets_its_last_newline(rt: HostRuntime) -> Result<(), Fail> {
+    let bare = Text::of_chars(rt.alloc(), &['a', 'b'])?;
+    assert_eq!(rt; bare.as_slice(), ['a', 'b', '\n'].as_slice());
+    let ended = Text::of_chars(rt.alloc(), &['a', '\n'])?;
+    assert_eq!(rt; ended.as_slice(), ['a', '\n'].as_slice());
+    let empty = Text::of_chars(rt.alloc(), &[])?;
+    assert_eq!(rt; empty.as_slice(), ['\n'].as_slice());
+    assert_eq!(rt; empty.len(), 1);
+    let newline = Text::newline(rt.alloc())?;
+    assert_eq!(rt; newline.as_slice(), ['\n'].as_slice());
+    Ok(())
+}
+
+#[test]
+fn characters_are_added_and_taken(rt: HostRuntime) -> Result<(), Fail> {
+    let mut chars = Chars::from_str(rt.alloc(), "aé")?;
+    chars.push('!')?;
+    chars.extend_from_slice(&['x', 'y'])?;
+    assert_eq!(rt; chars.as_slice(), ['a', 'é', '!', 'x', 'y'].as_slice());
+    assert_eq!(rt; chars.pop(), Some('y'));
+    assert_eq!(rt; chars.len(), 4);
+    let copy = chars.copy(rt.alloc())?;
+    chars.clear();
+    assert!(rt; chars.is_empty());
+    assert_eq!(rt; chars.pop(), None);
+    assert_eq!(rt; copy.as_slice(), ['a', 'é', '!', 'x'].as_slice());
+    Ok(())
+}
+
+#[test]
+fn characters_go_in_and_out_of_vectors(rt: HostRuntime) -> Result<(), Fail> {
+    let chars = Chars::of_vec(vec![in rt.alloc(); 'a', 'b']?);
+    let items = chars.into_vec();
+    assert_eq!(rt; items.as_slice(), ['a', 'b'].as_slice());
+    let none = Chars::new(rt.alloc());
+    assert!(rt; none.is_empty());
+    let some = Chars::from_slice(rt.alloc(), items.as_slice())?;
+    assert_eq!(rt; some.as_slice(), ['a', 'b'].as_slice());
+    Ok(())
+}
