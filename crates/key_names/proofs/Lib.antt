@@ -1,0 +1,4 @@
+pub mod ReadingLemmas
+pub mod PrintingLemmas
+pub mod RoundTrip
+pub mod SpelledKeys

@@ -1,0 +1,5 @@
+pub mod Names
+pub mod Reading
+pub mod FirstKey
+pub mod Printing
+pub mod Examples
