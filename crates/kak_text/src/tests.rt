@@ -10,6 +10,8 @@ fn a_text_gets_its_last_newline(rt: HostRuntime) -> Result<(), Fail> {
     let empty = Text::of_chars(rt.alloc(), &[])?;
     assert_eq!(rt; empty.as_slice(), ['\n'].as_slice());
     assert_eq!(rt; empty.len(), 1);
+    let again = Text::of_vec(ended.into_vec());
+    assert_eq!(rt; again.len(), 2);
     let newline = Text::newline(rt.alloc())?;
     assert_eq!(rt; newline.as_slice(), ['\n'].as_slice());
     Ok(())

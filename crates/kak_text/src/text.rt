@@ -69,6 +69,22 @@ impl Text {
         Ok(Text { items })
     }
 
+    /// The text of these characters; takes no memory.
+    pub fn of_vec(items: Vec<char>) -> Text
+        requires { IsStored items.items }
+        ensures { result ≡ items.items }
+    {
+        Text { items }
+    }
+
+    /// The characters as a vector; takes no memory.
+    pub fn into_vec(self) -> Vec<char>
+        ensures value { result.items ≡ self }
+        ensures valid { IsStored self }
+    {
+        self.items
+    }
+
     /// The characters.
     pub fn as_slice(&self) -> &[char]
         ensures value { result.now ≡ self.now }

@@ -1,0 +1,5 @@
+pub mod CutLemmas
+pub mod BufferLemmas
+pub mod StepLemmas
+pub mod InsertLemmas
+pub mod FlatLemmas

@@ -1,0 +1,41 @@
+//! Characters put together, and cut into lines.
+
+ghost use Rattle.std.specs.Prelude.{◌≡◌, ◌+◌, ◌<◌, ◌≤◌, ◌++◌, ◌^◌, ◌∷◌, [], length, IfOk, if◌then◌else◌};
+ghost use Rattle.text_model.specs.Texts.{IsText, lines_of};
+ghost use Rattle.text_model.specs.Changes.{ended};
+
+use crate::line::Line;
+use std::alloc::{AllocError, Global};
+
+/// A slice between two others.
+pub fn gathered(
+    alloc: Global,
+    front: &[char],
+    middle: &[char],
+    back: &[char],
+) -> Result<Vec<char>, AllocError>
+    requires { length front.now + length middle.now + length back.now < 2 ^ 63 }
+    ensures { IfOk result (λ all. all.items ≡ front.now ++ (middle.now ++ back.now)) }
+{
+    let mut all = Vec::with_capacity(alloc, front.len() + middle.len() + back.len())?;
+    all.extend_from_slice(front)?;
+    all.extend_from_slice(middle)?;
+    all.extend_from_slice(back)?;
+    Ok(all)
+}
+
+/// The lines of a text.
+pub fn cut(alloc: Global, text: &[char]) -> Result<Vec<Line>, AllocError>
+    requires { IsText text.now }
+    ensures { IfOk result (λ lines. lines.items ≡ lines_of text.now) }
+{
+    let mut lines = Vec::new(alloc);
+    let mut start = 0;
+    for (i, c) in text.iter().enumerate() {
+        if *c == '\n' {
+            lines.push(Line::of_slice(alloc, &text[start..i + 1])?)?;
+            start = i + 1;
+        }
+    }
+    Ok(lines)
+}

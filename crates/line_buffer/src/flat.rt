@@ -1,0 +1,91 @@
+//! The flat text of a buffer, and the way between offsets and coordinates by a count from the top. The calls cost the
+//! lines that they go over, so they are for tests, for writing a buffer out and for other rare uses.
+
+ghost use Rattle.std.specs.Prelude.{◌≡◌, ◌≢◌, ℕ, ◌+◌, ◌<◌, ◌≤◌, ◌++◌, length, slice_range, IfOk, OnOk, string_bytes, encode_utf8_all};
+ghost use Rattle.text_model.specs.Texts.{IsPlace, IsPlaceOrEnd, offset, coord_at};
+
+use crate::lines::Lines;
+use kak_text::{Coord, Text};
+use std::alloc::{AllocError, Global};
+
+impl Lines {
+    /// The text.
+    pub fn to_text(&self, alloc: Global) -> Result<Text, AllocError>
+        ensures { IfOk result (λ text. text ≡ self.now) }
+    {
+        let mut all = Vec::with_capacity(alloc, self.len())?;
+        for n in 0..self.line_count() {
+            all.extend_from_slice(self.line(n))?;
+        }
+        Ok(Text::of_vec(all))
+    }
+
+    /// The offset of a place or of the end.
+    pub fn offset_of(&self, at: Coord) -> usize
+        requires { IsPlaceOrEnd self.now at }
+        ensures { result ≡ offset self.now at }
+    {
+        let mut start = 0;
+        for n in 0..at.line as usize {
+            start += self.line(n).len();
+        }
+        start + at.column as usize
+    }
+
+    /// The coordinate of an offset up to the length.
+    pub fn coord_of(&self, place: usize) -> Coord
+        requires { place ≤ length self.now }
+        ensures value { result ≡ coord_at self.now place }
+        ensures offset { offset self.now result ≡ place }
+        ensures end { IsPlaceOrEnd self.now result }
+        ensures inside { place < length self.now → IsPlace self.now result }
+    {
+        let mut rest = place;
+        for n in 0..self.line_count() {
+            let len = self.line(n).len();
+            if rest < len {
+                return Coord {
+                    line: n as u32,
+                    column: rest as u32,
+                };
+            }
+            rest -= len;
+        }
+        Coord {
+            line: self.line_count() as u32,
+            column: 0,
+        }
+    }
+
+    /// The characters from a place to before another, or to the end. It costs what it gives.
+    pub fn slice(&self, alloc: Global, from: Coord, to: Coord) -> Result<String, AllocError>
+        requires from { IsPlaceOrEnd self.now from }
+        requires to { IsPlaceOrEnd self.now to }
+        requires ordered { offset self.now from ≤ offset self.now to }
+        ensures { IfOk result (λ text. string_bytes text ≡ encode_utf8_all (slice_range self.now (offset self.now from) (offset self.now to))) }
+    {
+        let mut text = String::new(alloc);
+        let mut start = from.column as usize;
+        for n in from.line..to.line {
+            push_all(&mut text, &self.line(n as usize)[start..])?;
+            start = 0;
+        }
+        if start < to.column as usize {
+            push_all(
+                &mut text,
+                &self.line(to.line as usize)[start..to.column as usize],
+            )?;
+        }
+        Ok(text)
+    }
+}
+
+// Adds characters to a string.
+fn push_all(text: &mut String, chars: &[char]) -> Result<(), AllocError>
+    ensures { OnOk result (string_bytes text.new ≡ string_bytes text.old ++ encode_utf8_all chars.now) }
+{
+    for c in chars {
+        text.push(*c)?;
+    }
+    Ok(())
+}

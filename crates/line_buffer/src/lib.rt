@@ -1,0 +1,15 @@
+//! A text as lines in memory. It is seen as the flat text; a call costs the lines that it touches, and never a count
+//! from the top unless it says so.
+#![tactic(auto)]
+
+mod cuts;
+pub mod flat;
+pub mod inserts;
+mod line;
+pub mod lines;
+pub mod steps;
+
+pub use lines::{Lines, LinesError};
+
+#[cfg(test)]
+mod tests;

@@ -1,0 +1,153 @@
+use super::*;
+use kak_text::{Chars, Coord, Text};
+use std::alloc::Global;
+use std::test::Fail;
+
+fn lines(alloc: Global, text: &str) -> Result<Lines, Fail> {
+    let chars = Chars::from_str(alloc, text)?;
+    let text = Text::of_chars(alloc, chars.as_slice())?;
+    Ok(Lines::of_text(alloc, &text)?)
+}
+
+fn coord(line: u32, column: u32) -> Coord {
+    Coord { line, column }
+}
+
+// The text as a string.
+fn whole(alloc: Global, lines: &Lines) -> Result<String, Fail> {
+    let text = lines.to_text(alloc)?;
+    let mut out = String::new(alloc);
+    for c in text.as_slice() {
+        out.push(*c)?;
+    }
+    Ok(out)
+}
+
+// A row of an insertion: the text before, the offset, what is put in, and the text after with the shift's end.
+#[derive(Drop)]
+struct Row {
+    before: &'static str,
+    at: usize,
+    put: &'static str,
+    after: &'static str,
+    end: Coord,
+    last: Coord,
+}
+
+const fn make_row(
+    before: &'static str,
+    at: usize,
+    put: &'static str,
+    after: &'static str,
+    end: (u32, u32),
+    last: (u32, u32),
+) -> Row {
+    Row {
+        before,
+        at,
+        put,
+        after,
+        end: Coord {
+            line: end.0,
+            column: end.1,
+        },
+        last: Coord {
+            line: last.0,
+            column: last.1,
+        },
+    }
+}
+
+#[test]
+fn insertions_follow_the_rule_of_the_last_newline(rt: HostRuntime) -> Result<(), Fail> {
+    let alloc = rt.alloc();
+    let rows = [
+        make_row("ab\n", 1, "x", "axb\n", (0, 2), (0, 3)),
+        make_row("ab\n", 0, "x", "xab\n", (0, 1), (0, 3)),
+        make_row("ab\n", 2, "é", "abé\n", (0, 3), (0, 3)),
+        make_row("ab\n", 3, "x", "ab\nx\n", (2, 0), (1, 1)),
+        make_row("ab\n", 3, "x\n", "ab\nx\n", (2, 0), (1, 1)),
+        make_row("ab\n", 3, "", "ab\n", (1, 0), (0, 2)),
+        make_row("ab\n", 1, "", "ab\n", (0, 1), (0, 2)),
+        make_row("ab\ncd\n", 1, "x\ny\nz", "ax\ny\nzb\ncd\n", (2, 1), (3, 2)),
+        make_row("ab\ncd\n", 3, "\n", "ab\n\ncd\n", (2, 0), (2, 2)),
+        make_row("ab\ncd\n", 5, "x\n", "ab\ncdx\n\n", (2, 0), (2, 0)),
+    ];
+    for row in &rows {
+        let mut text = lines(alloc, row.before)?;
+        let put = Chars::from_str(alloc, row.put)?;
+        assert!(rt; row.at <= text.len());
+        let at = text.coord_of(row.at);
+        let shift = text.insert(alloc, at, put.as_slice())?;
+        assert_eq!(rt; whole(alloc, &text)?.as_str(), row.after);
+        assert!(rt; shift.insert);
+        assert_eq!(rt; shift.begin, at);
+        assert_eq!(rt; shift.end, row.end);
+        assert_eq!(rt; shift.last, row.last);
+        assert_eq!(rt; text.last_place(), row.last);
+    }
+    Ok(())
+}
+
+#[test]
+fn steps_go_over_lines(rt: HostRuntime) -> Result<(), Fail> {
+    let text = lines(rt.alloc(), "ab\n\nc\n")?;
+    assert_eq!(rt; text.len(), 6);
+    assert_eq!(rt; text.line_count(), 3);
+    let places = [
+        coord(0, 0),
+        coord(0, 1),
+        coord(0, 2),
+        coord(1, 0),
+        coord(2, 0),
+        coord(2, 1),
+    ];
+    for (i, place) in places.iter().enumerate() {
+        assert!(rt; i < text.len());
+        let at = text.coord_of(i);
+        assert_eq!(rt; at, *place);
+        assert_eq!(rt; text.next(at), places.get(i + 1).copied());
+        if i > 0 {
+            assert_eq!(rt; text.prev(at), places.get(i - 1).copied());
+        }
+    }
+    let first = text.coord_of(0);
+    assert_eq!(rt; text.prev(first), None);
+    assert_eq!(rt; text.char_at(first), 'a');
+    assert_eq!(rt; text.line(1), ['\n'].as_slice());
+    Ok(())
+}
+
+#[test]
+fn offsets_and_coordinates_lead_to_each_other(rt: HostRuntime) -> Result<(), Fail> {
+    let text = lines(rt.alloc(), "ab\ncd\n")?;
+    assert_eq!(rt; text.len(), 6);
+    assert_eq!(rt; text.coord_of(4), coord(1, 1));
+    assert_eq!(rt; text.coord_of(6), coord(2, 0));
+    let at = text.coord_of(4);
+    assert_eq!(rt; text.offset_of(at), 4);
+    Ok(())
+}
+
+#[test]
+fn a_slice_goes_over_lines(rt: HostRuntime) -> Result<(), Fail> {
+    let alloc = rt.alloc();
+    let text = lines(alloc, "añb\nc\nde\n")?;
+    assert_eq!(rt; text.len(), 9);
+    let rows = [
+        (1, 7, "ñb\nc\nd"),
+        (0, 9, "añb\nc\nde\n"),
+        (2, 2, ""),
+        (9, 9, ""),
+        (4, 5, "c"),
+    ];
+    for (from, to, expected) in &rows {
+        assert!(rt; *from <= *to);
+        assert!(rt; *to <= text.len());
+        let begin = text.coord_of(*from);
+        let end = text.coord_of(*to);
+        let slice = text.slice(alloc, begin, end)?;
+        assert_eq!(rt; slice.as_str(), *expected);
+    }
+    Ok(())
+}
