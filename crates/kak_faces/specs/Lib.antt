@@ -1,4 +1,5 @@
 pub mod Colours
 pub mod Faces
 pub mod Standard
+pub mod Same
 pub mod Examples

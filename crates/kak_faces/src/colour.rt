@@ -50,11 +50,55 @@ impl NamedColour {
     }
 }
 
+impl NamedColour {
+    ghost use Rattle.kak_faces.specs.Same.{palette_place};
+
+    /// The place of the colour in the palette, from 0.
+    pub fn palette_place(self) -> u8
+        ensures { result ≡ palette_place self }
+    {
+        match self {
+            NamedColour::Default => 0,
+            NamedColour::Black => 1,
+            NamedColour::Red => 2,
+            NamedColour::Green => 3,
+            NamedColour::Yellow => 4,
+            NamedColour::Blue => 5,
+            NamedColour::Magenta => 6,
+            NamedColour::Cyan => 7,
+            NamedColour::White => 8,
+            NamedColour::BrightBlack => 9,
+            NamedColour::BrightRed => 10,
+            NamedColour::BrightGreen => 11,
+            NamedColour::BrightYellow => 12,
+            NamedColour::BrightBlue => 13,
+            NamedColour::BrightMagenta => 14,
+            NamedColour::BrightCyan => 15,
+            NamedColour::BrightWhite => 16,
+        }
+    }
+}
+
 /// A colour: one with a name, or the amounts of red, green and blue, each from 0 to 255.
 #[derive(Clone, Copy, PartialEq, Eq, Debug)]
 pub enum Colour {
     Named(NamedColour),
     Rgb(u8, u8, u8),
+}
+
+impl Colour {
+    ghost use Rattle.kak_faces.specs.Same.{same_colour};
+
+    /// Whether this colour and another are the same.
+    pub fn is_same(self, other: Colour) -> bool
+        ensures { result ≡ same_colour self other }
+    {
+        match (self, other) {
+            (Colour::Named(a), Colour::Named(b)) => a.palette_place() == b.palette_place(),
+            (Colour::Rgb(r, g, b), Colour::Rgb(x, y, z)) => r == x && g == y && b == z,
+            _ => false,
+        }
+    }
 }
 
 /// The attributes of a face. The last three say that a colour or the attributes stay as they are
@@ -101,5 +145,24 @@ impl Attributes {
             final_bg: self.final_bg | other.final_bg,
             final_attr: self.final_attr | other.final_attr,
         }
+    }
+}
+
+impl Attributes {
+    ghost use Rattle.kak_faces.specs.Same.{same_attributes};
+
+    /// Whether these are the same attributes as others.
+    pub fn is_same(self, other: Attributes) -> bool
+        ensures { result ≡ same_attributes self other }
+    {
+        (self.underline == other.underline)
+            & (self.reverse == other.reverse)
+            & (self.bold == other.bold)
+            & (self.blink == other.blink)
+            & (self.dim == other.dim)
+            & (self.italic == other.italic)
+            & (self.final_fg == other.final_fg)
+            & (self.final_bg == other.final_bg)
+            & (self.final_attr == other.final_attr)
     }
 }

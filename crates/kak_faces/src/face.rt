@@ -23,6 +23,20 @@ impl Face {
     };
 }
 
+impl Face {
+    ghost use Rattle.kak_faces.specs.Same.{same_face};
+
+    /// Whether this face and another are the same.
+    pub fn is_same(self, other: Face) -> bool
+        ensures { result ≡ same_face self other }
+    {
+        self.fg.is_same(other.fg)
+            && self.bg.is_same(other.bg)
+            && self.underline.is_same(other.underline)
+            && self.attributes.is_same(other.attributes)
+    }
+}
+
 // The colour that is seen where `over` lies over `base`, each with the word whether it is final.
 fn merge_colour(base: Colour, base_final: bool, over: Colour, over_final: bool) -> Colour
     ensures { result ≡ merged_colour base base_final over over_final }

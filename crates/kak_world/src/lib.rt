@@ -1,13 +1,13 @@
-// A library with one function.
+//! The shared state of a session: the text, and the clients that edit it. Contracts see it as the flat world.
 #![tactic(auto)]
 
-ghost use Rattle.std.specs.Prelude.{◌≡◌};
-ghost use Rattle.kak_world.specs.Echo.{echo_of};
+pub mod ask;
+pub mod client;
+pub mod edits;
+pub mod own;
+pub mod state;
+pub mod world;
 
-// The `ensures` clause is the contract: what `echo` returns is `echo_of` of its argument, a definition
-// in `specs/Echo.antt`, which a caller's clause can cite too.
-pub fn echo(x: usize) -> usize
-    ensures { result ≡ echo_of x }
-{
-    x
-}
+pub use ask::{Ask, EditError};
+pub use state::{Mode, Status};
+pub use world::World;

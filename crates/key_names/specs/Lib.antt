@@ -3,3 +3,4 @@ pub mod Reading
 pub mod FirstKey
 pub mod Printing
 pub mod Examples
+pub mod Modified

@@ -32,6 +32,17 @@ pub struct Key {
     pub base: Base,
 }
 
+impl Key {
+    ghost use Rattle.key_names.specs.Modified.{is_modified};
+
+    /// Whether a modifier is held with the key.
+    pub fn is_modified(self) -> bool
+        ensures { result ≡ is_modified self }
+    {
+        self.control || self.alt || self.shift
+    }
+}
+
 /// Keys in a row. Contracts see the list of them.
 #[derive(Drop, Debug)]
 pub struct Keys {

@@ -1,1 +1,3 @@
 pub mod CarryLemmas
+pub mod SmallLemmas
+pub mod BothLemmas

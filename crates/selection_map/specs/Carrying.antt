@@ -5,6 +5,9 @@ use Rattle.text_model.specs.declared.coords.Coord.{Coord}
 use Rattle.text_model.specs.declared.coords.Shift.{Shift}
 use Rattle.text_model.specs.Texts.{IsText, offset, IsPlace}
 use Rattle.text_model.specs.Changes.{Move, IsShift}
+use Rattle.list_model.specs.Settling.{carried}
+use Rattle.selection_set.specs.declared.sel.Sel.{Sel}
+use Rattle.selection_set.specs.Inside.{range_of, IsInside}
 use Rattle.text_model.specs.Mapping.{shifted}
 
 -- a coordinate within what a text may have
@@ -22,3 +25,15 @@ pub record IsStep (old new : List ℕ) (shift : Shift) (m : Move) : Type 0 where
 pub record Carries (old new : List ℕ) (m : Move) (at to : Coord) : Type 0 where
   pub is_place : IsPlace new to
   pub goes : offset new to ≡ shifted m (offset old at)
+
+-- the coordinates of a selection and of a shift, within what a text may have
+pub record AreSmall (sel : Sel) (shift : Shift) : Type 0 where
+  pub low : IsSmall sel.low
+  pub high : IsSmall sel.high
+  pub begin : IsSmall shift.begin
+  pub «end» : IsSmall shift.end
+
+-- a selection of the old text has become that one of the new one: both ends went, flag and target stayed
+pub record CarriesBoth (old new : List ℕ) (m : Move) (sel to : Sel) : Type 0 where
+  pub inside : IsInside new to
+  pub goes : range_of new to ≡ carried (shifted m) (range_of old sel)

@@ -1,12 +1,14 @@
-//! One place through one change.
+//! Places and selections through one change.
 
 ghost use Rattle.std.specs.Prelude.{◌≡◌, ℕ, List, true, if◌then◌else◌};
 ghost use Rattle.text_model.specs.Coords.{is_at_most};
 ghost use Rattle.text_model.specs.Texts.{IsPlace};
 ghost use Rattle.text_model.specs.Changes.{Move};
-ghost use Rattle.selection_map.specs.Carrying.{IsSmall, IsStep, Carries};
+ghost use Rattle.selection_map.specs.Carrying.{IsSmall, IsStep, Carries, AreSmall, CarriesBoth};
+ghost use Rattle.selection_set.specs.Inside.{IsInside};
 ghost use Rattle.selection_map.specs.Rebasing.{rebased, mapped, earlier};
 
+use selection_set::Sel;
 use text_model::{Coord, Shift};
 
 // The coordinate that lies as far behind `to` as `at` lies behind `from`.
@@ -65,4 +67,18 @@ pub fn map_one(at: Coord, shift: &Shift) -> Coord
     ensures carries { (old new : List ℕ) (m : Move) → IsStep old new shift.now m → IsPlace old at → Carries old new m at result }
 {
     map_coord(at, shift)
+}
+
+/// Where a selection of a text goes when the text is changed: both of its ends go as `map_one` says, and its flag and
+/// its target stay.
+pub fn map_sel(sel: Sel, shift: &Shift) -> Sel
+    requires { AreSmall sel shift.now }
+    ensures carries { (old new : List ℕ) (m : Move) → IsStep old new shift.now m → IsInside old sel → CarriesBoth old new m sel result }
+{
+    Sel {
+        low: map_one(sel.low, shift),
+        high: map_one(sel.high, shift),
+        turned: sel.turned,
+        target: sel.target,
+    }
 }

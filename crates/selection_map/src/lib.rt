@@ -3,4 +3,4 @@
 
 pub mod carrying;
 
-pub use carrying::map_one;
+pub use carrying::{map_one, map_sel};

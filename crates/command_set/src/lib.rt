@@ -1,0 +1,7 @@
+//! The commands: one row for each.
+#![tactic(auto)]
+
+pub mod commands;
+pub mod laws;
+
+pub use commands::command;

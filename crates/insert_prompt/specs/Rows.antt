@@ -1,0 +1,62 @@
+-- The rows of insert mode and of prompts: what each key does.
+use Rattle.std.specs.Prelude.{ℕ, ◌+◌, ◌*◌, Bool, ◌&&◌, nat_lt, nat_le, if◌then◌else◌, List, [], ◌∷◌, ◌++◌, length}
+use Rattle.key_names.specs.declared.key.Key.{Key}
+use Rattle.key_names.specs.declared.key.Base.{Base}
+use Rattle.key_names.specs.declared.key.Base.TheVariants.{Char, Ret, Esc}
+use Rattle.key_names.specs.Modified.{is_modified}
+use Rattle.text_model.specs.declared.TheConstants.{MAX_CHARS}
+use Rattle.kak_world.specs.declared.ask.Ask.TheVariants.{Commands}
+use Rattle.kak_world.specs.declared.ask.EditError.TheVariants.{TextFull}
+use Rattle.kak_world.specs.declared.state.Mode.TheVariants.{Normal}
+use Rattle.kak_world.specs.Flat.{Flat, text_of, sels_of, prompt_of, with_mode, with_prompt}
+use Rattle.kak_world.specs.Changing.{put_before_cursors}
+use Rattle.kak_world.specs.Rows.{RowEnd, Asks, Fails, error_text, does}
+
+-- a character that may be typed: printable ASCII
+abbrev pub is_printable : ℕ → Bool
+is_printable c = nat_le 32 c && nat_le c 126
+
+-- whether a text has no room for characters before each cursor
+abbrev pub is_full : List ℕ → ℕ → Flat → Bool
+is_full s who flat = nat_lt MAX_CHARS (length (text_of who flat) + length (sels_of who flat).list * length s)
+
+-- characters go in before each cursor
+abbrev pub typed : List ℕ → ℕ → Flat → RowEnd
+typed s who flat =
+    if is_full s who flat
+    then record { world = flat; row = Fails (error_text TextFull) }
+    else does (put_before_cursors s (sels_of who flat) flat)
+
+abbrev pub insert_character : ℕ → ℕ → Flat → RowEnd
+insert_character c who flat = if is_printable c then typed (c ∷ []) who flat else does flat
+
+-- the row of a key without modifiers in insert mode
+abbrev pub insert_base : Base → ℕ → Flat → RowEnd
+insert_base (Char c) who flat = insert_character c who flat
+insert_base Ret who flat = typed (10 ∷ []) who flat
+insert_base Esc who flat = does (with_mode who Normal flat)
+insert_base _ who flat = does flat
+
+-- the row of a key in insert mode; a key without a row does nothing
+unfoldable pub row_insert : Key → ℕ → Flat → RowEnd
+row_insert key who flat = if is_modified key then does flat else insert_base key.base who flat
+
+-- a character goes in at the end of the prompt
+abbrev pub prompt_character : ℕ → ℕ → Flat → RowEnd
+prompt_character c who flat =
+    if is_printable c then does (with_prompt who (prompt_of who flat ++ c ∷ []) flat) else does flat
+
+-- the prompt is left, and is empty
+abbrev pub leave_prompt : ℕ → Flat → Flat
+leave_prompt who flat = with_mode who Normal (with_prompt who [] flat)
+
+-- the row of a key without modifiers in a prompt: what was typed is run as commands, or left
+abbrev pub prompt_base : Base → ℕ → Flat → RowEnd
+prompt_base (Char c) who flat = prompt_character c who flat
+prompt_base Ret who flat = record { world = leave_prompt who flat; row = Asks (Commands (prompt_of who flat)) }
+prompt_base Esc who flat = does (leave_prompt who flat)
+prompt_base _ who flat = does flat
+
+-- the row of a key in a prompt; a key without a row does nothing
+unfoldable pub row_prompt : Key → ℕ → Flat → RowEnd
+row_prompt key who flat = if is_modified key then does flat else prompt_base key.base who flat

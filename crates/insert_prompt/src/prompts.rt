@@ -1,0 +1,66 @@
+//! The rows of prompts.
+
+ghost use Rattle.std.specs.Prelude.{◌≡◌, true, OnOk};
+ghost use Rattle.kak_world.specs.Flat.{is_joined, prompt_of};
+ghost use Rattle.kak_world.specs.Rows.{Gives, does};
+ghost use Rattle.insert_prompt.specs.Rows.{is_printable, prompt_character, leave_prompt, row_prompt};
+
+use kak_text::Chars;
+use kak_world::{Ask, EditError, Mode, World};
+use key_names::{Base, Key};
+use std::alloc::{AllocError, Global};
+
+/// Whether a character may be typed: printable ASCII.
+pub fn is_printable(c: char) -> bool
+    ensures { result ≡ is_printable c }
+{
+    (' '..='~').contains(&c)
+}
+
+// Leaves the prompt, and gives what was typed.
+fn leave(alloc: Global, world: &mut World, who: u32) -> Chars
+    requires { is_joined who world.old.flat ≡ true }
+    ensures typed { result ≡ prompt_of who world.old.flat }
+    ensures left { world.new.flat ≡ leave_prompt who world.old.flat }
+    ensures stays { is_joined who world.new.flat ≡ true }
+{
+    let typed = world.take_prompt(alloc, who);
+    world.set_mode(who, Mode::Normal);
+    typed
+}
+
+// Types a character into the prompt.
+fn type_in(world: &mut World, who: u32, c: char) -> Result<(), AllocError>
+    requires { is_joined who world.old.flat ≡ true }
+    ensures row { OnOk result (prompt_character c who world.old.flat ≡ does world.new.flat) }
+    ensures stays { is_joined who world.new.flat ≡ true }
+{
+    if !is_printable(c) {
+        return Ok(());
+    }
+    world.push_prompt(who, c)
+}
+
+/// Runs one key of a prompt. An `Err` comes only for want of memory.
+#[tactic(auto, unfolding(crate::specs::Rows::row_prompt))]
+pub fn prompt_key(alloc: Global, world: &mut World, who: u32, key: Key) -> Result<Ask, EditError>
+    requires { is_joined who world.old.flat ≡ true }
+    ensures row { Gives result world.new.flat (row_prompt key who world.old.flat) }
+    ensures stays { is_joined who world.new.flat ≡ true }
+{
+    if key.is_modified() {
+        return Ok(Ask::Nothing);
+    }
+    match key.base {
+        Base::Char(c) => {
+            type_in(world, who, c)?;
+            Ok(Ask::Nothing)
+        }
+        Base::Ret => Ok(Ask::Commands(leave(alloc, world, who))),
+        Base::Esc => {
+            let _typed = leave(alloc, world, who);
+            Ok(Ask::Nothing)
+        }
+        _ => Ok(Ask::Nothing),
+    }
+}

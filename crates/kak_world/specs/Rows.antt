@@ -1,0 +1,37 @@
+-- What a row, which is one key or one command, gives: the new world, and what comes next.
+use Rattle.std.specs.Prelude.{◌≡◌, ℕ, List, [], ◌++◌, codes}
+use Rattle.std.specs.declared.result.Result.{Result}
+use Rattle.std.specs.Prelude.{Ok, Err}
+use Rattle.kak_world.specs.declared.ask.Ask.{Ask}
+use Rattle.kak_world.specs.declared.ask.Ask.TheVariants.{Nothing}
+use Rattle.kak_world.specs.declared.ask.EditError.{EditError}
+use Rattle.kak_world.specs.declared.ask.EditError.TheVariants.{TextFull, NoSuchCommand, NoMemory}
+use Rattle.kak_world.specs.Flat.{Flat}
+
+-- What comes after a row: it asks for something, it fails with a status text, or the whole step is given up.
+pub data Row : Type 0 where
+  Asks : Ask → Row
+  Fails : List ℕ → Row
+  GivesUp : Row
+
+-- the world after a row, and what comes next
+pub record RowEnd : Type 0 where
+  pub world : Flat
+  pub row : Row
+
+-- a row that did something, and asks for nothing more
+abbrev pub does : Flat → RowEnd
+does flat = record { world = flat; row = Asks Nothing }
+
+-- the status text of a refusal
+abbrev pub error_text : EditError → List ℕ
+error_text TextFull = codes "text is full"
+error_text (NoSuchCommand name) = codes "no such command: " ++ name
+error_text NoMemory = []
+
+-- what a row's code answered, over the world that it left, is what the row gives, unless memory was wanting
+abbrev pub Gives : Result Ask EditError → Flat → RowEnd → Type 0
+Gives (Ok ask) new end = end ≡ record { world = new; row = Asks ask }
+Gives (Err NoMemory) new end = Unit {0}
+Gives (Err TextFull) new end = end ≡ record { world = new; row = Fails (error_text TextFull) }
+Gives (Err (NoSuchCommand name)) new end = end ≡ record { world = new; row = Fails (error_text (NoSuchCommand name)) }

@@ -1,0 +1,2 @@
+pub mod VerticalLemmas
+pub mod StepLemmas
