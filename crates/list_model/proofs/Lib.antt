@@ -1,0 +1,6 @@
+pub mod SweepLemmas
+pub mod ListLemmas
+pub mod SettledLemmas
+pub mod SortLemmas
+pub mod UniqueLemmas
+pub mod MoveLemmas
