@@ -1,0 +1,43 @@
+-- A sum, what it answers, and what is due to those who play on it.
+use Rattle.std.specs.Prelude.{◌≡◌, ℕ, ◌==◌, nat_lt, nat_le, is_some, List, [], ◌∷◌, ◌++◌, length, map, take, sum_by, Option, Some, Result, Ok, Err, if◌then◌else◌}
+use Rattle.session_desk.specs.Histories.{own, first_mark}
+use Rattle.desk_trials.specs.declared.tally.Addition.{Addition}
+use Rattle.desk_trials.specs.declared.tally.Refusal.{Refusal}
+use Rattle.desk_trials.specs.declared.tally.Refusal.TheVariants.{Zero, Stuck, NoMemory}
+
+-- what was added so far, and the mark
+pub record TallyView : Type 0 where
+  pub additions : List Addition
+  pub mark : Option ℕ
+
+abbrev pub addition : ℕ → ℕ → Addition
+addition who amount = record { who = who; amount = amount }
+
+abbrev pub who_of : Addition → ℕ
+who_of a = a.who
+
+abbrev pub sum_of : List Addition → ℕ
+sum_of additions = sum_by (λ a. a.amount) additions
+
+-- the answer that is due to a move, the first cause first: a mark, a move of 0, a million additions, a move above a thousand
+abbrev pub answer_of : List Addition → Option ℕ → ℕ → Result ℕ Refusal
+answer_of additions mark amount =
+    if is_some mark then Err Stuck
+    else (if amount == 0 then Err Zero
+    else (if nat_le 1000000 (length additions) then Err Zero
+    else (if nat_lt 1000 amount then Err Stuck
+    else Ok (sum_of additions))))
+
+-- what a move by who answers and leaves. For want of memory it leaves all as it was.
+abbrev pub IsAnswer : List Addition → Option ℕ → ℕ → ℕ → Result ℕ Refusal → List Addition → Option ℕ → Type 0
+IsAnswer before mark who amount (Ok sum) after mark' =
+    (answer_of before mark amount ≡ Ok sum) × (after ≡ before ++ addition who amount ∷ []) × (mark' ≡ mark)
+IsAnswer before mark who amount (Err Zero) after mark' =
+    (answer_of before mark amount ≡ Err Zero) × (after ≡ before) × (mark' ≡ mark)
+IsAnswer before mark who amount (Err Stuck) after mark' =
+    (answer_of before mark amount ≡ Err Stuck) × (after ≡ before) × (mark' ≡ first_mark mark (Some (length before)))
+IsAnswer before mark who amount (Err NoMemory) after mark' = (after ≡ before) × (mark' ≡ mark)
+
+-- under this number stand just the first so many of the amounts, in order
+abbrev pub HasPlayed : List Addition → ℕ → List ℕ → ℕ → Type 0
+HasPlayed additions who amounts played = own who_of who additions ≡ map (addition who) (take played amounts)

@@ -1,0 +1,4 @@
+pub mod Histories
+pub mod Tokens
+pub mod Rule
+pub mod Examples
