@@ -1,9 +1,11 @@
 -- Colours, their names, and sets of attributes.
-use Rattle.std.specs.Prelude.{ℕ, List, Bool, true, false, ◌||◌, codes}
+use Rattle.std.specs.Prelude.{ℕ, List, [], ◌∷◌, Bool, true, false, ◌||◌, codes}
 use Rattle.kak_faces.specs.declared.colour.NamedColour.{NamedColour}
 use Rattle.kak_faces.specs.declared.colour.NamedColour.TheVariants as named
 use Rattle.kak_faces.specs.declared.colour.Colour.{Colour}
 use Rattle.kak_faces.specs.declared.colour.Colour.TheVariants.{Named, Rgb}
+use Rattle.kak_faces.specs.declared.colour.Attribute.{Attribute}
+use Rattle.kak_faces.specs.declared.colour.Attribute.TheVariants as attribute
 use Rattle.kak_faces.specs.declared.colour.Attributes.{Attributes}
 
 -- the name of a colour
@@ -25,6 +27,36 @@ colour_name named.BrightBlue = codes "bright-blue"
 colour_name named.BrightMagenta = codes "bright-magenta"
 colour_name named.BrightCyan = codes "bright-cyan"
 colour_name named.BrightWhite = codes "bright-white"
+
+-- the name of an attribute
+abbrev pub attribute_name : Attribute → List ℕ
+attribute_name attribute.Underline = codes "underline"
+attribute_name attribute.Reverse = codes "reverse"
+attribute_name attribute.Bold = codes "bold"
+attribute_name attribute.Blink = codes "blink"
+attribute_name attribute.Dim = codes "dim"
+attribute_name attribute.Italic = codes "italic"
+attribute_name attribute.FinalFg = codes "final_fg"
+attribute_name attribute.FinalBg = codes "final_bg"
+attribute_name attribute.FinalAttr = codes "final_attr"
+
+-- all attributes, in the order in which they are written
+abbrev pub all_attributes : List Attribute
+all_attributes =
+    attribute.Underline ∷ attribute.Reverse ∷ attribute.Bold ∷ attribute.Blink ∷ attribute.Dim ∷ attribute.Italic
+    ∷ attribute.FinalFg ∷ attribute.FinalBg ∷ attribute.FinalAttr ∷ []
+
+-- whether an attribute is among attributes
+abbrev pub has_attribute : Attributes → Attribute → Bool
+has_attribute a attribute.Underline = a.underline
+has_attribute a attribute.Reverse = a.reverse
+has_attribute a attribute.Bold = a.bold
+has_attribute a attribute.Blink = a.blink
+has_attribute a attribute.Dim = a.dim
+has_attribute a attribute.Italic = a.italic
+has_attribute a attribute.FinalFg = a.final_fg
+has_attribute a attribute.FinalBg = a.final_bg
+has_attribute a attribute.FinalAttr = a.final_attr
 
 -- the colour that leaves the choice to what lies below
 abbrev pub default_colour : Colour

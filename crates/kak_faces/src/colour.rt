@@ -1,5 +1,5 @@
 ghost use Rattle.std.specs.Prelude.{◌≡◌};
-ghost use Rattle.kak_faces.specs.Colours.{colour_name, united};
+ghost use Rattle.kak_faces.specs.Colours.{colour_name, attribute_name, has_attribute, united};
 
 /// A colour of the terminal's palette, or `Default`, which leaves the choice to the face below it.
 #[derive(Clone, Copy, PartialEq, Eq, Debug)]
@@ -101,6 +101,52 @@ impl Colour {
     }
 }
 
+/// One attribute of a face.
+#[derive(Clone, Copy, PartialEq, Eq, Debug)]
+pub enum Attribute {
+    Underline,
+    Reverse,
+    Bold,
+    Blink,
+    Dim,
+    Italic,
+    FinalFg,
+    FinalBg,
+    FinalAttr,
+}
+
+impl Attribute {
+    /// All attributes, in the order in which they are written.
+    pub const ALL: [Attribute; 9] = [
+        Attribute::Underline,
+        Attribute::Reverse,
+        Attribute::Bold,
+        Attribute::Blink,
+        Attribute::Dim,
+        Attribute::Italic,
+        Attribute::FinalFg,
+        Attribute::FinalBg,
+        Attribute::FinalAttr,
+    ];
+
+    /// The attribute's name, as drawings have it.
+    pub fn name(self) -> &'static str
+        ensures { result.now ≡ attribute_name self }
+    {
+        match self {
+            Attribute::Underline => "underline",
+            Attribute::Reverse => "reverse",
+            Attribute::Bold => "bold",
+            Attribute::Blink => "blink",
+            Attribute::Dim => "dim",
+            Attribute::Italic => "italic",
+            Attribute::FinalFg => "final_fg",
+            Attribute::FinalBg => "final_bg",
+            Attribute::FinalAttr => "final_attr",
+        }
+    }
+}
+
 /// The attributes of a face. The last three say that a colour or the attributes stay as they are
 /// where another face is merged with this one.
 #[derive(Clone, Copy, PartialEq, Eq, Debug)]
@@ -129,6 +175,23 @@ impl Attributes {
         final_bg: false,
         final_attr: false,
     };
+
+    /// Whether this attribute is among them.
+    pub fn has(self, attribute: Attribute) -> bool
+        ensures { result ≡ has_attribute self attribute }
+    {
+        match attribute {
+            Attribute::Underline => self.underline,
+            Attribute::Reverse => self.reverse,
+            Attribute::Bold => self.bold,
+            Attribute::Blink => self.blink,
+            Attribute::Dim => self.dim,
+            Attribute::Italic => self.italic,
+            Attribute::FinalFg => self.final_fg,
+            Attribute::FinalBg => self.final_bg,
+            Attribute::FinalAttr => self.final_attr,
+        }
+    }
 
     /// The attributes that one or the other has.
     pub fn union(self, other: Attributes) -> Attributes

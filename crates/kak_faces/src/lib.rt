@@ -7,7 +7,7 @@ mod face;
 mod laws;
 mod standard;
 
-pub use colour::{Attributes, Colour, NamedColour};
+pub use colour::{Attribute, Attributes, Colour, NamedColour};
 pub use face::{Face, merge};
 pub use laws::{merge_laws, worked_examples};
 pub use standard::StandardFace;
