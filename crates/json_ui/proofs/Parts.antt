@@ -1,5 +1,5 @@
 -- Texts as the pieces that are written for them. First over any lists, then at the texts themselves.
-use Rattle.std.proofs.Common.{◌≡◌, ℕ, List, [], ◌∷◌, ◌++◌, map, refl, sym, ap, ◌∙◌, append_assoc, append-nil}
+use Rattle.std.proofs.Common.{◌≡◌, ℕ, List, [], ◌∷◌, ◌++◌, refl, sym, ap, ◌∙◌, append_assoc, append-nil}
 use Rattle.std.specs.Prelude.{codes, decimal}
 use Rattle.kak_faces.specs.declared.face.Face.{Face}
 use Rattle.json_ui.specs.declared.drawing.Atom.{Atom}
@@ -9,7 +9,7 @@ use Rattle.json_ui.specs.declared.drawing.InfoBox.{InfoBox}
 use Rattle.json_ui.specs.declared.drawing.Drawing.{Drawing}
 use Rattle.json_ui.specs.declared.request.Refusal.{Refusal}
 use Rattle.json_ui.specs.declared.request.Refusal.TheVariants.{TooLong, Parse, Invalid, Method, Params, Key}
-use Rattle.json_ui.specs.JsonText.{separated, after_commas, all_escaped, string_text, plain_string, array_text, object_text, member_text}
+use Rattle.json_ui.specs.JsonText.{separated, string_text, plain_string, array_text, object_text, member_text}
 use Rattle.json_ui.specs.Drawings.{colour_text, attribute_texts, face_text, atom_text, line_text, lines_text, request_line, draw_lines, status_lines, cursor_lines, cursor_word, place_text, options_lines, info_lines, refresh_lines, drawing_bytes, box_lines}
 use Rattle.json_ui.specs.Refusals.{refusal_code, refusal_message, refusal_bytes}
 

@@ -1,12 +1,11 @@
 -- The bytes of texts, drawings and refusals.
-use Rattle.std.specs.Prelude.{◌≡◌, ℕ, List, [], ◌∷◌, ◌++◌, true, false, codes}
-use Rattle.kak_faces.specs.declared.colour.NamedColour.TheVariants as named
-use Rattle.kak_faces.specs.declared.colour.Colour.TheVariants.{Named, Rgb}
+use Rattle.std.specs.Prelude.{◌≡◌, [], ◌∷◌, ◌++◌, true, false, codes}
+use Rattle.kak_faces.specs.declared.colour.Colour.TheVariants.{Rgb}
 use Rattle.kak_faces.specs.declared.standard.StandardFace.TheVariants as name
 use Rattle.kak_faces.specs.Standard.{no_attributes, default_face, standard_face}
 use Rattle.json_ui.specs.declared.drawing.Drawing.{Drawing}
 use Rattle.json_ui.specs.declared.drawing.Info.TheVariants.{Keep, Hide, Show}
-use Rattle.json_ui.specs.declared.request.Refusal.TheVariants.{TooLong, Parse, Invalid, Method, Params, Key}
+use Rattle.json_ui.specs.declared.request.Refusal.TheVariants.{TooLong, Parse, Method, Key}
 use Rattle.json_ui.specs.JsonText.{string_text}
 use Rattle.json_ui.specs.Drawings.{colour_text, face_text, info_lines, drawing_bytes}
 use Rattle.json_ui.specs.Refusals.{refusal_bytes}

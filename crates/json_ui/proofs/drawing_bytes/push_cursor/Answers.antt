@@ -1,4 +1,4 @@
-use Rattle.std.proofs.Common.{◌++◌, ◌∷◌, [], ap, ◌∙◌}
+use Rattle.std.proofs.Common.{◌++◌, ap, ◌∙◌}
 use Rattle.std.specs.Prelude.{codes}
 use Rattle.json_ui.specs.Drawings.{cursor_word, place_text}
 use Rattle.json_ui.proofs.Bytes.{grows_then, written_four}

@@ -1,5 +1,5 @@
-use Rattle.std.proofs.Common.{◌++◌, ◌∷◌, [], ap, ◌∙◌}
-use Rattle.std.specs.Prelude.{codes, decimal}
+use Rattle.std.proofs.Common.{◌++◌, ◌∷◌, ap, ◌∙◌}
+use Rattle.std.specs.Prelude.{codes}
 use Rattle.json_ui.specs.Drawings.{face_text, lines_text}
 use Rattle.json_ui.proofs.Bytes.{grows_then, written_four}
 use Rattle.json_ui.proofs.Parts.{draw_lines-parts}

@@ -1,4 +1,4 @@
-use Rattle.std.proofs.Common.{◌≡◌, ℕ, ◌+◌, ◌==◌, List, ◌++◌, length, take, get_or, map, sym, ap, subst, ◌∙◌, true, false}
+use Rattle.std.proofs.Common.{◌≡◌, ℕ, ◌+◌, ◌==◌, List, ◌++◌, length, take, get_or, map, sym, ap, subst, ◌∙◌, true}
 use Rattle.std.specs.Prelude.{filter}
 use Rattle.kak_faces.specs.declared.colour.Attribute.{Attribute}
 use Rattle.kak_faces.specs.declared.colour.Attribute.TheVariants.{Underline}

@@ -1,4 +1,4 @@
-use Rattle.std.proofs.Common.{◌++◌, ◌∷◌, []}
+use Rattle.std.proofs.Common.{◌++◌}
 use Rattle.std.specs.Prelude.{codes}
 use Rattle.json_ui.specs.Drawings.{colour_text}
 use Rattle.json_ui.proofs.Bytes.{written_four}

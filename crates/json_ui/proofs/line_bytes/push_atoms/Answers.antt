@@ -1,4 +1,4 @@
-use Rattle.std.proofs.Common.{◌≡◌, ◌++◌, ◌+◌, ◌==◌, map, take}
+use Rattle.std.proofs.Common.{◌+◌, ◌==◌, map, take}
 use Rattle.json_ui.specs.JsonText.{separated, comma_unless}
 use Rattle.json_ui.specs.Drawings.{atom_text}
 use Rattle.json_ui.proofs.Bytes.{grows_then, written_part, rows-more}

@@ -1,4 +1,4 @@
-use Rattle.std.proofs.Common.{◌≡◌, ◌++◌, take, sym, ap, ◌∙◌}
+use Rattle.std.proofs.Common.{◌++◌, take, sym, ap, ◌∙◌}
 use Rattle.json_ui.specs.JsonText.{escaped, all_escaped}
 use Rattle.json_ui.proofs.Bytes.{grows_then, written_two, all_escaped-more}
 use Rattle.json_ui.proofs.text_bytes.push_characters.Goals as goal
