@@ -1,0 +1,61 @@
+use Rattle.std.proofs.Common.{◌≡◌, ℕ, List, refl, sym, ap, ap₂, ◌∙◌}
+use Rattle.std.specs.Prelude.{not, length}
+use Rattle.list_model.specs.Ranges.{Selected}
+use Rattle.selection_set.specs.Inside.{range_of}
+use Rattle.window_view.specs.Views.{view_of as window_seen}
+use Rattle.kak_faces.specs.declared.standard.StandardFace.TheVariants as name
+use Rattle.kak_faces.specs.Standard.{standard_face}
+use Rattle.json_ui.specs.declared.drawing.DrawnLine.{DrawnLine}
+use Rattle.kak_world.specs.Flat.{Flat, text_of, number_of, mode_of, sels_of, view_of, status_of, prompt_of, is_drawn}
+use Rattle.json_ui.specs.declared.drawing.Drawing.{Drawing}
+use Rattle.json_ui.specs.declared.drawing.Info.TheVariants.{Keep}
+use Rattle.draw_model.specs.Atoms.{Shown, shown_in, atoms_of}
+use Rattle.draw_model.specs.Drawings.{drawn_lines, status_line, mode_text, main_cursor, cursor_drawn, drawing_of}
+use Rattle.draw_model.specs.Painting.{one}
+use Rattle.draw_model.proofs.drawing.draw.Goals as goal
+
+-- a line of characters in their faces
+abbrev line_of : List Shown → DrawnLine
+line_of shown = record { atoms = atoms_of shown }
+
+-- drawings are equal when their parts are
+same_drawing : (a b : Drawing) → a.first ≡ b.first → a.lines ≡ b.lines → a.default_face ≡ b.default_face → a.padding_face ≡ b.padding_face
+    → a.status ≡ b.status → a.mode_line ≡ b.mode_line → a.status_face ≡ b.status_face → a.cursor ≡ b.cursor → a.info ≡ b.info → a ≡ b
+same_drawing a b first lines default_face padding_face status mode_line status_face cursor info = rw (first, lines, default_face, padding_face, status, mode_line, status_face, cursor, info) refl
+
+pub returns : goal.returns
+unfolding drawing_of
+returns c =
+    let who : ℕ = c.args.who in
+    let flat : Flat = c.args.world.now.flat in
+    let text : List ℕ = text_of who flat in
+    let sels : Selected = sels_of who flat in
+    let drawn : c.is_drawn.result ≡ is_drawn who flat = c.is_drawn.ensures in
+    let lines : c.in_ok-draw_lines.field-0 ≡ drawn_lines text sels (view_of who flat) =
+    c.in_ok-draw_lines.ensures
+    ∙ ap (λ t. drawn_lines t (one (range_of t c.sel-sel.result)) (window_seen c.window-window.result)) c.lines.ensures
+    ∙ ap₂ (λ s v. drawn_lines text s v) (sym c.sel-sel.ensures.sel) c.window-window.ensures in
+    let status : c.in_ok-draw_status.field-0 ≡ record { atoms = atoms_of (status_line (mode_of who flat) (status_of who flat) (prompt_of who flat)) } =
+    c.in_ok-draw_status.ensures
+    ∙ ap (λ m. line_of (status_line m c.status.result.now c.prompt-typed.result.now)) c.mode-mode.ensures
+    ∙ ap₂ (λ s t. line_of (status_line (mode_of who flat) s t)) c.status.ensures c.prompt-typed.ensures in
+    let mode : c.in_ok-draw_mode.field-0 ≡ line_of (shown_in (standard_face name.StatusLine) (mode_text (main_cursor text sels) (mode_of who flat) sels (number_of who flat))) =
+    c.in_ok-draw_mode.ensures sels (ap (λ (s : Selected). s.main) c.sel-sel.ensures.sel) (ap (λ (s : Selected). length s.list) c.sel-sel.ensures.sel)
+    ∙ ap₂ (λ a m. line_of (shown_in (standard_face name.StatusLine) (mode_text a m sels c.number.result))) c.cursor_at-at.ensures.value c.mode-mode.ensures
+    ∙ ap (λ n. line_of (shown_in (standard_face name.StatusLine) (mode_text (main_cursor text sels) (mode_of who flat) sels n))) c.number.ensures in
+    let cursor : c.in_ok-cursor_of.field-0 ≡ cursor_drawn (mode_of who flat) (main_cursor text sels) (view_of who flat) (prompt_of who flat) =
+    c.in_ok-cursor_of.ensures
+    ∙ ap₂ (λ m a. cursor_drawn m a (window_seen c.window-window.result) c.prompt-typed.result.now) c.mode-mode.ensures c.cursor_at-at.ensures.value
+    ∙ ap₂ (λ v t. cursor_drawn (mode_of who flat) (main_cursor text sels) v t) c.window-window.ensures c.prompt-typed.ensures in
+    let a : Drawing = record {
+      first = not c.is_drawn.result;
+      lines = c.in_ok-draw_lines.field-0;
+      default_face = c.face.result;
+      padding_face = c.face-2.result;
+      status = c.in_ok-draw_status.field-0;
+      mode_line = c.in_ok-draw_mode.field-0;
+      status_face = c.face-3.result;
+      cursor = c.in_ok-cursor_of.field-0;
+      info = Keep;
+    } in
+    same_drawing a (drawing_of who flat) (ap not drawn) lines c.face.ensures c.face-2.ensures status mode c.face-3.ensures cursor refl

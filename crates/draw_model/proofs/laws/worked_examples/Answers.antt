@@ -1,0 +1,32 @@
+use Rattle.std.proofs.Common.{◌≡◌, [], ◌∷◌, refl, arith}
+use Rattle.std.specs.Prelude.{decimal}
+use Rattle.std.proofs.lemmas.Fmt.{decimal_digit}
+use Rattle.draw_model.specs.Drawings.{drawing_of}
+use Rattle.draw_model.proofs.laws.worked_examples.Goals as goal
+
+pub returns : goal.returns
+unfolding drawing_of
+returns c =
+    let zero : decimal 0 ≡ 48 ∷ [] = decimal_digit 0 (omega arith) in
+    let one : decimal 1 ≡ 49 ∷ [] = decimal_digit 1 (omega arith) in
+    let two : decimal 2 ≡ 50 ∷ [] = decimal_digit 2 (omega arith) in
+    record {
+      opened_world = rw (one, zero) refl;
+      drawn_before = refl;
+      cursor_in_the_middle = refl;
+      turned_selection = refl;
+      two_selections = refl;
+      cut_at_both_sides = refl;
+      cut_whole = refl;
+      from_the_top = refl;
+      below_the_end = refl;
+      nothing_said = refl;
+      said = refl;
+      refused = refl;
+      prompt = refl;
+      empty_prompt = refl;
+      cursor_of_prompt = refl;
+      cursor_in_window = refl;
+      mode_of_second = rw (two) refl;
+      followed_world = refl;
+    }

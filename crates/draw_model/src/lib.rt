@@ -1,0 +1,17 @@
+//! What a client is shown of the world.
+#![tactic(auto)]
+
+mod atoms;
+mod drawing;
+mod laws;
+mod paint;
+mod parts;
+mod status;
+mod window_lines;
+
+pub use atoms::{push_run, push_shown};
+pub use drawing::{draw, follow_cursor};
+pub use laws::{atoms_are_runs, worked_examples};
+
+#[cfg(test)]
+mod tests;

@@ -1,0 +1,97 @@
+//! The status line and the mode line.
+
+ghost use Rattle.std.specs.Prelude.{◌≡◌, ℕ, length, codes, IfOk};
+ghost use Rattle.list_model.specs.Ranges.{Selected};
+ghost use Rattle.kak_faces.specs.declared.standard.StandardFace.TheVariants as name;
+ghost use Rattle.kak_faces.specs.Standard.{standard_face};
+ghost use Rattle.draw_model.specs.Atoms.{shown_in, atoms_of};
+ghost use Rattle.draw_model.specs.Drawings.{status_shown, prompt_shown, status_line, mode_name, mode_text};
+
+use crate::atoms::{push_run, push_shown};
+use json_ui::{Atoms, DrawnLine};
+use kak_faces::{Face, StandardFace};
+use kak_text::{Chars, Coord};
+use kak_world::{Mode, Status};
+use std::alloc::{AllocError, Global};
+
+// A line of characters in one face.
+fn run_line(alloc: Global, chars: &[char], face: Face) -> Result<DrawnLine, AllocError>
+    ensures { IfOk result (λ line. line ≡ record { atoms = atoms_of (shown_in face chars.now) }) }
+{
+    let mut atoms = Vec::new(alloc);
+    push_run(alloc, &mut atoms, chars, face)?;
+    Ok(DrawnLine {
+        atoms: Atoms::of_vec(atoms),
+    })
+}
+
+// The line of a prompt.
+fn prompt_line(alloc: Global, typed: &[char]) -> Result<DrawnLine, AllocError>
+    ensures { IfOk result (λ line. line ≡ record { atoms = atoms_of (prompt_shown typed.now) }) }
+{
+    let mut atoms = Vec::new(alloc);
+    push_shown(alloc, &mut atoms, ':', StandardFace::Prompt.face())?;
+    push_run(alloc, &mut atoms, typed, StandardFace::StatusLine.face())?;
+    push_shown(alloc, &mut atoms, ' ', StandardFace::StatusCursor.face())?;
+    Ok(DrawnLine {
+        atoms: Atoms::of_vec(atoms),
+    })
+}
+
+// What a command said, or why one was refused.
+fn said_line(alloc: Global, status: &Status) -> Result<DrawnLine, AllocError>
+    ensures { IfOk result (λ line. line ≡ record { atoms = atoms_of (status_shown status.now) }) }
+{
+    match status {
+        Status::Quiet => Ok(DrawnLine {
+            atoms: Atoms::new(alloc),
+        }),
+        Status::Said(text) => run_line(alloc, text.as_slice(), StandardFace::StatusLine.face()),
+        Status::Refused(text) => run_line(alloc, text.as_slice(), StandardFace::Error.face()),
+    }
+}
+
+/// Draws the status line: the prompt where the mode is one, else what a command said or why one was refused.
+pub fn draw_status(
+    alloc: Global,
+    mode: Mode,
+    status: &Status,
+    typed: &[char],
+) -> Result<DrawnLine, AllocError>
+    ensures { IfOk result (λ line. line ≡ record { atoms = atoms_of (status_line mode status.now typed.now) }) }
+{
+    match mode {
+        Mode::Prompt => prompt_line(alloc, typed),
+        Mode::Normal | Mode::Insert => said_line(alloc, status),
+    }
+}
+
+// The name of a mode.
+fn name_of(mode: Mode) -> &'static str
+    ensures { result.now ≡ mode_name mode }
+{
+    match mode {
+        Mode::Normal => "normal",
+        Mode::Insert => "insert",
+        Mode::Prompt => "prompt",
+    }
+}
+
+// The text of the mode line of one selection.
+fn mode_chars(alloc: Global, at: Coord, mode: Mode, number: u32) -> Result<Chars, AllocError>
+    ensures { IfOk result (λ text. (sels : Selected) → sels.main ≡ 0 → length sels.list ≡ 1 → text ≡ mode_text at mode sels number) }
+{
+    let line = u64::from(at.line) + 1;
+    let column = u64::from(at.column) + 1;
+    let name = name_of(mode);
+    let text = format!(in alloc; "*scratch* {line}:{column} {name} 1/1 - client{number}")?;
+    Chars::from_str(alloc, text.as_str())
+}
+
+/// Draws the mode line: the coordinate of the main cursor, the mode, and the number in the client's name.
+pub fn draw_mode(alloc: Global, at: Coord, mode: Mode, number: u32) -> Result<DrawnLine, AllocError>
+    ensures { IfOk result (λ line. (sels : Selected) → sels.main ≡ 0 → length sels.list ≡ 1 → line ≡ record { atoms = atoms_of (shown_in (standard_face name.StatusLine) (mode_text at mode sels number)) }) }
+{
+    let text = mode_chars(alloc, at, mode, number)?;
+    run_line(alloc, text.as_slice(), StandardFace::StatusLine.face())
+}
