@@ -1,0 +1,72 @@
+-- How parts of a step are put together from the calls that the code makes.
+use Rattle.std.proofs.Common.{◌≡◌, ℕ, suc, List, [], ◌∷◌, refl, sym, ap, ◌∙◌, arith}
+use Rattle.std.specs.Prelude.{Ok, Err, IfOk, IsErr, length, ◌<◌}
+use Rattle.std.specs.declared.result.Result.{Result}
+use Rattle.std.specs.declared.alloc.AllocError.{AllocError}
+use Rattle.kak_world.specs.declared.ask.Ask.{Ask}
+use Rattle.kak_world.specs.declared.ask.EditError.{EditError}
+use Rattle.kak_world.specs.declared.ask.EditError.TheVariants.{TextFull, NoSuchCommand, NoMemory}
+use Rattle.kak_world.specs.Flat.{Flat, with_units}
+use Rattle.kak_world.specs.Rows.{Asks, Fails, RowEnd, Gives, error_text}
+use Rattle.command_set.specs.Rows.{row_command}
+use Rattle.kak_engine.specs.declared.event.Answered.{Answered}
+use Rattle.kak_engine.specs.declared.doing.Ending.{Ending}
+use Rattle.kak_engine.specs.Doing.{End, Fine, Failed, GivenUp, Moment, Outcome, Part, ends, after, unit_of, with_unit, go_on, run_text, Do, budget_spent}
+use Rattle.kak_engine.specs.Seen.{Ends, end_seen, moment_of, top}
+use Rattle.kak_engine.proofs.DoingLemmas.{Do-body}
+
+-- a part that is another one
+pub ends-by : (r : Result Ending AllocError) (f g : Part) (old new : Flat) → ((m : Moment) → f m ≡ g m) → Ends r g old new → Ends r f old new
+ends-by (Err e) f g old new h k = tt
+ends-by (Ok e) f g old new h k = λ answers. h (moment_of answers old) ∙ k answers
+
+-- a part that is another one at the moment where it begins
+pub ends-at : (r : Result Ending AllocError) (f g : Part) (old new : Flat) → ((answers : List Answered) → f (moment_of answers old) ≡ g (moment_of answers old)) → Ends r g old new → Ends r f old new
+ends-at (Err e) f g old new h k = tt
+ends-at (Ok e) f g old new h k = λ answers. h answers ∙ k answers
+
+-- what is asked for is done behind a row that asks for it
+pub row-asks : (who : ℕ) (ask : Ask) (r : Result Ending AllocError) (now new : Flat) → Ends r (λ m. Do who top (Asks ask) m) now new
+    → (before : Flat) (end : RowEnd) → Gives (Ok ask) now end → Ends r (λ m. go_on (Do who) top end m) before new
+row-asks who ask (Err e) now new k before end g = tt
+row-asks who ask (Ok e) now new k before end g = λ answers. ap (λ (x : RowEnd). go_on (Do who) top x (moment_of answers before)) g ∙ k answers
+
+failed-row : (who : ℕ) (text : List ℕ) (e : Ending) (now before : Flat) (end : RowEnd) → end ≡ record { world = now; row = Fails text } → end_seen e ≡ Failed text
+    → (answers : List Answered) → go_on (Do who) top end (moment_of answers before) ≡ record { moment = moment_of answers now; end = end_seen e }
+failed-row who text e now before end g f answers =
+    ap (λ (x : RowEnd). go_on (Do who) top x (moment_of answers before)) g
+    ∙ Do-body who top (Fails text) (moment_of answers now)
+    ∙ ap (λ (x : End). let o : Outcome = record { moment = moment_of answers now; end = x } in o) (sym f)
+
+-- a row that fails ends the part with its text
+pub row-fails : (who : ℕ) (error : EditError) (r : Result Ending AllocError) (now : Flat) → IfOk r (λ e. end_seen e ≡ Failed (error_text error)) → (error ≡ NoMemory → IsErr r)
+    → (before : Flat) (end : RowEnd) → Gives (Err error) now end → Ends r (λ m. go_on (Do who) top end m) before now
+row-fails who error (Err e) now f n before end g = tt
+row-fails who TextFull (Ok e) now f n before end g = failed-row who (error_text TextFull) e now before end g f
+row-fails who (NoSuchCommand name) (Ok e) now f n before end g = failed-row who (error_text (NoSuchCommand name)) e now before end g f
+row-fails who NoMemory (Ok e) now f n before end g = absurd (let x : IsErr {T = Ending} {E = AllocError} (Ok e) = n refl in cc)
+
+-- a part behind a unit that was taken, and one without a unit
+pub unit-taken : (r : Result Ending AllocError) (part : Part) (old now new : Flat) → old.units ≡ suc now.units → now ≡ with_units now.units old → Ends r part now new → Ends r (λ m. with_unit part m) old new
+unit-taken (Err e) part old now new u w k = tt
+unit-taken (Ok e) part old now new u w k = λ answers.
+    ap (λ (n : ℕ). unit_of n part (moment_of answers old)) u
+    ∙ ap (λ (x : Flat). part (moment_of answers x)) (sym w)
+    ∙ k answers
+
+pub unit-wanting : (part : Part) (old now : Flat) (answers : List Answered) → old.units ≡ 0 → now ≡ old → with_unit part (moment_of answers old) ≡ record { moment = moment_of answers now; end = GivenUp budget_spent }
+unit-wanting part old now answers u w =
+    ap (λ (n : ℕ). unit_of n part (moment_of answers old)) u
+    ∙ ap (λ (x : Flat). let o : Outcome = record { moment = moment_of answers x; end = GivenUp budget_spent } in o) (sym w)
+
+after-fine : (m : Moment) (e : End) → after e (λ n. ends Fine n) m ≡ record { moment = m; end = e }
+after-fine m Fine = refl
+after-fine m (Failed t) = refl
+after-fine m (GivenUp t) = refl
+
+-- nothing comes behind the one command of a text
+pub one-command : (who : ℕ) (text : List ℕ) (m : Moment) → 0 < length text → run_text (Do who) who top text m ≡ with_unit (λ n. go_on (Do who) top (row_command text who n.world) n) m
+one-command who [] m h = absurd (omega arith)
+one-command who (c ∷ cs) m h =
+    let o : Outcome = with_unit (λ n. go_on (Do who) top (row_command (c ∷ cs) who n.world) n) m in
+    after-fine o.moment o.end

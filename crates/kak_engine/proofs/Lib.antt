@@ -1,0 +1,4 @@
+pub mod DoingLemmas
+pub mod EndLemmas
+pub mod KeyLemmas
+pub mod RunLemmas

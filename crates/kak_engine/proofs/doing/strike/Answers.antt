@@ -1,0 +1,13 @@
+use Rattle.std.proofs.Common.{refl}
+use Rattle.kak_world.specs.Flat.{Flat}
+use Rattle.kak_engine.specs.Doing.{Do, go_on, row_key}
+use Rattle.kak_engine.specs.Seen.{top}
+use Rattle.kak_engine.proofs.EndLemmas.{ends-at, unit-taken}
+use Rattle.kak_engine.proofs.doing.strike.Goals as goal
+
+pub returns-clause-does : goal.returns-clause-does
+returns-clause-does c =
+    let before : Flat = c.take_unit.new.self.flat in
+    unit-taken c.go_on.result (λ n. go_on (Do c.args.who) top (row_key c.args.key c.args.who n.world) n) c.args.world.now.flat before c.go_on.new.world.flat (c.if-not-take_unit.ensures.taken refl).0 (c.if-not-take_unit.ensures.taken refl).1
+    (ends-at c.go_on.result (λ n. go_on (Do c.args.who) top (row_key c.args.key c.args.who n.world) n) _ before c.go_on.new.world.flat (λ answers. refl)
+    (c.go_on.ensures.does before (row_key c.args.key c.args.who before) c.run_row-row.ensures.row))

@@ -1,0 +1,65 @@
+-- What an engine holds, and which events it refuses.
+use Rattle.std.specs.Prelude.{◌≡◌, ℕ, Bool, true, false, not, ◌&&◌, nat_le, if◌then◌else◌, List, [], length, None, Some, Err}
+use Rattle.std.specs.declared.option.Option.{Option}
+use Rattle.std.specs.declared.result.Result.{Result}
+use Rattle.kak_world.specs.Flat.{Flat, is_joined}
+use Rattle.kak_engine.specs.declared.event.Event.{Event}
+use Rattle.kak_engine.specs.declared.event.Event.TheVariants.{Join, Leave}
+use Rattle.kak_engine.specs.declared.event.Entry.{Entry}
+use Rattle.kak_engine.specs.declared.event.Output.{Output}
+use Rattle.kak_engine.specs.declared.engine.StepFault.{StepFault}
+use Rattle.kak_engine.specs.declared.engine.StepFault.TheVariants.{Broken, NoClient, Joined, HistoryFull, Full, NoMemory}
+use Rattle.kak_engine.specs.Steps.{run, has_joined, is_full}
+
+-- an engine: its history, the number of entries that stood when it broke, if it did, and how many it may have
+pub record Held : Type 0 where
+  pub history : List Entry
+  pub mark : Option ℕ
+  pub limit : ℕ
+
+-- an engine that isn't broken has the world that its history leads to
+pub record Stands (flat : Flat) (history : List Entry) (mark : Option ℕ) : Type 0 where
+  pub world : mark ≡ None → flat ≡ run history
+
+abbrev pub is_join : Event → Bool
+is_join Join = true
+is_join _ = false
+
+abbrev pub is_leave : Event → Bool
+is_leave Leave = true
+is_leave _ = false
+
+-- why an event of a client is refused by an engine that isn't broken: the first reason that holds
+abbrev pub refused_by : List Entry → ℕ → ℕ → Event → Option StepFault
+refused_by history limit who event =
+    if not (is_join event) && not (is_joined who (run history)) then Some (NoClient who)
+    else (if is_join event && has_joined who history then Some (Joined who)
+    else (if not (is_leave event) && nat_le limit (length history) then Some HistoryFull
+    else (if is_join event && is_full (run history) then Some Full
+    else None)))
+
+-- why an event of a client is refused, if it is; a broken engine refuses all
+abbrev pub refused_at : Option ℕ → List Entry → ℕ → ℕ → Event → Option StepFault
+refused_at (Some at) history limit who event = Some (Broken at)
+refused_at None history limit who event = refused_by history limit who event
+
+abbrev pub refusal_of : Held → ℕ → Event → Option StepFault
+refusal_of held who event = refused_at held.mark held.history held.limit who event
+
+-- the entry of an event for which the outside was asked nothing
+abbrev pub entry_of : ℕ → Event → Entry
+entry_of who event = record { who = who; event = event; answers = [] }
+
+-- the mark after a step: want of memory sets one that isn't set
+abbrev pub marked_by : Option ℕ → ℕ → Option ℕ
+marked_by None count = Some count
+marked_by (Some at) count = Some at
+
+abbrev pub marked_after : Result Output StepFault → Held → Option ℕ
+marked_after (Err NoMemory) held = marked_by held.mark (length held.history)
+marked_after _ held = held.mark
+
+-- an event can be run: a client joins where none is there, and all other events are of one that is
+abbrev pub CanRun : Event → ℕ → Flat → Type 0
+CanRun Join who flat = flat.clients ≡ []
+CanRun _ who flat = is_joined who flat ≡ true

@@ -1,0 +1,4 @@
+pub mod Doing
+pub mod Steps
+pub mod Seen
+pub mod Held

@@ -1,0 +1,77 @@
+-- The steps of a session: what each entry of its history does to the world, and what it gives its client.
+use Rattle.std.specs.Prelude.{ℕ, Bool, true, false, not, ◌&&◌, ◌==◌, nat_le, if◌then◌else◌, List, [], ◌∷◌, length, None, Some}
+use Rattle.std.specs.List.{list_any}
+use Rattle.key_names.specs.declared.key.Key.{Key}
+use Rattle.kak_world.specs.declared.state.Status.TheVariants.{Quiet, Refused}
+use Rattle.kak_world.specs.Flat.{Flat, opening, joined_by, left_by, is_leaving, with_status, with_units, with_drawn}
+use Rattle.draw_model.specs.Drawings.{drawing_of, after_following}
+use Rattle.kak_engine.specs.declared.event.Event.{Event}
+use Rattle.kak_engine.specs.declared.event.Event.TheVariants.{Join, Key as Struck, Refresh, Leave}
+use Rattle.kak_engine.specs.declared.event.Answered.{Answered}
+use Rattle.kak_engine.specs.declared.event.Entry.{Entry}
+use Rattle.kak_engine.specs.declared.event.Output.{Output}
+use Rattle.kak_engine.specs.Doing.{End, Fine, Failed, GivenUp, Moment, Outcome, strike}
+
+-- a client's status after its key: what went wrong, if anything did
+abbrev pub told : ℕ → End → Flat → Flat
+told who Fine flat = flat
+told who (Failed text) flat = with_status who (Refused text) flat
+told who (GivenUp text) flat = with_status who (Refused text) flat
+
+-- the world when a key begins: its client has no status, and the step has 4,096 units
+abbrev pub begun : ℕ → Flat → Flat
+begun who flat = with_units 4096 (with_status who Quiet flat)
+
+-- the moment when a key begins
+abbrev pub first_moment : ℕ → Flat → List Answered → Moment
+first_moment who flat answers = record { world = begun who flat; answers = answers; fit = true }
+
+-- the world when a key ends, with no units left between steps
+abbrev pub ended : ℕ → Outcome → Flat
+ended who o = with_units 0 (told who o.end o.moment.world)
+
+-- the world after a key; once a client was granted to leave, its keys do nothing
+unfoldable pub after_key : ℕ → Key → List Answered → Flat → Flat
+after_key who key answers flat =
+    if is_leaving who flat then flat else ended who (strike who (record { depth = 0 }) key (first_moment who flat answers))
+
+-- the world after an event of a client
+abbrev pub after_event : ℕ → Event → List Answered → Flat → Flat
+after_event who Join answers flat = joined_by who flat
+after_event who (Struck key) answers flat = after_key who key answers flat
+after_event who (Refresh asked) answers flat = with_drawn who (after_following who flat)
+after_event who Leave answers flat = left_by who flat
+
+-- what an event gives its client: a drawing where it is a refresh, and whether the client may leave from now on
+abbrev pub output_of : ℕ → Event → List Answered → Flat → Output
+output_of who Join answers flat = record { drawing = None; leaving = false }
+output_of who (Struck key) answers flat = record { drawing = None; leaving = is_leaving who (after_key who key answers flat) && not (is_leaving who flat) }
+output_of who (Refresh asked) answers flat = record { drawing = Some (drawing_of who (after_following who flat)); leaving = false }
+output_of who Leave answers flat = record { drawing = None; leaving = false }
+
+abbrev pub after_entry : Entry → Flat → Flat
+after_entry entry flat = after_event entry.who entry.event entry.answers flat
+
+-- the world after the entries of a history
+abbrev pub run_from : Flat → List Entry → Flat
+run_from flat [] = flat
+run_from flat (entry ∷ entries) = run_from (after_entry entry flat) entries
+
+abbrev pub run : List Entry → Flat
+run history = run_from opening history
+
+-- whether an entry is that client's joining
+abbrev pub is_join_of : ℕ → Entry → Bool
+is_join_of who entry = entry.who == who && is_join entry.event
+  where
+    is_join : Event → Bool
+    is_join Join = true
+    is_join _ = false
+
+-- whether a client joined before
+abbrev pub has_joined : ℕ → List Entry → Bool
+has_joined who history = list_any (is_join_of who) history
+
+-- whether no further client may join: for now one is all there may be
+abbrev pub is_full : Flat → Bool
+is_full flat = nat_le 1 (length flat.clients)

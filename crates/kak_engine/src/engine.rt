@@ -1,0 +1,286 @@
+//! The engine: the world, and the history that led to it.
+
+ghost use Rattle.std.specs.Prelude.{◌≡◌, ◌<◌, ◌≤◌, ◌^◌, [], ◌∷◌, ◌++◌, length, true, None, Some, Err, IfOk, IfErr, IfSome, OnErr, OnOk, IsNone, false, ◌&&◌, not};
+ghost use Rattle.kak_world.specs.Flat.{is_joined, is_leaving};
+ghost use Rattle.kak_engine.specs.Steps.{after_key, after_event, output_of, has_joined, run, told};
+ghost use Rattle.kak_engine.specs.Seen.{end_seen};
+ghost use Rattle.kak_engine.specs.Held.{refusal_of, refused_by, entry_of, marked_after, marked_by, CanRun, is_join, is_leave};
+ghost use Rattle.draw_model.specs.Drawings.{drawing_of, after_following};
+ghost use Rattle.kak_world.specs.Flat.{with_drawn};
+
+use crate::doing::{Ending, strike};
+use crate::event::{Answers, Entry, Event, Output};
+use draw_model::{draw, follow_cursor};
+use json_ui::Drawing;
+use kak_text::Chars;
+use kak_world::{Status, World};
+use key_names::Key;
+use std::alloc::{AllocError, Global};
+use std::marker::Model;
+
+/// Why a step was refused. It changed nothing but the mark.
+#[derive(Clone, Copy, PartialEq, Eq, Debug)]
+pub enum StepFault {
+    /// An earlier step found no memory, when so many entries stood. No step is taken any more.
+    Broken(u64),
+    /// That client isn't joined.
+    NoClient(u32),
+    /// That client has joined before.
+    Joined(u32),
+    /// The history has as many entries as it may have; only leaving is still possible.
+    HistoryFull,
+    /// As many clients are joined as may be.
+    Full,
+    /// Memory ran out. The engine is broken from now on.
+    NoMemory,
+}
+
+/// The engine. Contracts see its history, its mark and its limit; the world follows from the history.
+#[derive(Drop, Debug)]
+pub struct Engine {
+    world: World,
+    history: Vec<Entry>,
+    limit: u64,
+    mark: Option<u64>,
+}
+
+impl Model for Engine {
+    ghost use Rattle.kak_engine.specs.Held.{Held, Stands};
+
+    ghost Value = { Held };
+
+    ghost view = { λ e. record { history = e.history.items; mark = e.mark; limit = e.limit } };
+
+    ghost invariant = { λ e. Stands e.world.flat e.history.items e.mark };
+}
+
+// Tells a client what went wrong with its key, if anything did.
+fn tell(alloc: Global, world: &mut World, who: u32, ending: Ending) -> Result<(), AllocError>
+    requires { is_joined who world.old.flat ≡ true }
+    ensures told { OnOk result (world.new.flat ≡ told who (end_seen ending) world.old.flat) }
+    ensures stays { is_joined who world.new.flat ≡ true }
+{
+    match ending {
+        Ending::Fine => {}
+        Ending::Failed(text) => world.set_status(who, Status::Refused(text)),
+        Ending::GivenUp => {
+            let text = Chars::from_str(alloc, "given up: budget spent")?;
+            world.set_status(who, Status::Refused(text));
+        }
+    }
+    Ok(())
+}
+
+// Runs a key of a client that wasn't granted to leave.
+fn run_struck(alloc: Global, world: &mut World, who: u32, key: Key) -> Result<(), AllocError>
+    requires joined { is_joined who world.old.flat ≡ true }
+    requires stays { is_leaving who world.old.flat ≡ false }
+    ensures does { OnOk result (world.new.flat ≡ after_key who key [] world.old.flat) }
+    ensures joined { is_joined who world.new.flat ≡ true }
+{
+    world.set_status(who, Status::Quiet);
+    world.set_units(4096);
+    let ending = strike(alloc, world, who, key)?;
+    tell(alloc, world, who, ending)?;
+    world.set_units(0);
+    Ok(())
+}
+
+// Runs a key of a client, and tells whether it was granted to leave by it. Once it was, its keys do nothing.
+fn run_key(alloc: Global, world: &mut World, who: u32, key: Key) -> Result<bool, AllocError>
+    requires { is_joined who world.old.flat ≡ true }
+    ensures does { OnOk result (world.new.flat ≡ after_key who key [] world.old.flat) }
+    ensures leaving { IfOk result (λ leaving. leaving ≡ (is_leaving who (after_key who key [] world.old.flat) && not (is_leaving who world.old.flat))) }
+{
+    if world.is_leaving(who) {
+        return Ok(false);
+    }
+    run_struck(alloc, world, who, key)?;
+    Ok(world.is_leaving(who))
+}
+
+// Lets a client's window follow its cursor, and gives what it is shown.
+fn redraw(alloc: Global, world: &mut World, who: u32) -> Result<Drawing, AllocError>
+    requires { is_joined who world.old.flat ≡ true }
+    ensures draws { IfOk result (λ d. d ≡ drawing_of who (after_following who world.old.flat)) }
+    ensures follows { OnOk result (world.new.flat ≡ with_drawn who (after_following who world.old.flat)) }
+{
+    follow_cursor(world, who);
+    let drawing = draw(alloc, world, who)?;
+    world.note_drawn(who);
+    Ok(drawing)
+}
+
+// Runs an event that is not refused.
+fn run_event(alloc: Global, world: &mut World, who: u32, event: Event) -> Result<Output, AllocError>
+    requires { CanRun event who world.old.flat }
+    ensures gives { IfOk result (λ output. output ≡ output_of who event [] world.old.flat) }
+    ensures leads { OnOk result (world.new.flat ≡ after_event who event [] world.old.flat) }
+{
+    match event {
+        Event::Join => {
+            world.join(alloc, who);
+            Ok(Output::nothing())
+        }
+        Event::Key(key) => Ok(Output {
+            drawing: None,
+            leaving: run_key(alloc, world, who, key)?,
+        }),
+        Event::Refresh(_) => Ok(Output {
+            drawing: Some(redraw(alloc, world, who)?),
+            leaving: false,
+        }),
+        Event::Leave => {
+            world.leave(who);
+            Ok(Output::nothing())
+        }
+    }
+}
+
+// Whether a client has joined before.
+fn has_joined(history: &[Entry], who: u32) -> bool
+    ensures { result ≡ has_joined who history.now }
+{
+    history.iter().any(|entry| entry.who == who && matches!(entry.event, Event::Join))
+}
+
+// Why an event of a client is refused by an engine that isn't broken, if it is.
+fn refusal_by(
+    world: &World,
+    history: &[Entry],
+    limit: u64,
+    who: u32,
+    event: Event,
+) -> Option<StepFault>
+    requires { world.now.flat ≡ run history.now }
+    ensures refused { result ≡ refused_by history.now limit who event }
+    ensures runs { IsNone result → CanRun event who world.now.flat }
+{
+    let joins = is_join(event);
+    if !joins && !world.is_joined(who) {
+        return Some(StepFault::NoClient(who));
+    }
+    if joins && has_joined(history, who) {
+        return Some(StepFault::Joined(who));
+    }
+    if !is_leave(event) && history.len() as u64 >= limit {
+        return Some(StepFault::HistoryFull);
+    }
+    if joins && world.joined() >= 1 {
+        return Some(StepFault::Full);
+    }
+    None
+}
+
+// Whether an event is a client's coming.
+fn is_join(event: Event) -> bool
+    ensures { result ≡ is_join event }
+{
+    matches!(event, Event::Join)
+}
+
+// Whether an event is a client's going.
+fn is_leave(event: Event) -> bool
+    ensures { result ≡ is_leave event }
+{
+    matches!(event, Event::Leave)
+}
+
+// Runs an event that is not refused, and adds its entry. Room for the entry is taken first.
+fn keep(
+    alloc: Global,
+    world: &mut World,
+    history: &mut Vec<Entry>,
+    who: u32,
+    event: Event,
+) -> Result<Output, AllocError>
+    requires { CanRun event who world.old.flat }
+    ensures gives { IfOk result (λ output. output ≡ output_of who event [] world.old.flat) }
+    ensures leads { OnOk result (world.new.flat ≡ after_event who event [] world.old.flat) }
+    ensures keeps { OnOk result (history.new.items ≡ history.old.items ++ entry_of who event ∷ []) }
+    ensures err { OnErr result (history.new.items ≡ history.old.items) }
+{
+    history.reserve(1)?;
+    let output = run_event(alloc, world, who, event)?;
+    history.push_reserved(Entry {
+        who,
+        event,
+        answers: Answers::none(alloc),
+    });
+    Ok(output)
+}
+
+impl Engine {
+    /// An engine with an empty history, which may have so many entries (leaving aside).
+    pub fn new(alloc: Global, limit: u64) -> Result<Engine, AllocError>
+        ensures { IfOk result (λ e. e ≡ record { history = []; mark = None; limit = limit }) }
+    {
+        Ok(Engine {
+            world: World::new(alloc)?,
+            history: Vec::new(alloc),
+            limit,
+            mark: None,
+        })
+    }
+
+    /// The entries, in order.
+    pub fn history(&self) -> &[Entry]
+        ensures { result.now ≡ self.now.history }
+    {
+        self.history.as_slice()
+    }
+
+    /// How many entries there are.
+    pub fn count(&self) -> u64
+        ensures { result ≡ length self.now.history }
+    {
+        self.history.len() as u64
+    }
+
+    // Why an event of a client is refused, if it is.
+    fn refusal(&self, who: u32, event: Event) -> Option<StepFault>
+        ensures refused { result ≡ refusal_of self.now who event }
+    {
+        if let Some(at) = self.mark {
+            return Some(StepFault::Broken(at));
+        }
+        refusal_by(&self.world, self.history.as_slice(), self.limit, who, event)
+    }
+
+    // Runs an event that is not refused, and keeps its entry.
+    fn run_and_keep(&mut self, alloc: Global, who: u32, event: Event) -> Result<Output, AllocError>
+        requires allowed { refusal_of self.old who event ≡ None }
+        ensures gives { IfOk result (λ output. output ≡ output_of who event [] (run self.old.history)) }
+        ensures keeps { OnOk result (self.new ≡ record { history = self.old.history ++ entry_of who event ∷ []; mark = self.old.mark; limit = self.old.limit }) }
+        ensures err { OnErr result (self.new ≡ record { history = self.old.history; mark = marked_by self.old.mark (length self.old.history); limit = self.old.limit }) }
+    {
+        match keep(alloc, &mut self.world, &mut self.history, who, event) {
+            Ok(output) => Ok(output),
+            Err(error) => {
+                self.mark = Some(self.history.len() as u64);
+                Err(error)
+            }
+        }
+    }
+
+    /// Takes one event of a client. On Ok it stands as the last entry of the history, and the output is what the event
+    /// gives on the world that the history led to. Refusals are tested in the order `Broken`, `NoClient`, `Joined`,
+    /// `HistoryFull`, `Full`; they change nothing. `NoMemory` adds no entry, and breaks the engine.
+    pub fn step(&mut self, alloc: Global, who: u32, event: Event) -> Result<Output, StepFault>
+        ensures refused { IfSome (refusal_of self.old who event) (λ fault. result ≡ Err fault) }
+        ensures answered { refusal_of self.old who event ≡ None → IfErr result (λ fault. fault ≡ StepFault.NoMemory) }
+        ensures gives { IfOk result (λ output. output ≡ output_of who event [] (run self.old.history)) }
+        ensures keeps { OnOk result (self.new.history ≡ self.old.history ++ entry_of who event ∷ []) }
+        ensures err { OnErr result (self.new.history ≡ self.old.history) }
+        ensures mark { self.new.mark ≡ marked_after result self.old }
+        ensures limit { self.new.limit ≡ self.old.limit }
+    {
+        if let Some(fault) = self.refusal(who, event) {
+            return Err(fault);
+        }
+        match self.run_and_keep(alloc, who, event) {
+            Ok(output) => Ok(output),
+            Err(_) => Err(StepFault::NoMemory),
+        }
+    }
+}
