@@ -1,0 +1,4 @@
+pub mod Session
+pub mod Stops
+pub mod Serving
+pub mod Sending
