@@ -1,4 +1,5 @@
-ghost use Rattle.std.specs.Prelude.{◌≡◌, ◌<◌, ◌∷◌, [], ◌++◌, OnOk, decimal, encode_utf8, ◌/◌, ◌%◌};
+ghost use Rattle.std.specs.Prelude.{◌≡◌, ◌<◌, ◌∷◌, [], ◌++◌, OnOk, decimal, encode_utf8, ◌/◌, ◌%◌, ◌+◌, ◌≤◌, vec_len, IfSome};
+ghost use Rattle.std.specs.Vec.{vec_capacity};
 ghost use Rattle.std.specs.Char.{digit_char};
 ghost use Rattle.json_ui.specs.Grows.{Grows};
 ghost use Rattle.json_ui.specs.JsonText.{escaped, all_escaped, string_text, comma_unless};
@@ -111,13 +112,43 @@ fn push_escaped(out: &mut Vec<u8>, c: char) -> Result<(), AllocError>
     }
 }
 
+// The byte of a character that stands for itself, if it has but one.
+#[inline]
+fn plain_byte(c: char) -> Option<u8>
+    ensures { IfSome result (λ byte. escaped c ≡ byte ∷ []) }
+{
+    match c {
+        ' ' | '!' | '#'..='[' | ']'..='~' => Some(c as u8),
+        _ => None,
+    }
+}
+
+// Adds a character where there is room for it and for as many bytes as are left, and keeps room
+// for those.
+#[inline]
+fn push_with_room(out: &mut Vec<u8>, c: char, left: usize) -> Result<(), AllocError>
+    requires { vec_len out.old + left < vec_capacity out.old }
+    ensures ok { OnOk result (out.new.items ≡ out.old.items ++ escaped c) }
+    ensures room { OnOk result (vec_len out.new + left ≤ vec_capacity out.new) }
+    ensures grows { Grows out.old.items out.new.items }
+{
+    if let Some(byte) = plain_byte(c) {
+        out.push_reserved(byte);
+        return Ok(());
+    }
+    push_escaped(out, c)?;
+    out.reserve(left)?;
+    Ok(())
+}
+
 // Adds characters as they stand in a JSON string.
 fn push_characters(out: &mut Vec<u8>, text: &[char]) -> Result<(), AllocError>
     ensures ok { OnOk result (out.new.items ≡ out.old.items ++ all_escaped text.now) }
     ensures grows { Grows out.old.items out.new.items }
 {
-    for c in text {
-        push_escaped(out, *c)?;
+    out.reserve(text.len())?;
+    for (i, c) in text.iter().enumerate() {
+        push_with_room(out, *c, text.len() - i - 1)?;
     }
     Ok(())
 }
