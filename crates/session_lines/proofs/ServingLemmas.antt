@@ -2,13 +2,13 @@
 use Rattle.std.proofs.Common.{◌≡◌, ℕ, ◌<◌, Bool, true, false, List, [], ◌∷◌, ◌++◌, length, Ok, Err, refl, sym, ap, ◌∙◌, subst, append-nil}
 use Rattle.std.specs.declared.option.Option.{Option}
 use Rattle.std.specs.Io.KnownBytes.{Appends}
-use Rattle.std.proofs.KnownBytes.{Appends-nil}
+use Rattle.std.proofs.KnownBytes.{Appends-nil, Appends-trans}
 use Rattle.kak_ports.specs.Ports.{AppendsFront}
 use Rattle.session_turns.specs.Histories.{Answer, events_of, bytes_of, is_leaving}
-use Rattle.session_turns.specs.Turns.{Turn, plays, says}
-use Rattle.session_turns.specs.Growth.{Begins, Whole, Broken, IsWhole, Fits}
-use Rattle.session_turns.proofs.HistoryLemmas.{adds-none}
-use Rattle.session_turns.proofs.TurnLemmas.{turn_goes, turn_quits, turn_stops, turn_breaks, turn_fails}
+use Rattle.session_turns.proofs.HistoryLemmas.{adds-none, adds-append}
+use Rattle.session_turns.proofs.TurnLemmas.{fits-append, over-more, short-more, broken-more, whole-none, turn_goes, turn_quits, turn_stops, turn_breaks, turn_fails}
+use Rattle.session_turns.specs.Turns.{Turn, plays, says, due, sent}
+use Rattle.session_turns.specs.Growth.{Begins, How, Whole, Over, Short, Broken, IsWhole, Fits, Adds}
 use Rattle.kak_engine.specs.declared.event.Event.{Event}
 use Rattle.kak_engine.specs.declared.event.Entry.{Entry}
 use Rattle.session_lines.specs.declared.playing.Stop.{Stop}
@@ -111,3 +111,47 @@ serves-failed who old new a b turn es x out put l why t p e s same f = rw f.0 (s
 
 pub serves-refusal-failed : (who : ℕ) (h : List Entry) (a b : Option (List ℕ)) (turn : Turn) (out : List ℕ) (why : Stop) → plays protocol turn ≡ [] → says protocol turn ≡ out → (why ≡ stop.WriteFault) × AppendsFront a b out → Serves who h h a b (how_of (Err why)) (turn ∷ [])
 serves-refusal-failed who h a b turn out why p s f = rw f.0 (serves-half-said who h a b turn out p s f.1)
+
+-- turns were played behind turns that were all played
+pub serves-append : (who now : ℕ) (x y z : List Entry) (a b c : Option (List ℕ)) (how : How) (ts us : List Turn) → now ≡ who → Serves who x y a b Whole ts → Serves now y z b c how us → Serves who x z a c how (ts ++ us)
+serves-append who now x y z a b c how ts us same s u = record {
+  got = s.got ++ u.got;
+  out = s.out ++ u.out;
+  adds = adds-append rules who x y z s.got u.got s.adds (subst (λ n. Adds rules n y z u.got) same u.adds);
+  sends = Appends-trans a b c s.out u.out s.sends u.sends;
+  fits = fits-append protocol how ts us s.got u.got s.out u.out s.fits u.fits;
+}
+
+-- turns behind ones that were not all played
+pub serves-over : (who : ℕ) (x y : List Entry) (a b : Option (List ℕ)) (ts more : List Turn) → Serves who x y a b Over ts → Serves who x y a b Over (ts ++ more)
+serves-over who x y a b ts more s = record { got = s.got; out = s.out; adds = s.adds; sends = s.sends; fits = over-more protocol ts more s.got s.out s.fits }
+
+serves-short : (who : ℕ) (x y : List Entry) (a b : Option (List ℕ)) (ts more : List Turn) → Serves who x y a b Short ts → Serves who x y a b Short (ts ++ more)
+serves-short who x y a b ts more s = record { got = s.got; out = s.out; adds = s.adds; sends = s.sends; fits = short-more protocol ts more s.got s.out s.fits }
+
+serves-broken : (who : ℕ) (x y : List Entry) (a b : Option (List ℕ)) (ts more : List Turn) → Serves who x y a b Broken ts → Serves who x y a b Broken (ts ++ more)
+serves-broken who x y a b ts more s = record { got = s.got; out = s.out; adds = s.adds; sends = s.sends; fits = broken-more protocol ts more s.got s.out s.fits }
+
+pub serves-stopped : (who : ℕ) (x y : List Entry) (a b : Option (List ℕ)) (why : Stop) (ts more : List Turn) → Serves who x y a b (how_of (Err why)) ts → Serves who x y a b (how_of (Err why)) (ts ++ more)
+serves-stopped who x y a b (stop.Refused fault) ts more s = serves-short who x y a b ts more s
+serves-stopped who x y a b (stop.Broken at) ts more s = serves-broken who x y a b ts more s
+serves-stopped who x y a b stop.NoMemory ts more s = serves-broken who x y a b ts more s
+serves-stopped who x y a b stop.WriteFault ts more s = serves-broken who x y a b ts more s
+
+-- no turn was played
+pub serves-nothing : (who : ℕ) (h : List Entry) (a : Option (List ℕ)) → Serves who h h a a Whole []
+serves-nothing who h a = record { got = []; out = []; adds = adds-none rules who h; sends = Appends-nil a; fits = whole-none protocol }
+
+-- of turns nothing was played, since something was lost
+pub serves-lost : (who : ℕ) (h : List Entry) (a : Option (List ℕ)) (ts : List Turn) → Serves who h h a a Broken ts
+serves-lost who h a ts = record {
+  got = [];
+  out = [];
+  adds = adds-none rules who h;
+  sends = Appends-nil a;
+  fits = record { events = λ more. (due protocol (ts ++ more) [], refl); bytes = λ more. (sent protocol (ts ++ more) [], refl) };
+}
+
+-- the events of a turn were taken, and what was sent are its bytes
+pub serves-sent-as : (who : ℕ) (old new : List Entry) (a b : Option (List ℕ)) (turn : Turn) (es : List Event) (x out put : List ℕ) (l : Bool) → AreTaken who old new es x out l → plays protocol turn ≡ es → x ≡ [] → says protocol turn ≡ [] → put ≡ out → Appends a b put → Serves who old new a b (how_of (Ok l)) (turn ∷ [])
+serves-sent-as who old new a b turn es x out put l t p e s same f = serves-sent who old new a b turn es x out l t p e s (subst (λ o. Appends a b o) same f)

@@ -187,3 +187,10 @@ pub struck-more : (who now : ℕ) (a b c : List Entry) (ks : List keys.Key) (i :
     → AreTaken who a b (map (λ key. Struck key) (take i ks)) x y l → AreTaken now b c (Struck (get_or ks i d) ∷ []) y z m → AreTaken who a c (map (λ key. Struck key) (take (i + 1) ks)) x z (l || m)
 struck-more who now a b c ks i d x y z l m lt same s t = subst (λ es. AreTaken who a c es x z (l || m)) (sym (key-next ks i d (get_or ks i d) lt refl))
     (taken-more who a b c (map (λ key. Struck key) (take i ks)) (Struck (get_or ks i d) ∷ []) x y z l m s (subst (λ n. AreTaken n b c (Struck (get_or ks i d) ∷ []) y z m) same t))
+
+-- events were taken behind others
+pub both-taken : (who now : ℕ) (a b c : List Entry) (es fs : List Event) (x y z : List ℕ) (l m : Bool) → now ≡ who → AreTaken who a b es x y l → AreTaken now b c fs y z m → AreTaken who a c (es ++ fs) x z (l || m)
+both-taken who now a b c es fs x y z l m same s t = taken-more who a b c es fs x y z l m s (subst (λ n. AreTaken n b c fs y z m) same t)
+
+pub both-cut : (who now : ℕ) (a b c : List Entry) (es fs : List Event) (x y : List ℕ) (l : Bool) (why : Stop) → now ≡ who → AreTaken who a b es x y l → AreCut now b c fs why → AreCut who a c (es ++ fs) why
+both-cut who now a b c es fs x y l why same s t = cut-after who a b c es fs x y l why s (subst (λ n. AreCut n b c fs why) same t)

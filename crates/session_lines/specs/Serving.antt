@@ -58,3 +58,8 @@ pub record Serves (who : ℕ) (old new : List Entry) (before now : Option (List 
 abbrev pub refusal_says : Option Refusal → List ℕ
 refusal_says None = []
 refusal_says (Some refusal) = refusal_bytes refusal
+
+-- where the client stays and nothing stopped, what has come of the next line is kept
+abbrev pub KeepsPart : Result Bool Stop → List ℕ → List ℕ → Type 0
+KeepsPart (Ok false) kept part = kept ≡ part
+KeepsPart _ kept part = ⊤

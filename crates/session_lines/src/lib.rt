@@ -1,10 +1,12 @@
 //! A connection's lines: cut from its bytes, played as events over a seat, and answered over a sink.
 #![tactic(auto)]
 
+pub mod lines;
 pub mod playing;
 pub mod seat;
 pub mod turns;
 
+pub use lines::play_bytes;
 pub use playing::Stop;
 pub use seat::{LoneSeat, Seat};
-pub use turns::play_line;
+pub use turns::{open, play_line};

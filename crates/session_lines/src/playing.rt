@@ -1,6 +1,7 @@
 //! Events, played over a seat.
 
-ghost use Rattle.std.specs.Prelude.{◌≡◌, ◌++◌, ◌∷◌, [], false, OnOk};
+ghost use Rattle.std.specs.Prelude.{◌≡◌, ◌++◌, ◌∷◌, [], true, false, OnOk};
+ghost use Rattle.kak_engine.specs.declared.event.Event.TheVariants.{Join, Refresh};
 ghost use Rattle.kak_engine.specs.Held.{is_leave};
 ghost use Rattle.session_lines.specs.Session.{drawn_bytes, keys_played};
 ghost use Rattle.session_lines.specs.Serving.{Takes};
@@ -90,4 +91,14 @@ pub fn play_keys<S: Seat>(
     }
     leaving |= take_event(alloc, seat, Event::Refresh(true), out)?;
     Ok(leaving)
+}
+
+/// Lets the client join and draws it; the bytes of the drawing are added.
+pub fn play_opening<S: Seat>(alloc: Global, seat: &mut S, out: &mut Vec<u8>) -> Result<bool, Stop>
+    ensures number { S.number seat.new ≡ S.number seat.old }
+    ensures takes { Takes (S.number seat.old) (S.seen seat.old) (S.seen seat.new) (Join ∷ Refresh true ∷ []) out.old.items out.new.items result }
+{
+    let early = take_event(alloc, seat, Event::Join, out)?;
+    let late = take_event(alloc, seat, Event::Refresh(true), out)?;
+    Ok(early | late)
 }

@@ -2,12 +2,12 @@
 
 ghost use Rattle.std.specs.Prelude.{◌≡◌, ◌∷◌, [], Err};
 ghost use Rattle.json_ui.specs.Requests.{read_request};
-ghost use Rattle.session_turns.specs.Turns.{Line};
+ghost use Rattle.session_turns.specs.Turns.{Line, Opens};
 ghost use Rattle.session_lines.specs.Session.{keys_played, played_by, refused_by};
 ghost use Rattle.session_lines.specs.Serving.{Serves, how_of};
 ghost use Rattle.session_lines.specs.Sending.{Sends};
 
-use crate::playing::{Stop, play_keys};
+use crate::playing::{Stop, play_keys, play_opening};
 use crate::seat::Seat;
 use json_ui::{LineError, Refusal, Request, decode_line, encode_refusal};
 use kak_ports::{Put, Sink};
@@ -78,4 +78,20 @@ pub fn play_line<S: Seat, K: Sink>(
         Err(LineError::Refused(refusal)) => refuse_line(seat, sink, out, line, refusal),
         Err(LineError::NoMemory) => Err(Stop::NoMemory),
     }
+}
+
+/// Opens a connection: its client joins, and its first drawing is sent.
+pub fn open<S: Seat, K: Sink>(
+    alloc: Global,
+    seat: &mut S,
+    sink: &mut K,
+    out: &mut Vec<u8>,
+) -> Result<bool, Stop>
+    ensures number { S.number seat.new ≡ S.number seat.old }
+    ensures serves { Serves (S.number seat.old) (S.seen seat.old) (S.seen seat.new) (K.told sink.old) (K.told sink.new) (how_of result) (Opens ∷ []) }
+{
+    out.clear();
+    let leaving = play_opening(alloc, seat, out)?;
+    send(sink, out.as_slice())?;
+    Ok(leaving)
 }
