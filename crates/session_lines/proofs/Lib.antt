@@ -1,3 +1,4 @@
 pub mod TakingLemmas
 pub mod ServingLemmas
 pub mod LineLemmas
+pub mod ReadingLemmas

@@ -37,7 +37,7 @@ drop-end [] (suc i) le = refl
 drop-end (x ∷ bs) zero le = absurd (none-below (length bs) (omega (arith, le)))
 drop-end (x ∷ bs) (suc i) le = drop-end bs i (omega (arith, le))
 
-turns-append : (ls ms : List (List ℕ)) → map (λ line. Line line) (ls ++ ms) ≡ map (λ line. Line line) ls ++ map (λ line. Line line) ms
+pub turns-append : (ls ms : List (List ℕ)) → map (λ line. Line line) (ls ++ ms) ≡ map (λ line. Line line) ls ++ map (λ line. Line line) ms
 turns-append [] ms = refl
 turns-append (l ∷ ls) ms = ap (λ r. Line l ∷ r) (turns-append ls ms)
 

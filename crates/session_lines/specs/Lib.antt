@@ -2,3 +2,4 @@ pub mod Session
 pub mod Stops
 pub mod Serving
 pub mod Sending
+pub mod Reading

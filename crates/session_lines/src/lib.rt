@@ -3,10 +3,12 @@
 
 pub mod lines;
 pub mod playing;
+pub mod reading;
 pub mod seat;
 pub mod turns;
 
 pub use lines::play_bytes;
 pub use playing::Stop;
+pub use reading::{Ending, MAX_INPUT, play_source};
 pub use seat::{LoneSeat, Seat};
 pub use turns::{open, play_line};

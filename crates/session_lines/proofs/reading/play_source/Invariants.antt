@@ -1,0 +1,14 @@
+use Rattle.std.proofs.Common.{◌+◌, ◌-◌, ◌≡◌, length}
+use Rattle.session_lines.proofs.ReadingLemmas.{HasRead}
+use Rattle.session_lines.proofs.reading.play_source.Given as goal
+
+-- the lines that were completed so far were all played
+abbrev pub invariant-loop-taken : goal.invariant-loop-taken
+invariant-loop-taken g l = record {
+  number : g.S.Seat.number l.seat ≡ g.S.Seat.number l.fn.seat;
+  so_far : HasRead (g.S.Seat.number l.fn.seat) (g.S.Seat.seen l.fn.seat) (g.S.Seat.seen l.seat) (g.K.Sink.told l.fn.sink) (g.K.Sink.told l.sink) (g.I.Source.left l.fn.source) (g.I.Source.left l.source) l.part.items;
+  piece : length l.piece ≡ 4096;
+}
+
+abbrev pub decreases-loop-taken : goal.decreases-loop-taken
+decreases-loop-taken g l = 1073741824 + 1 - l.taken

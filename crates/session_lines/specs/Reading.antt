@@ -1,0 +1,38 @@
+-- What the reading of a connection's input did.
+use Rattle.std.specs.Prelude.{◌≡◌, ℕ, List, [], map, ⊤, Ok, Err, IfSome}
+use Rattle.std.specs.declared.option.Option.{Option}
+use Rattle.std.specs.declared.result.Result.{Result}
+use Rattle.std.specs.Io.KnownBytes.{Consumes}
+use Rattle.session_turns.specs.Lines.{whole_lines, last_part}
+use Rattle.session_turns.specs.Turns.{Line}
+use Rattle.session_turns.specs.Growth.{How, Whole, Over}
+use Rattle.kak_engine.specs.declared.event.Entry.{Entry}
+use Rattle.session_lines.specs.declared.playing.Stop.{Stop}
+use Rattle.session_lines.specs.declared.reading.Ending.{Ending}
+use Rattle.session_lines.specs.declared.reading.Ending.TheVariants.{Left, Ended}
+use Rattle.session_lines.specs.Serving.{Serves, how_of}
+
+-- how the turns of the lines got on
+abbrev pub how_read : Result Ending Stop → How
+how_read (Ok Left) = Over
+how_read (Ok _) = Whole
+how_read (Err stop) = how_of (Err stop)
+
+-- what has come of the next line is kept, where the client stays and nothing stopped
+abbrev pub PartIs : Result Ending Stop → List ℕ → List ℕ → Type 0
+PartIs (Ok Left) part bytes = ⊤
+PartIs (Ok _) part bytes = part ≡ last_part [] bytes
+PartIs (Err stop) part bytes = ⊤
+
+-- an input that ended is the bytes that were taken, where its bytes are told
+abbrev pub EndIs : Result Ending Stop → Option (List ℕ) → List ℕ → Type 0
+EndIs (Ok Ended) left bytes = IfSome left (λ input. input ≡ bytes)
+EndIs _ left bytes = ⊤
+
+-- Bytes were taken from the input, and the lines that they complete were played.
+pub record Reads (who : ℕ) (old new : List Entry) (before now : Option (List ℕ)) (left rest : Option (List ℕ)) (result : Result Ending Stop) (part : List ℕ) : Type 0 where
+  pub bytes : List ℕ
+  pub takes : Consumes left rest bytes
+  pub serves : Serves who old new before now (how_read result) (map (λ line. Line line) (whole_lines [] bytes))
+  pub part_is : PartIs result part bytes
+  pub end_is : EndIs result left bytes
