@@ -12,3 +12,6 @@ pub use playing::Stop;
 pub use reading::{Ending, MAX_INPUT, play_source};
 pub use seat::{LoneSeat, Seat};
 pub use turns::{open, play_line};
+
+#[cfg(test)]
+mod tests;
