@@ -17,7 +17,10 @@ pub struct FailingCalls {
 
 impl FailingCalls {
     /// No call fails.
-    pub fn none(alloc: Global) -> FailingCalls {
+    pub fn none(alloc: Global) -> FailingCalls
+        ensures made { result.made ≡ 0 }
+        ensures failing { result.failing.items ≡ [] }
+    {
         FailingCalls {
             made: 0,
             failing: Vec::new(alloc),
@@ -25,7 +28,10 @@ impl FailingCalls {
     }
 
     /// The calls with these numbers fail.
-    pub fn at(failing: Vec<u64>) -> FailingCalls {
+    pub fn at(failing: Vec<u64>) -> FailingCalls
+        ensures made { result.made ≡ 0 }
+        ensures failing { result.failing ≡ failing }
+    {
         FailingCalls { made: 0, failing }
     }
 
@@ -109,6 +115,7 @@ impl MemSink {
     /// A sink with room for so many bytes. A put that doesn't fit fails, and what fits of it is added.
     pub fn new(alloc: Global, room: usize, plan: FailingCalls) -> Result<MemSink, AllocError>
         ensures told { IfOk result (λ s. s.bytes.items ≡ []) }
+        ensures room { IfOk result (λ s. s.room ≡ room) }
         ensures faults { IfOk result (λ s. s.faults ≡ 0) }
     {
         Ok(MemSink {
@@ -138,7 +145,7 @@ impl MemSink {
         }
     }
 
-    // Adds the first bytes, where there is room, and counts a fault.
+    // Adds the first bytes where there is room for them. Counts a fault.
     fn fail_after(&mut self, bytes: &[u8], count: usize) -> Put
         requires { count ≤ length bytes.now }
         ensures failed { result ≡ Put.Failed }
