@@ -1,7 +1,7 @@
 //! A connection's input, read to its end and played as it comes.
 
 ghost use Rattle.std.specs.Prelude.{◌≡◌, ◌<◌, ◌≤◌, [], length, take};
-ghost use Rattle.session_lines.specs.Reading.{Reads};
+ghost use Rattle.session_lines.specs.Reading.{Reads, FaultIs};
 
 use crate::lines::play_bytes;
 use crate::playing::Stop;
@@ -38,6 +38,7 @@ pub fn play_source<S: Seat, I: Source, K: Sink>(
     requires { part.old.items ≡ [] }
     ensures number { S.number seat.new ≡ S.number seat.old }
     ensures reads { Reads (S.number seat.old) (S.seen seat.old) (S.seen seat.new) (K.told sink.old) (K.told sink.new) (I.left source.old) (I.left source.new) result part.new.items }
+    ensures fault { FaultIs result (I.faults source.old) (I.faults source.new) }
 {
     let mut piece = [0; 4096];
     let mut taken: u64 = 0;

@@ -1,4 +1,4 @@
-use Rattle.std.proofs.Common.{◌+◌, ◌-◌, ◌≡◌, length}
+use Rattle.std.proofs.Common.{◌+◌, ◌-◌, ◌≡◌, ◌≤◌, length}
 use Rattle.session_lines.proofs.ReadingLemmas.{HasRead}
 use Rattle.session_lines.proofs.reading.play_source.Given as goal
 
@@ -6,7 +6,8 @@ use Rattle.session_lines.proofs.reading.play_source.Given as goal
 abbrev pub invariant-loop-taken : goal.invariant-loop-taken
 invariant-loop-taken g l = record {
   number : g.S.Seat.number l.seat ≡ g.S.Seat.number l.fn.seat;
-  so_far : HasRead (g.S.Seat.number l.fn.seat) (g.S.Seat.seen l.fn.seat) (g.S.Seat.seen l.seat) (g.K.Sink.told l.fn.sink) (g.K.Sink.told l.sink) (g.I.Source.left l.fn.source) (g.I.Source.left l.source) l.part.items;
+  so_far : HasRead (g.S.Seat.number l.fn.seat) (g.S.Seat.seen l.fn.seat) (g.S.Seat.seen l.seat) (g.K.Sink.told l.fn.sink) (g.K.Sink.told l.sink) (g.I.Source.left l.fn.source) (g.I.Source.left l.source) l.part.items l.taken;
+  faults : g.I.Source.faults l.fn.source ≤ g.I.Source.faults l.source;
   piece : length l.piece ≡ 4096;
 }
 
