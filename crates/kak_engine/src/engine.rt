@@ -91,6 +91,7 @@ fn run_key(alloc: Global, world: &mut World, who: u32, key: Key) -> Result<bool,
     requires { is_joined who world.old.flat ≡ true }
     ensures does { OnOk result (world.new.flat ≡ after_key who key [] world.old.flat) }
     ensures leaving { IfOk result (λ leaving. leaving ≡ (is_leaving who (after_key who key [] world.old.flat) && not (is_leaving who world.old.flat))) }
+    ensures joined { is_joined who world.new.flat ≡ true }
 {
     if world.is_leaving(who) {
         return Ok(false);
@@ -104,6 +105,7 @@ fn redraw(alloc: Global, world: &mut World, who: u32) -> Result<Drawing, AllocEr
     requires { is_joined who world.old.flat ≡ true }
     ensures draws { IfOk result (λ d. d ≡ drawing_of who (after_following who world.old.flat)) }
     ensures follows { OnOk result (world.new.flat ≡ with_drawn who (after_following who world.old.flat)) }
+    ensures joined { is_joined who world.new.flat ≡ true }
 {
     follow_cursor(world, who);
     let drawing = draw(alloc, world, who)?;
@@ -111,11 +113,12 @@ fn redraw(alloc: Global, world: &mut World, who: u32) -> Result<Drawing, AllocEr
     Ok(drawing)
 }
 
-// Runs an event that is not refused.
+// Runs an event that is not refused. Its client is joined then, unless it left.
 fn run_event(alloc: Global, world: &mut World, who: u32, event: Event) -> Result<Output, AllocError>
     requires { CanRun event who world.old.flat }
     ensures gives { IfOk result (λ output. output ≡ output_of who event [] world.old.flat) }
     ensures leads { OnOk result (world.new.flat ≡ after_event who event [] world.old.flat) }
+    ensures joined { is_leave event ≡ false → is_joined who world.new.flat ≡ true }
 {
     match event {
         Event::Join => {
@@ -198,6 +201,7 @@ fn keep(
     ensures gives { IfOk result (λ output. output ≡ output_of who event [] world.old.flat) }
     ensures leads { OnOk result (world.new.flat ≡ after_event who event [] world.old.flat) }
     ensures keeps { OnOk result (history.new.items ≡ history.old.items ++ entry_of who event ∷ []) }
+    ensures joined { OnOk result (is_leave event ≡ false → is_joined who world.new.flat ≡ true) }
     ensures err { OnErr result (history.new.items ≡ history.old.items) }
 {
     history.reserve(1)?;
@@ -252,6 +256,7 @@ impl Engine {
         requires allowed { refusal_of self.old who event ≡ None }
         ensures gives { IfOk result (λ output. output ≡ output_of who event [] (run self.old.history)) }
         ensures keeps { OnOk result (self.new ≡ record { history = self.old.history ++ entry_of who event ∷ []; mark = self.old.mark; limit = self.old.limit }) }
+        ensures joined { OnOk result (is_leave event ≡ false → is_joined who (run self.new.history) ≡ true) }
         ensures err { OnErr result (self.new ≡ record { history = self.old.history; mark = marked_by self.old.mark (length self.old.history); limit = self.old.limit }) }
     {
         match keep(alloc, &mut self.world, &mut self.history, who, event) {
@@ -264,13 +269,14 @@ impl Engine {
     }
 
     /// Takes one event of a client. On Ok it stands as the last entry of the history, and the output is what the event
-    /// gives on the world that the history led to. Refusals are tested in the order `Broken`, `NoClient`, `Joined`,
+    /// gives on the world that the history led to; unless it left, the client is joined. Refusals are tested in the order `Broken`, `NoClient`, `Joined`,
     /// `HistoryFull`, `Full`; they change nothing. `NoMemory` adds no entry, and breaks the engine.
     pub fn step(&mut self, alloc: Global, who: u32, event: Event) -> Result<Output, StepFault>
         ensures refused { IfSome (refusal_of self.old who event) (λ fault. result ≡ Err fault) }
         ensures answered { refusal_of self.old who event ≡ None → IfErr result (λ fault. fault ≡ StepFault.NoMemory) }
         ensures gives { IfOk result (λ output. output ≡ output_of who event [] (run self.old.history)) }
         ensures keeps { OnOk result (self.new.history ≡ self.old.history ++ entry_of who event ∷ []) }
+        ensures joined { OnOk result (is_leave event ≡ false → is_joined who (run self.new.history) ≡ true) }
         ensures err { OnErr result (self.new.history ≡ self.old.history) }
         ensures mark { self.new.mark ≡ marked_after result self.old }
         ensures limit { self.new.limit ≡ self.old.limit }

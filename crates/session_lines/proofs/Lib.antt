@@ -1,4 +1,9 @@
+pub mod Indices
+pub mod RefusalLemmas
+pub mod StayingLemmas
 pub mod TakingLemmas
+pub mod OpeningLemmas
 pub mod ServingLemmas
 pub mod LineLemmas
 pub mod ReadingLemmas
+pub mod ConnectionLemmas

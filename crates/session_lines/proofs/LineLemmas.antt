@@ -7,6 +7,7 @@ use Rattle.session_turns.specs.Growth.{How, Whole, Over, Broken}
 use Rattle.kak_engine.specs.declared.event.Entry.{Entry}
 use Rattle.session_lines.specs.declared.playing.Stop.{Stop}
 use Rattle.session_lines.specs.Serving.{Serves, how_of}
+use Rattle.session_lines.proofs.Indices.{none-below, next}
 use Rattle.session_lines.proofs.ServingLemmas.{serves-append, serves-over, serves-stopped, serves-nothing, serves-lost}
 
 -- of all the lines these were played, and the bytes from a place on complete the others
@@ -16,16 +17,10 @@ pub record ServesLines (who : ℕ) (old new : List Entry) (a b : Option (List �
   pub all : whole_lines part bytes ≡ lines ++ whole_lines now (drop i bytes)
   pub rest : last_part part bytes ≡ last_part now (drop i bytes)
 
-none-below : (i : ℕ) → i < 0 → ⊥
-none-below i lt = omega (arith, lt)
-
 drop-at : (bs : List ℕ) (i d : ℕ) → i < length bs → drop i bs ≡ get_or bs i d ∷ drop (suc i) bs
 drop-at [] i d lt = absurd (none-below i lt)
 drop-at (x ∷ bs) zero d lt = refl
 drop-at (x ∷ bs) (suc i) d lt = drop-at bs i d (omega (arith, lt))
-
-next : (i : ℕ) → suc i ≡ i + 1
-next i = omega arith
 
 -- the bytes from a place on are the byte there and those behind it
 drop-next : (bs : List ℕ) (i d : ℕ) → i < length bs → drop i bs ≡ get_or bs i d ∷ drop (i + 1) bs

@@ -1,5 +1,5 @@
 -- How the reading of an input goes on, piece by piece.
-use Rattle.std.proofs.Common.{◌≡◌, ℕ, ◌+◌, ◌<◌, ◌≤◌, Bool, true, false, ◌==◌, List, [], ◌∷◌, ◌++◌, length, map, Ok, Err, refl, sym, ap, ◌∙◌, subst, arith, length-append}
+use Rattle.std.proofs.Common.{◌≡◌, ℕ, zero, suc, take, ◌+◌, ◌-◌, ◌≤◌, Bool, true, false, ◌==◌, List, [], ◌∷◌, ◌++◌, length, map, Ok, Err, refl, sym, ap, ◌∙◌, subst, arith, length-append}
 use Rattle.std.specs.Prelude.{if◌then◌else◌}
 use Rattle.std.specs.declared.option.Option.{Option}
 use Rattle.std.specs.Io.KnownBytes.{Consumes, Keeps, IsAtEnd}
@@ -15,6 +15,7 @@ use Rattle.session_lines.specs.declared.reading.Ending.TheVariants.{Left, Ended,
 use Rattle.session_lines.specs.Serving.{Serves, how_of, KeepsPart}
 use Rattle.session_lines.specs.Reading.{Reads}
 use Rattle.session_lines.proofs.ServingLemmas.{serves-append, serves-nothing}
+use Rattle.session_lines.proofs.Indices.{none-below}
 use Rattle.session_lines.proofs.LineLemmas.{turns-append}
 
 -- what was read so far, where the client stays
@@ -36,6 +37,22 @@ part-append p [] b = refl
 part-append p (x ∷ a) b =
     elim (x == 10) as (λ t. (if t then last_part [] (a ++ b) else last_part (p ++ x ∷ []) (a ++ b)) ≡ last_part (if t then last_part [] a else last_part (p ++ x ∷ []) a) b)
     [ true ↦ part-append [] a b | false ↦ part-append (p ++ x ∷ []) a b ]
+
+-- a front of a front is a front
+pub take-front : (n room : ℕ) (p : List ℕ) → n ≤ length (take room p) → take n p ≡ take n (take room p)
+take-front zero room p le = refl
+take-front (suc n) zero p le = absurd (none-below n le)
+take-front (suc n) (suc room) [] le = refl
+take-front (suc n) (suc room) (x ∷ p) le = ap (λ r. x ∷ r) (take-front n room p (omega (arith, le)))
+
+length-front : (room : ℕ) (p : List ℕ) → length (take room p) ≤ room
+length-front zero p = omega arith
+length-front (suc room) [] = omega arith
+length-front (suc room) (x ∷ p) = omega (arith, length-front room p)
+
+-- no more is taken than may be
+pub few-more : (taken n room : ℕ) (p : List ℕ) → n ≤ length (take room p) → room ≤ MAX_INPUT - taken → taken ≤ MAX_INPUT → taken + n ≤ MAX_INPUT
+few-more taken n room p le few before = omega (arith, length-front room p, le, few, before)
 
 -- nothing was read yet
 pub begin-reading : (who : ℕ) (h : List Entry) (a left : Option (List ℕ)) (part : List ℕ) → part ≡ [] → HasRead who h h a a left left part 0
@@ -94,9 +111,12 @@ input-ended who taken old new a b left rest more part e k s = record { bytes = s
 pub input-failed : (who taken : ℕ) (old new : List Entry) (a b left rest more : Option (List ℕ)) (part : List ℕ) → Keeps rest more → HasRead who old new a b left rest part taken → Reads who old new a b left more (Ok ReadFault) part
 input-failed who taken old new a b left rest more part k s = record { bytes = s.bytes; takes = Consumes-kept left rest more s.bytes s.takes k; serves = s.serves; part_is = s.part_is; end_is = tt }
 
--- the input has more bytes than are taken
-pub input-full : (who taken : ℕ) (old new : List Entry) (a b left rest : Option (List ℕ)) (part : List ℕ) → MAX_INPUT < taken → HasRead who old new a b left rest part taken → Reads who old new a b left rest (Ok Full) part
-input-full who taken old new a b left rest part lt s = record { bytes = s.bytes; takes = s.takes; serves = s.serves; part_is = s.part_is; end_is = subst (λ n. MAX_INPUT < n) s.count lt }
+-- all that may be taken was taken
+pub input-full : (who taken : ℕ) (old new : List Entry) (a b left rest : Option (List ℕ)) (part : List ℕ) → taken ≤ MAX_INPUT → MAX_INPUT ≤ taken → HasRead who old new a b left rest part taken → Reads who old new a b left rest (Ok Full) part
+input-full who taken old new a b left rest part le ge s = record { bytes = s.bytes; takes = s.takes; serves = s.serves; part_is = s.part_is; end_is = sym s.count ∙ both taken MAX_INPUT le ge }
+  where
+    both : (x y : ℕ) → x ≤ y → y ≤ x → x ≡ y
+    both x y le ge = omega (arith, le, ge)
 
 -- a count that rose from a later one rose from an earlier one
 pub rose-before : (a b c : ℕ) → a ≤ b → Rose b c → Rose a c

@@ -46,7 +46,7 @@ serves-unsent who old new a b turn es x out l t p e s f = record {
 
 -- of the events of a turn a beginning was taken, and nothing was sent
 pub serves-cut : (who : ℕ) (old new : List Entry) (a : Option (List ℕ)) (turn : Turn) (es : List Event) (why : Stop) → AreCut who old new es why → plays protocol turn ≡ es → Serves who old new a a (how_of (Err why)) (turn ∷ [])
-serves-cut who old new a turn es (stop.Refused fault) t p = record {
+serves-cut who old new a turn es stop.HistoryFull t p = record {
   got = t.got;
   out = [];
   adds = t.adds;
@@ -133,7 +133,7 @@ serves-broken : (who : ℕ) (x y : List Entry) (a b : Option (List ℕ)) (ts mor
 serves-broken who x y a b ts more s = record { got = s.got; out = s.out; adds = s.adds; sends = s.sends; fits = broken-more protocol ts more s.got s.out s.fits }
 
 pub serves-stopped : (who : ℕ) (x y : List Entry) (a b : Option (List ℕ)) (why : Stop) (ts more : List Turn) → Serves who x y a b (how_of (Err why)) ts → Serves who x y a b (how_of (Err why)) (ts ++ more)
-serves-stopped who x y a b (stop.Refused fault) ts more s = serves-short who x y a b ts more s
+serves-stopped who x y a b stop.HistoryFull ts more s = serves-short who x y a b ts more s
 serves-stopped who x y a b (stop.Broken at) ts more s = serves-broken who x y a b ts more s
 serves-stopped who x y a b stop.NoMemory ts more s = serves-broken who x y a b ts more s
 serves-stopped who x y a b stop.WriteFault ts more s = serves-broken who x y a b ts more s

@@ -12,15 +12,13 @@ use Rattle.kak_engine.specs.declared.event.Event.{Event}
 use Rattle.kak_engine.specs.declared.event.Event.TheVariants.{Key as Struck, Refresh}
 use Rattle.kak_engine.specs.declared.event.Entry.{Entry}
 use Rattle.kak_engine.specs.declared.event.Output.{Output}
-use Rattle.kak_engine.specs.declared.engine.StepFault.{StepFault}
-use Rattle.kak_engine.specs.declared.engine.StepFault.TheVariants as fault
 use Rattle.kak_engine.specs.Steps.{after_entry, output_of, run_from}
 use Rattle.kak_engine.specs.Held.{entry_of, is_leave}
 use Rattle.session_lines.specs.declared.playing.Stop.{Stop}
 use Rattle.session_lines.specs.declared.playing.Stop.TheVariants as stop
 use Rattle.session_lines.specs.Session.{Steps, Sees, rules, answer_of, answers_to, drawn_bytes, keys_played}
-use Rattle.session_lines.specs.Stops.{stop_of}
 use Rattle.session_lines.specs.Serving.{AreTaken, AreCut, LeavesOut}
+use Rattle.session_lines.proofs.Indices.{none-below, next}
 
 world-run : (flat : Flat) (entries : List Entry) → world_after rules flat entries ≡ run_from flat entries
 world-run flat [] = refl
@@ -47,6 +45,10 @@ steps-add who old new event output stays s =
 pub sees-add : (who : ℕ) (old new : List Entry) → Sees who old new → Adds rules who old new []
 sees-add who old new s = subst (λ h. Adds rules who old h []) (sym s.stands) (adds-others rules who old s.between s.foreign)
 
+or-false : (b : Bool) → (b || false) ≡ b
+or-false true = refl
+or-false false = refl
+
 -- one event was taken
 pub one-taken : (who : ℕ) (old new : List Entry) (event : Event) (output : Output) (before out : List ℕ) → is_leave event ≡ false → Steps who old new event output → out ≡ before ++ drawn_bytes output.drawing → AreTaken who old new (event ∷ []) before out output.leaving
 one-taken who old new event output before out stays s b = record {
@@ -54,12 +56,8 @@ one-taken who old new event output before out stays s b = record {
   adds = steps-add who old new event output stays s;
   events_are = refl;
   bytes = b ∙ ap (λ r. before ++ r) (sym (append-nil (drawn_bytes output.drawing)));
-  leaving_is = or-none output.leaving;
+  leaving_is = or-false output.leaving;
 }
-  where
-    or-none : (b : Bool) → (b || false) ≡ b
-    or-none true = refl
-    or-none false = refl
 
 -- one event was taken, and its drawing was lost
 pub one-lost : (who : ℕ) (old new : List Entry) (event : Event) (output : Output) → is_leave event ≡ false → Steps who old new event output → AreCut who old new (event ∷ []) stop.NoMemory
@@ -70,22 +68,27 @@ one-lost who old new event output stays s = record {
   short = tt;
 }
 
-none-short : (f : StepFault) (event : Event) → LeavesOut (stop_of f) 0 1
-none-short fault.NoMemory event = tt
-none-short (fault.Broken at) event = tt
-none-short (fault.NoClient who) event = omega arith
-none-short (fault.Joined who) event = omega arith
-none-short fault.HistoryFull event = omega arith
-none-short fault.Full event = omega arith
+none-short : (why : Stop) → LeavesOut why 0 1
+none-short stop.HistoryFull = omega arith
+none-short (stop.Broken at) = tt
+none-short stop.NoMemory = tt
+none-short stop.WriteFault = tt
 
 -- one event was refused
-pub one-refused : (who : ℕ) (old new : List Entry) (event : Event) (f : StepFault) → Sees who old new → AreCut who old new (event ∷ []) (stop_of f)
-one-refused who old new event f s = record {
+pub one-refused : (who : ℕ) (old new : List Entry) (event : Event) (why : Stop) → Sees who old new → AreCut who old new (event ∷ []) why
+one-refused who old new event why s = record {
   got = [];
   adds = sees-add who old new s;
   begins = (event ∷ [], refl);
-  short = none-short f event;
+  short = none-short why;
 }
+
+-- a key was struck, and the client was drawn
+pub key-taken : (who : ℕ) (old new : List Entry) (key : keys.Key) (output : Output) → Steps who old new (Struck key) output → AreTaken who old new (Struck key ∷ []) [] [] output.leaving
+key-taken who old new key output s = one-taken who old new (Struck key) output [] [] refl s (sym (ap (λ o. drawn_bytes o.drawing) s.gives))
+
+pub drawing-taken : (who : ℕ) (old new : List Entry) (output : Output) (before out : List ℕ) → Steps who old new (Refresh true) output → out ≡ before ++ drawn_bytes output.drawing → AreTaken who old new (Refresh true ∷ []) before out false
+drawing-taken who old new output before out s b = subst (λ l. AreTaken who old new (Refresh true ∷ []) before out l) (ap (λ o. o.leaving) s.gives) (one-taken who old new (Refresh true) output before out refl s b)
 
 -- no event was taken yet
 pub none-taken : (who : ℕ) (old : List Entry) (before : List ℕ) → AreTaken who old old [] before before false
@@ -102,7 +105,7 @@ taken-more who a b c es fs x y z l m s t = record {
 }
 
 out-more : (why : Stop) (m n k j : ℕ) → k ≡ m + n → LeavesOut why n j → LeavesOut why k (m + j)
-out-more (stop.Refused f) m n k j e l = omega (arith, e, l)
+out-more stop.HistoryFull m n k j e l = omega (arith, e, l)
 out-more (stop.Broken at) m n k j e l = tt
 out-more stop.NoMemory m n k j e l = tt
 out-more stop.WriteFault m n k j e l = tt
@@ -122,7 +125,7 @@ cut-after who a b c es fs x y l why s t = record {
 }
 
 out-behind : (why : Stop) (n j k : ℕ) → LeavesOut why n j → LeavesOut why n (j + k)
-out-behind (stop.Refused f) n j k l = omega (arith, l)
+out-behind stop.HistoryFull n j k l = omega (arith, l)
 out-behind (stop.Broken at) n j k l = tt
 out-behind stop.NoMemory n j k l = tt
 out-behind stop.WriteFault n j k l = tt
@@ -136,9 +139,6 @@ cut-before who a b es fs why s = record {
   short = subst (λ n. LeavesOut why (length s.got) n) (sym (length-append es fs)) (out-behind why (length s.got) (length es) (length fs) s.short);
 }
 
-none-below : (i : ℕ) → i < 0 → ⊥
-none-below i lt = omega (arith, lt)
-
 key-next-at : (ks : List keys.Key) (i : ℕ) (d k : keys.Key) → i < length ks → get_or ks i d ≡ k → map (λ key. Struck key) (take (suc i) ks) ≡ map (λ key. Struck key) (take i ks) ++ Struck k ∷ []
 key-next-at [] i d k lt e = absurd (none-below i lt)
 key-next-at (x ∷ ks) zero d k lt e = ap (λ y. Struck y ∷ []) e
@@ -148,9 +148,6 @@ keys-from-at : (ks : List keys.Key) (i : ℕ) (d k : keys.Key) → i < length ks
 keys-from-at [] i d k lt e = absurd (none-below i lt)
 keys-from-at (x ∷ ks) zero d k lt e = ap (λ y. Struck y ∷ keys_played ks) e
 keys-from-at (x ∷ ks) (suc i) d k lt e = ap (λ r. Struck x ∷ r) (keys-from-at ks i d k (omega (arith, lt)) e)
-
-next : (i : ℕ) → suc i ≡ i + 1
-next i = omega arith
 
 -- the key at a place, behind the keys before it
 key-next : (ks : List keys.Key) (i : ℕ) (d k : keys.Key) → i < length ks → get_or ks i d ≡ k → map (λ key. Struck key) (take (i + 1) ks) ≡ map (λ key. Struck key) (take i ks) ++ Struck k ∷ []
@@ -176,21 +173,25 @@ pub draw-cut : (who now : ℕ) (a b c : List Entry) (ks : List keys.Key) (i : �
 draw-cut who now a b c ks i x y l why le same s t = subst (λ es. AreCut who a c es why) (sym (all-struck ks i le))
     (cut-after who a b c (map (λ key. Struck key) (take i ks)) (Refresh true ∷ []) x y l why s (subst (λ n. AreCut n b c (Refresh true ∷ []) why) same t))
 
+-- events that sent nothing, behind bytes that stand already
+taken-silent : (who : ℕ) (a b : List Entry) (es : List Event) (x : List ℕ) (l : Bool) → AreTaken who a b es [] [] l → AreTaken who a b es x x l
+taken-silent who a b es x l t = record {
+  got = t.got;
+  adds = t.adds;
+  events_are = t.events_are;
+  bytes = sym (append-nil x) ∙ ap (λ r. x ++ r) t.bytes;
+  leaving_is = t.leaving_is;
+}
+
 -- the keys were struck, and the client was drawn
-pub keys-taken : (who now : ℕ) (a b c : List Entry) (ks : List keys.Key) (i : ℕ) (x y z : List ℕ) (l m : Bool) → length ks ≤ i → now ≡ who
-    → AreTaken who a b (map (λ key. Struck key) (take i ks)) x y l → AreTaken now b c (Refresh true ∷ []) y z m → AreTaken who a c (keys_played ks) x z (l || m)
-keys-taken who now a b c ks i x y z l m le same s t = subst (λ es. AreTaken who a c es x z (l || m)) (sym (all-struck ks i le))
-    (taken-more who a b c (map (λ key. Struck key) (take i ks)) (Refresh true ∷ []) x y z l m s (subst (λ n. AreTaken n b c (Refresh true ∷ []) y z m) same t))
+pub keys-taken : (who now : ℕ) (a b c : List Entry) (ks : List keys.Key) (i : ℕ) (x y : List ℕ) (l : Bool) → length ks ≤ i → now ≡ who
+    → AreTaken who a b (map (λ key. Struck key) (take i ks)) [] [] l → AreTaken now b c (Refresh true ∷ []) x y false → AreTaken who a c (keys_played ks) x y l
+keys-taken who now a b c ks i x y l le same s t = subst (λ es. AreTaken who a c es x y l) (sym (all-struck ks i le))
+    (subst (λ m. AreTaken who a c (map (λ key. Struck key) (take i ks) ++ Refresh true ∷ []) x y m) (or-false l)
+    (taken-more who a b c (map (λ key. Struck key) (take i ks)) (Refresh true ∷ []) x x y l false (taken-silent who a b (map (λ key. Struck key) (take i ks)) x l s) (subst (λ n. AreTaken n b c (Refresh true ∷ []) x y false) same t)))
 
 -- one more key was struck
-pub struck-more : (who now : ℕ) (a b c : List Entry) (ks : List keys.Key) (i : ℕ) (d : keys.Key) (x y z : List ℕ) (l m : Bool) → i < length ks → now ≡ who
-    → AreTaken who a b (map (λ key. Struck key) (take i ks)) x y l → AreTaken now b c (Struck (get_or ks i d) ∷ []) y z m → AreTaken who a c (map (λ key. Struck key) (take (i + 1) ks)) x z (l || m)
-struck-more who now a b c ks i d x y z l m lt same s t = subst (λ es. AreTaken who a c es x z (l || m)) (sym (key-next ks i d (get_or ks i d) lt refl))
-    (taken-more who a b c (map (λ key. Struck key) (take i ks)) (Struck (get_or ks i d) ∷ []) x y z l m s (subst (λ n. AreTaken n b c (Struck (get_or ks i d) ∷ []) y z m) same t))
-
--- events were taken behind others
-pub both-taken : (who now : ℕ) (a b c : List Entry) (es fs : List Event) (x y z : List ℕ) (l m : Bool) → now ≡ who → AreTaken who a b es x y l → AreTaken now b c fs y z m → AreTaken who a c (es ++ fs) x z (l || m)
-both-taken who now a b c es fs x y z l m same s t = taken-more who a b c es fs x y z l m s (subst (λ n. AreTaken n b c fs y z m) same t)
-
-pub both-cut : (who now : ℕ) (a b c : List Entry) (es fs : List Event) (x y : List ℕ) (l : Bool) (why : Stop) → now ≡ who → AreTaken who a b es x y l → AreCut now b c fs why → AreCut who a c (es ++ fs) why
-both-cut who now a b c es fs x y l why same s t = cut-after who a b c es fs x y l why s (subst (λ n. AreCut n b c fs why) same t)
+pub struck-more : (who now : ℕ) (a b c : List Entry) (ks : List keys.Key) (i : ℕ) (d : keys.Key) (l m : Bool) → i < length ks → now ≡ who
+    → AreTaken who a b (map (λ key. Struck key) (take i ks)) [] [] l → AreTaken now b c (Struck (get_or ks i d) ∷ []) [] [] m → AreTaken who a c (map (λ key. Struck key) (take (i + 1) ks)) [] [] (l || m)
+struck-more who now a b c ks i d l m lt same s t = subst (λ es. AreTaken who a c es [] [] (l || m)) (sym (key-next ks i d (get_or ks i d) lt refl))
+    (taken-more who a b c (map (λ key. Struck key) (take i ks)) (Struck (get_or ks i d) ∷ []) [] [] [] l m s (subst (λ n. AreTaken n b c (Struck (get_or ks i d) ∷ []) [] [] m) same t))

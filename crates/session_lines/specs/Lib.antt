@@ -3,3 +3,4 @@ pub mod Stops
 pub mod Serving
 pub mod Sending
 pub mod Reading
+pub mod Connections

@@ -1,5 +1,5 @@
 -- What the reading of a connection's input did.
-use Rattle.std.specs.Prelude.{◌≡◌, ℕ, ◌<◌, List, [], map, length, ⊤, Ok, Err, IfSome}
+use Rattle.std.specs.Prelude.{◌≡◌, ℕ, List, [], map, length, ⊤, Ok, Err, IfSome}
 use Rattle.std.specs.declared.option.Option.{Option}
 use Rattle.std.specs.declared.result.Result.{Result}
 use Rattle.std.specs.Io.KnownBytes.{Consumes}
@@ -26,10 +26,11 @@ PartIs (Ok Left) part bytes = ⊤
 PartIs (Ok _) part bytes = part ≡ last_part [] bytes
 PartIs (Err stop) part bytes = ⊤
 
--- an input that ended is the bytes that were taken, where its bytes are told; one that is too long gave too many
+-- an input that ended is the bytes that were taken, where its bytes are told; one that is too long gave all that may
+-- be taken
 abbrev pub EndIs : Result Ending Stop → Option (List ℕ) → List ℕ → Type 0
 EndIs (Ok Ended) left bytes = IfSome left (λ input. input ≡ bytes)
-EndIs (Ok Full) left bytes = MAX_INPUT < length bytes
+EndIs (Ok Full) left bytes = length bytes ≡ MAX_INPUT
 EndIs _ left bytes = ⊤
 
 -- a read fault is told only where the count of the source's faults rose

@@ -1,5 +1,6 @@
 -- What a line plays and what it is answered, and what the entries of a session mean.
-use Rattle.std.specs.Prelude.{◌≡◌, ℕ, true, false, if◌then◌else◌, List, [], ◌∷◌, ◌++◌, map, None, Some, Ok, Err}
+use Rattle.std.specs.Prelude.{◌≡◌, ℕ, true, false, if◌then◌else◌, List, [], ◌∷◌, ◌++◌, map, ⊤, None, Some, Ok, Err}
+use Rattle.std.specs.List.{AllByRecursion}
 use Rattle.std.specs.declared.option.Option.{Option}
 use Rattle.std.specs.declared.result.Result.{Result}
 use Rattle.key_names.specs.declared.key.Key.{Key}
@@ -18,7 +19,9 @@ use Rattle.kak_engine.specs.declared.event.Event.TheVariants.{Join, Key as Struc
 use Rattle.kak_engine.specs.declared.event.Entry.{Entry}
 use Rattle.kak_engine.specs.declared.event.Output.{Output}
 use Rattle.kak_engine.specs.Steps.{after_entry, output_of, run}
-use Rattle.kak_engine.specs.Held.{entry_of, is_leave}
+use Rattle.kak_engine.specs.declared.engine.StepFault.{StepFault}
+use Rattle.kak_engine.specs.declared.engine.StepFault.TheVariants.{NoMemory, Broken}
+use Rattle.kak_engine.specs.Held.{entry_of, is_leave, refused_by as fault_of}
 
 -- the bytes of a drawing, if there is one
 abbrev pub drawn_bytes : Option Drawing → List ℕ
@@ -82,3 +85,14 @@ pub record Sees (who : ℕ) (old new : List Entry) : Type 0 where
   pub between : List Entry
   pub foreign : own rules who between ≡ []
   pub stands : new ≡ old ++ between
+
+-- Why an event was refused: the first reason that the entries seen give, where memory wasn't wanting, nor the session
+-- broken.
+abbrev pub Refuses : StepFault → ℕ → ℕ → List Entry → Event → Type 0
+Refuses NoMemory limit who seen event = ⊤
+Refuses (Broken at) limit who seen event = ⊤
+Refuses fault limit who seen event = fault_of seen limit who event ≡ Some fault
+
+-- each entry is that client's
+abbrev pub AreOf : ℕ → List Entry → Type 0
+AreOf who entries = AllByRecursion (λ entry. entry.who ≡ who) entries

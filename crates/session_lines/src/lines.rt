@@ -4,6 +4,7 @@ ghost use Rattle.std.specs.Prelude.{◌≡◌, ◌++◌, ◌∷◌, [], map, OnO
 ghost use Rattle.session_turns.specs.Lines.{whole_lines, last_part};
 ghost use Rattle.session_turns.specs.Turns.{Line};
 ghost use Rattle.session_lines.specs.Serving.{Serves, how_of, KeepsPart};
+ghost use Rattle.session_lines.specs.Stops.{IsIn, Stays, Causes};
 
 use crate::playing::Stop;
 use crate::seat::Seat;
@@ -29,9 +30,11 @@ pub fn play_bytes<S: Seat, K: Sink>(
     part: &mut Vec<u8>,
     bytes: &[u8],
 ) -> Result<bool, Stop>
-    ensures number { S.number seat.new ≡ S.number seat.old }
+    requires { IsIn (S.number seat.old) (S.seen seat.old) }
+    ensures stays { Stays (S.number seat.old) (S.limit seat.old) (S.number seat.new) (S.limit seat.new) (S.seen seat.new) }
     ensures serves { Serves (S.number seat.old) (S.seen seat.old) (S.seen seat.new) (K.told sink.old) (K.told sink.new) (how_of result) (map (λ line. Line line) (whole_lines part.old.items bytes.now)) }
     ensures part { KeepsPart result part.new.items (last_part part.old.items bytes.now) }
+    ensures cause { Causes result (S.limit seat.old) (S.seen seat.new) (K.faults sink.old) (K.faults sink.new) }
 {
     for &byte in bytes {
         if byte != b'\n' {

@@ -1,42 +1,29 @@
-//! Events, played over a seat.
+//! Events of a client that is joined, played over a seat.
 
-ghost use Rattle.std.specs.Prelude.{◌≡◌, ◌++◌, ◌∷◌, [], true, false, OnOk};
-ghost use Rattle.kak_engine.specs.declared.event.Event.TheVariants.{Join, Refresh};
-ghost use Rattle.kak_engine.specs.Held.{is_leave};
-ghost use Rattle.session_lines.specs.Session.{drawn_bytes, keys_played};
-ghost use Rattle.session_lines.specs.Serving.{Takes};
+ghost use Rattle.std.specs.Prelude.{◌≡◌, ◌++◌, ◌∷◌, [], true, false, IfOk, IfErr, OnOk, OnErr};
+ghost use Rattle.kak_engine.specs.declared.event.Event.TheVariants.{Key as Struck};
+ghost use Rattle.kak_engine.specs.Held.{is_join, is_leave};
+ghost use Rattle.session_lines.specs.Session.{Steps, Sees, drawn_bytes, keys_played};
+ghost use Rattle.session_lines.specs.Serving.{Takes, TakesDrawing, Leaves};
+ghost use Rattle.session_lines.specs.Stops.{IsIn, Stays, Stops, IsLoss};
 
 use crate::seat::Seat;
 use json_ui::{Drawing, encode_drawing};
-use kak_engine::{Event, StepFault};
+use kak_engine::{Event, Output, StepFault};
 use key_names::Key;
 use std::alloc::{AllocError, Global};
 
 /// Why playing stopped before its end.
 #[derive(Clone, Copy, PartialEq, Eq, Debug)]
 pub enum Stop {
-    /// An event was refused; nothing was sent for its turn.
-    Refused(StepFault),
-    /// The session is broken.
+    /// The history takes no further entry; nothing was sent for the turn.
+    HistoryFull,
+    /// The session is broken since so many entries stood.
     Broken(u64),
     /// Memory ran out.
     NoMemory,
     /// A write failed; some of the turn's bytes may have been sent.
     WriteFault,
-}
-
-impl From<StepFault> for Stop {
-    ghost use Rattle.session_lines.specs.Stops.{stop_of};
-
-    ghost from_gives = { λ fault stop. stop ≡ stop_of fault };
-
-    fn from(fault: StepFault) -> Stop {
-        match fault {
-            StepFault::NoMemory => Stop::NoMemory,
-            StepFault::Broken(at) => Stop::Broken(at),
-            other => Stop::Refused(other),
-        }
-    }
 }
 
 impl From<AllocError> for Stop {
@@ -46,6 +33,29 @@ impl From<AllocError> for Stop {
 
     fn from(_error: AllocError) -> Stop {
         Stop::NoMemory
+    }
+}
+
+// Takes an event of a client that is joined: a full history alone refuses it, and leaving is never refused.
+fn take<S: Seat>(alloc: Global, seat: &mut S, event: Event) -> Result<Output, Stop>
+    requires joined { IsIn (S.number seat.old) (S.seen seat.old) }
+    requires joins_no_more { is_join event ≡ false }
+    ensures number { S.number seat.new ≡ S.number seat.old }
+    ensures limit { S.limit seat.new ≡ S.limit seat.old }
+    ensures joined { is_leave event ≡ false → IsIn (S.number seat.old) (S.seen seat.new) }
+    ensures ok { IfOk result (λ output. Steps (S.number seat.old) (S.seen seat.old) (S.seen seat.new) event output) }
+    ensures err { OnErr result (Sees (S.number seat.old) (S.seen seat.old) (S.seen seat.new)) }
+    ensures stops { is_leave event ≡ false → Stops result (S.limit seat.old) (S.seen seat.new) }
+    ensures leaves { is_leave event ≡ true → IfErr result IsLoss }
+{
+    match seat.step(alloc, event) {
+        Ok(output) => Ok(output),
+        Err(StepFault::HistoryFull) => Err(Stop::HistoryFull),
+        Err(StepFault::Broken(at)) => Err(Stop::Broken(at)),
+        Err(StepFault::NoMemory) => Err(Stop::NoMemory),
+        Err(StepFault::NoClient(_)) => unreachable!(),
+        Err(StepFault::Joined(_)) => unreachable!(),
+        Err(StepFault::Full) => unreachable!(),
     }
 }
 
@@ -59,46 +69,57 @@ fn add_drawing(drawing: &Option<Drawing>, out: &mut Vec<u8>) -> Result<(), Alloc
     }
 }
 
-/// Takes one event, adds the bytes of its drawing, if it has one, and tells whether the client may leave by it.
-pub fn take_event<S: Seat>(
-    alloc: Global,
-    seat: &mut S,
-    event: Event,
-    out: &mut Vec<u8>,
-) -> Result<bool, Stop>
-    requires { is_leave event ≡ false }
-    ensures number { S.number seat.new ≡ S.number seat.old }
-    ensures takes { Takes (S.number seat.old) (S.seen seat.old) (S.seen seat.new) (event ∷ []) out.old.items out.new.items result }
+// Strikes a key, which gives no drawing. Tells whether the client may leave by it.
+fn strike<S: Seat>(alloc: Global, seat: &mut S, key: Key) -> Result<bool, Stop>
+    requires { IsIn (S.number seat.old) (S.seen seat.old) }
+    ensures stays { Stays (S.number seat.old) (S.limit seat.old) (S.number seat.new) (S.limit seat.new) (S.seen seat.new) }
+    ensures takes { Takes (S.number seat.old) (S.seen seat.old) (S.seen seat.new) (Struck key ∷ []) [] [] result }
+    ensures stops { Stops result (S.limit seat.old) (S.seen seat.new) }
 {
-    let output = seat.step(alloc, event)?;
-    add_drawing(&output.drawing, out)?;
+    let output = take(alloc, seat, Event::Key(key))?;
     Ok(output.leaving)
 }
 
-/// Strikes keys and draws the client; the bytes of the drawing are added.
+/// Draws the client; the bytes of the drawing are added.
+pub fn play_drawing<S: Seat>(alloc: Global, seat: &mut S, out: &mut Vec<u8>) -> Result<(), Stop>
+    requires { IsIn (S.number seat.old) (S.seen seat.old) }
+    ensures stays { Stays (S.number seat.old) (S.limit seat.old) (S.number seat.new) (S.limit seat.new) (S.seen seat.new) }
+    ensures takes { TakesDrawing (S.number seat.old) (S.seen seat.old) (S.seen seat.new) out.old.items out.new.items result }
+    ensures stops { Stops result (S.limit seat.old) (S.seen seat.new) }
+{
+    let output = take(alloc, seat, Event::Refresh(true))?;
+    add_drawing(&output.drawing, out)?;
+    Ok(())
+}
+
+/// Strikes keys and draws the client; the bytes of the drawing are added. Tells whether the client may leave.
 pub fn play_keys<S: Seat>(
     alloc: Global,
     seat: &mut S,
     keys: &[Key],
     out: &mut Vec<u8>,
 ) -> Result<bool, Stop>
-    ensures number { S.number seat.new ≡ S.number seat.old }
+    requires { IsIn (S.number seat.old) (S.seen seat.old) }
+    ensures stays { Stays (S.number seat.old) (S.limit seat.old) (S.number seat.new) (S.limit seat.new) (S.seen seat.new) }
     ensures takes { Takes (S.number seat.old) (S.seen seat.old) (S.seen seat.new) (keys_played keys.now) out.old.items out.new.items result }
+    ensures stops { Stops result (S.limit seat.old) (S.seen seat.new) }
 {
     let mut leaving = false;
     for &key in keys {
-        leaving |= take_event(alloc, seat, Event::Key(key), out)?;
+        leaving |= strike(alloc, seat, key)?;
     }
-    leaving |= take_event(alloc, seat, Event::Refresh(true), out)?;
+    play_drawing(alloc, seat, out)?;
     Ok(leaving)
 }
 
-/// Lets the client join and draws it; the bytes of the drawing are added.
-pub fn play_opening<S: Seat>(alloc: Global, seat: &mut S, out: &mut Vec<u8>) -> Result<bool, Stop>
+/// Lets the client go.
+pub fn leave<S: Seat>(alloc: Global, seat: &mut S) -> Result<(), Stop>
+    requires { IsIn (S.number seat.old) (S.seen seat.old) }
     ensures number { S.number seat.new ≡ S.number seat.old }
-    ensures takes { Takes (S.number seat.old) (S.seen seat.old) (S.seen seat.new) (Join ∷ Refresh true ∷ []) out.old.items out.new.items result }
+    ensures leaves { Leaves (S.number seat.old) (S.seen seat.old) (S.seen seat.new) result }
 {
-    let early = take_event(alloc, seat, Event::Join, out)?;
-    let late = take_event(alloc, seat, Event::Refresh(true), out)?;
-    Ok(early | late)
+    match take(alloc, seat, Event::Leave) {
+        Ok(_output) => Ok(()),
+        Err(stop) => Err(stop),
+    }
 }

@@ -2,6 +2,8 @@
 
 ghost use Rattle.std.specs.Prelude.{◌≡◌, ◌<◌, ◌≤◌, [], length, take};
 ghost use Rattle.session_lines.specs.Reading.{Reads, FaultIs};
+ghost use Rattle.session_lines.specs.Stops.{IsIn, Stays, Causes};
+ghost use Rattle.kak_ports.specs.Ports.{Takes, TakeIsCounted};
 
 use crate::lines::play_bytes;
 use crate::playing::Stop;
@@ -9,7 +11,7 @@ use crate::seat::Seat;
 use kak_ports::{Sink, Source, Took};
 use std::alloc::Global;
 
-/// How many bytes of input are taken at most, but for those of the last piece: 2^30.
+/// How many bytes of input are taken at most: 2^30.
 pub const MAX_INPUT: u64 = 1_073_741_824;
 
 /// How the reading of an input ended.
@@ -21,8 +23,19 @@ pub enum Ending {
     Ended,
     /// The input failed.
     ReadFault,
-    /// The input has more bytes than are taken.
+    /// All bytes that may be taken were taken, and the input hadn't ended before.
     Full,
+}
+
+// Takes the next bytes of an input into the front of a piece, at most so many.
+fn take_front<I: Source>(source: &mut I, piece: &mut [u8], room: usize) -> Took
+    requires some { 0 < room }
+    requires inside { room ≤ length piece.old }
+    ensures takes { Takes result (I.left source.old) (I.left source.new) (take room piece.new) }
+    ensures counted { TakeIsCounted result (I.faults source.old) (I.faults source.new) }
+    ensures size { length piece.new ≡ length piece.old }
+{
+    source.take(&mut piece[..room])
 }
 
 /// Reads an input piece by piece and plays the lines that are completed. Where the client stays and nothing stopped,
@@ -35,15 +48,18 @@ pub fn play_source<S: Seat, I: Source, K: Sink>(
     out: &mut Vec<u8>,
     part: &mut Vec<u8>,
 ) -> Result<Ending, Stop>
-    requires { part.old.items ≡ [] }
-    ensures number { S.number seat.new ≡ S.number seat.old }
+    requires joined { IsIn (S.number seat.old) (S.seen seat.old) }
+    requires part { part.old.items ≡ [] }
+    ensures stays { Stays (S.number seat.old) (S.limit seat.old) (S.number seat.new) (S.limit seat.new) (S.seen seat.new) }
     ensures reads { Reads (S.number seat.old) (S.seen seat.old) (S.seen seat.new) (K.told sink.old) (K.told sink.new) (I.left source.old) (I.left source.new) result part.new.items }
     ensures fault { FaultIs result (I.faults source.old) (I.faults source.new) }
+    ensures cause { Causes result (S.limit seat.old) (S.seen seat.new) (K.faults sink.old) (K.faults sink.new) }
 {
     let mut piece = [0; 4096];
     let mut taken: u64 = 0;
-    while taken <= MAX_INPUT {
-        match source.take(&mut piece) {
+    while taken < MAX_INPUT {
+        let room = (MAX_INPUT - taken).min(4096) as usize;
+        match take_front(source, &mut piece, room) {
             Took::Got(count) => {
                 taken += count as u64;
                 if play_bytes(alloc, seat, sink, out, part, &piece[..count])? {

@@ -2,12 +2,15 @@
 
 ghost use Rattle.std.specs.Prelude.{◌≡◌, ◌∷◌, [], Err};
 ghost use Rattle.json_ui.specs.Requests.{read_request};
+ghost use Rattle.session_turns.specs.Histories.{own};
 ghost use Rattle.session_turns.specs.Turns.{Line, Opens};
-ghost use Rattle.session_lines.specs.Session.{keys_played, played_by, refused_by};
-ghost use Rattle.session_lines.specs.Serving.{Serves, how_of};
-ghost use Rattle.session_lines.specs.Sending.{Sends};
+ghost use Rattle.kak_engine.specs.declared.event.Event.TheVariants.{Join};
+ghost use Rattle.session_lines.specs.Session.{rules, keys_played, played_by, refused_by};
+ghost use Rattle.session_lines.specs.Serving.{Serves, how_of, how_opened};
+ghost use Rattle.session_lines.specs.Sending.{Sends, Counts};
+ghost use Rattle.session_lines.specs.Stops.{IsIn, Stays, Causes};
 
-use crate::playing::{Stop, play_keys, play_opening};
+use crate::playing::{Stop, play_drawing, play_keys};
 use crate::seat::Seat;
 use json_ui::{LineError, Refusal, Request, decode_line, encode_refusal};
 use kak_ports::{Put, Sink};
@@ -16,7 +19,8 @@ use std::alloc::Global;
 
 // Sends bytes.
 fn send<K: Sink>(sink: &mut K, bytes: &[u8]) -> Result<(), Stop>
-    ensures { Sends result (K.told sink.old) (K.told sink.new) bytes.now }
+    ensures sends { Sends result (K.told sink.old) (K.told sink.new) bytes.now }
+    ensures counted { Counts result (K.faults sink.old) (K.faults sink.new) }
 {
     match sink.put(bytes) {
         Put::Done => Ok(()),
@@ -34,6 +38,7 @@ fn refuse_line<S: Seat, K: Sink>(
 ) -> Result<bool, Stop>
     requires refused { read_request line.now ≡ Err refusal }
     ensures serves { Serves (S.number seat.now) (S.seen seat.now) (S.seen seat.now) (K.told sink.old) (K.told sink.new) (how_of result) (Line line.now ∷ []) }
+    ensures cause { Causes result (S.limit seat.now) (S.seen seat.now) (K.faults sink.old) (K.faults sink.new) }
 {
     out.clear();
     encode_refusal(refusal, out)?;
@@ -50,10 +55,12 @@ fn play_keys_line<S: Seat, K: Sink>(
     line: &[u8],
     keys: &[Key],
 ) -> Result<bool, Stop>
+    requires joined { IsIn (S.number seat.old) (S.seen seat.old) }
     requires asked { played_by (read_request line.now) ≡ keys_played keys.now }
     requires accepted { refused_by (read_request line.now) ≡ [] }
-    ensures number { S.number seat.new ≡ S.number seat.old }
+    ensures stays { Stays (S.number seat.old) (S.limit seat.old) (S.number seat.new) (S.limit seat.new) (S.seen seat.new) }
     ensures serves { Serves (S.number seat.old) (S.seen seat.old) (S.seen seat.new) (K.told sink.old) (K.told sink.new) (how_of result) (Line line.now ∷ []) }
+    ensures cause { Causes result (S.limit seat.old) (S.seen seat.new) (K.faults sink.old) (K.faults sink.new) }
 {
     out.clear();
     let leaving = play_keys(alloc, seat, keys, out)?;
@@ -69,8 +76,10 @@ pub fn play_line<S: Seat, K: Sink>(
     out: &mut Vec<u8>,
     line: &[u8],
 ) -> Result<bool, Stop>
-    ensures number { S.number seat.new ≡ S.number seat.old }
+    requires { IsIn (S.number seat.old) (S.seen seat.old) }
+    ensures stays { Stays (S.number seat.old) (S.limit seat.old) (S.number seat.new) (S.limit seat.new) (S.seen seat.new) }
     ensures serves { Serves (S.number seat.old) (S.seen seat.old) (S.seen seat.new) (K.told sink.old) (K.told sink.new) (how_of result) (Line line.now ∷ []) }
+    ensures cause { Causes result (S.limit seat.old) (S.seen seat.new) (K.faults sink.old) (K.faults sink.new) }
 {
     match decode_line(alloc, line) {
         Ok(Request::Nothing) => Ok(false),
@@ -80,18 +89,20 @@ pub fn play_line<S: Seat, K: Sink>(
     }
 }
 
-/// Opens a connection: its client joins, and its first drawing is sent.
+/// Opens a connection whose client has joined: its first drawing is sent.
 pub fn open<S: Seat, K: Sink>(
     alloc: Global,
     seat: &mut S,
     sink: &mut K,
     out: &mut Vec<u8>,
-) -> Result<bool, Stop>
-    ensures number { S.number seat.new ≡ S.number seat.old }
-    ensures serves { Serves (S.number seat.old) (S.seen seat.old) (S.seen seat.new) (K.told sink.old) (K.told sink.new) (how_of result) (Opens ∷ []) }
+) -> Result<(), Stop>
+    requires joined { IsIn (S.number seat.old) (S.seen seat.old) }
+    requires new { own rules (S.number seat.old) (S.seen seat.old) ≡ Join ∷ [] }
+    ensures stays { Stays (S.number seat.old) (S.limit seat.old) (S.number seat.new) (S.limit seat.new) (S.seen seat.new) }
+    ensures serves { Serves (S.number seat.old) [] (S.seen seat.new) (K.told sink.old) (K.told sink.new) (how_opened result) (Opens ∷ []) }
+    ensures cause { Causes result (S.limit seat.old) (S.seen seat.new) (K.faults sink.old) (K.faults sink.new) }
 {
     out.clear();
-    let leaving = play_opening(alloc, seat, out)?;
-    send(sink, out.as_slice())?;
-    Ok(leaving)
+    play_drawing(alloc, seat, out)?;
+    send(sink, out.as_slice())
 }

@@ -11,4 +11,4 @@ returns-in_err-leaving-clause-serves g c =
 pub returns-in_err-send-clause-serves : goal.returns-in_err-send-clause-serves
 returns-in_err-send-clause-serves g c =
     let p = err_from_is_err_and c.from_residual-in_err-send.result c.from_residual-in_err-send.ensures.1 in
-    rw (p.1, p.2) (serves-failed _ _ _ _ _ (Line c.args.line.now) _ c.clear.new.self.items _ _ _ _ c.in_ok-leaving.ensures.takes c.requires.asked c.clear.ensures.items c.requires.accepted c.as_slice.ensures.value c.in_err-send.ensures)
+    rw (p.1, p.2) (serves-failed _ _ _ _ _ (Line c.args.line.now) _ c.clear.new.self.items _ _ _ _ c.in_ok-leaving.ensures.takes c.requires.asked c.clear.ensures.items c.requires.accepted c.as_slice.ensures.value c.in_err-send.ensures.sends)

@@ -1,0 +1,9 @@
+//! The whole of the program for one client: `kak -ui json`.
+#![tactic(auto)]
+
+pub mod program;
+
+pub use program::{MAX_ENTRIES, Status, run};
+
+#[cfg(test)]
+mod tests;
