@@ -1,2 +1,5 @@
 pub mod VerticalLemmas
 pub mod StepLemmas
+pub mod NearestLemmas
+pub mod WordLemmas
+pub mod EndLemmas

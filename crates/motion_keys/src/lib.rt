@@ -3,5 +3,11 @@
 
 pub mod laws;
 pub mod moves;
+pub mod word_laws;
+pub mod words;
 
 pub use moves::{step, vertical};
+pub use words::{WordMove, word};
+
+#[cfg(test)]
+mod word_tests;
