@@ -16,6 +16,16 @@ use Rattle.kak_app.specs.declared.program.TheConstants.{MAX_ENTRIES}
 use Rattle.kak_app.specs.declared.program.Status.{Status}
 use Rattle.kak_app.specs.declared.program.Status.TheVariants.{Done, Usage, ReadFault, WriteFault, NoMemory, HistoryFull, InputFull}
 
+-- the status with which the process ends
+abbrev pub code_of : Status → ℕ
+code_of Done = 0
+code_of Usage = 1
+code_of ReadFault = 2
+code_of WriteFault = 3
+code_of NoMemory = 4
+code_of HistoryFull = 5
+code_of InputFull = 6
+
 -- the words of the program
 abbrev pub ui_json : List (List ℕ)
 ui_json = codes "-ui" ∷ codes "json" ∷ []

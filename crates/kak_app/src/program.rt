@@ -1,7 +1,7 @@
 //! The run of the program: one client, from its first drawing to its leaving.
 
 ghost use Rattle.std.specs.Prelude.{◌≡◌, map, string_bytes, IsTrue, false};
-ghost use Rattle.kak_app.specs.Runs.{Ran, ui_json, Answers};
+ghost use Rattle.kak_app.specs.Runs.{Ran, code_of, ui_json, Answers};
 ghost use Rattle.session_lines.specs.Reading.{FaultIs};
 
 use kak_ports::{Sink, Source};
@@ -32,7 +32,9 @@ pub enum Status {
 
 impl Status {
     /// The status with which the process ends.
-    pub fn code(self) -> u8 {
+    pub fn code(self) -> u8
+        ensures { result ≡ code_of self }
+    {
         match self {
             Status::Done => 0,
             Status::Usage => 1,
