@@ -2,3 +2,4 @@ pub mod Lists
 pub mod TurnLemmas
 pub mod HistoryLemmas
 pub mod Ends
+pub mod LineLemmas

@@ -3,5 +3,6 @@
 //! which one.
 #![tactic(auto)]
 
+pub mod cutting;
 pub mod examples;
 pub mod growth;
