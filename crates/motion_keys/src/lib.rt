@@ -1,7 +1,16 @@
 //! The motions of selections: each call gives where a motion leads, or nothing where it finds no place.
 #![tactic(auto)]
 
+mod bracket_kinds;
+pub mod bracket_moves;
+pub mod char_moves;
+pub mod jump_laws;
 pub mod laws;
 pub mod moves;
 
+pub use bracket_moves::bracket;
+pub use char_moves::to_char;
 pub use moves::{step, vertical};
+
+#[cfg(test)]
+mod jump_tests;

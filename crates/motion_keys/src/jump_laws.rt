@@ -1,0 +1,19 @@
+//! Worked examples of the motions that search, and that what their definitions find is the least and the greatest.
+
+ghost use Rattle.motion_keys.specs.Extremes.{ExtremesAreFound};
+ghost use Rattle.motion_keys.specs.JumpExamples.{CharExamples, BracketExamples};
+
+/// Worked examples of moves to a character.
+pub fn char_examples()
+    ensures { CharExamples }
+{}
+
+/// Worked examples of moves to a bracket.
+pub fn bracket_examples()
+    ensures { BracketExamples }
+{}
+
+/// What is found is the least or the greatest that passes the test, and none is found only where none passes.
+pub fn extremes_are_found()
+    ensures { ExtremesAreFound }
+{}
