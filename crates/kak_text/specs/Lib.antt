@@ -1,0 +1,4 @@
+pub mod Classes
+pub mod Cells
+pub mod Bytes
+pub mod Examples

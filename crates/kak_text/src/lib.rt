@@ -2,12 +2,23 @@
 //! coordinates of the model and the limits.
 #![tactic(auto)]
 
+pub mod bytes;
 pub mod chars;
+pub mod classes;
+pub mod classing;
+pub mod examples;
 pub mod text;
+pub mod widths;
 
+pub use bytes::{byte_column, char_column};
 pub use chars::Chars;
+pub use classes::Class;
+pub use classing::class;
 pub use text::{Text, TextError};
 pub use text_model::{Coord, MAX_CHARS, MAX_SELECTIONS, Shift};
+pub use widths::{MAX_TABSTOP, cells};
 
+#[cfg(test)]
+mod character_tests;
 #[cfg(test)]
 mod tests;

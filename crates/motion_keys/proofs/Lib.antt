@@ -4,3 +4,6 @@ pub mod ExtremeLemmas
 pub mod SearchLemmas
 pub mod DepthLemmas
 pub mod LineLemmas
+pub mod NearestLemmas
+pub mod WordLemmas
+pub mod EndLemmas

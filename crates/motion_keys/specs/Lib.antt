@@ -1,5 +1,9 @@
 pub mod Motions
 pub mod Places
+pub mod Nearest
+pub mod Words
+pub mod WordExamples
+pub mod WordLaws
 pub mod Examples
 pub mod Extremes
 pub mod Jumps

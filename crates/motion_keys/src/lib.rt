@@ -7,10 +7,15 @@ pub mod char_moves;
 pub mod jump_laws;
 pub mod laws;
 pub mod moves;
+pub mod word_laws;
+pub mod words;
 
 pub use bracket_moves::bracket;
 pub use char_moves::to_char;
 pub use moves::{step, vertical};
+pub use words::{WordMove, word};
 
 #[cfg(test)]
 mod jump_tests;
+#[cfg(test)]
+mod word_tests;

@@ -1,3 +1,4 @@
 pub mod View
 pub mod Views
+pub mod Holding
 pub mod Examples

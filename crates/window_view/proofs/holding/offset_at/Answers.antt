@@ -1,0 +1,19 @@
+use Rattle.std.proofs.Common.{◌+◌, arith}
+use Rattle.window_view.proofs.HoldingLemmas.{next_column, holds, none_behind}
+use Rattle.window_view.proofs.holding.offset_at.Goals as goal
+
+pub returns-then-cell-end-clause-holds : goal.returns-then-cell-end-clause-holds
+returns-then-cell-end-clause-holds c =
+    holds c.args.line.now c.loop-i.i c.args.tabstop c.loop-i.at (c.loop-i.at + c.cells.result) c.args.cell c.loop-i-test.true c.loop-i.invariant.column_is
+    (next_column c.args.line.now c.loop-i.i c.args.tabstop c.loop-i.at c.index-line-i.result c.cells.result c.loop-i-test.true c.index-line-i.is c.loop-i.invariant.column_is c.cells.ensures.value)
+    c.loop-i.invariant.before c.if-cell-end.true
+
+pub loop-i-preserved : goal.loop-i-preserved
+loop-i-preserved c = record {
+  column_is = next_column c.args.line.now c.loop-i.i c.args.tabstop c.loop-i.at c.index-line-i.result c.cells.result c.loop-i-test.true c.index-line-i.is c.loop-i.invariant.column_is c.cells.ensures.value;
+  small = omega arith;
+  before = c.if-cell-end.false;
+}
+
+pub returns-clause-none : goal.returns-clause-none
+returns-clause-none c = λ _ n. none_behind c.args.line.now c.args.tabstop c.args.cell c.loop-i.at c.loop-i.i c.loop-i.invariant.column_is c.loop-i.invariant.before c.loop-i-test.false n
