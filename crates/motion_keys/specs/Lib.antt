@@ -8,3 +8,5 @@ pub mod Examples
 pub mod Extremes
 pub mod Jumps
 pub mod JumpExamples
+pub mod Landmarks
+pub mod LandmarkExamples

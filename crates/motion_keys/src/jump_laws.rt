@@ -2,6 +2,7 @@
 
 ghost use Rattle.motion_keys.specs.Extremes.{ExtremesAreFound};
 ghost use Rattle.motion_keys.specs.JumpExamples.{CharExamples, BracketExamples};
+ghost use Rattle.motion_keys.specs.LandmarkExamples.{LandmarkExamples};
 
 /// Worked examples of moves to a character.
 pub fn char_examples()
@@ -11,6 +12,11 @@ pub fn char_examples()
 /// Worked examples of moves to a bracket.
 pub fn bracket_examples()
     ensures { BracketExamples }
+{}
+
+/// Worked examples of places that have a name.
+pub fn landmark_examples()
+    ensures { LandmarkExamples }
 {}
 
 /// What is found is the least or the greatest that passes the test, and none is found only where none passes.
