@@ -1,7 +1,6 @@
--- Worked examples of the places that have a name. Those that ask for a character's class are given as what follows where
--- it is known.
+-- Worked examples of the places that have a name, which hold by computation.
 use Rattle.std.specs.Prelude.{◌≡◌, ℕ, Some, codes}
-use Rattle.motion_keys.specs.declared.landmarks.Place.TheVariants.{First, LastLine, Last, LineStart, LineEnd, WindowTop, WindowMiddle, WindowBottom, Line}
+use Rattle.motion_keys.specs.declared.landmarks.Place.TheVariants.{First, LastLine, Last, LineStart, LineEnd, NonBlank, WindowTop, WindowMiddle, WindowBottom, Line}
 use Rattle.motion_keys.specs.declared.landmarks.View.{View}
 use Rattle.motion_keys.specs.Landmarks.{landmark}
 
@@ -23,3 +22,10 @@ pub record LandmarkExamples : Type 0 where
   pub of_a_window_of_one_row : landmark (codes "a\nb\nc\n") 0 (view 1 1) WindowBottom ≡ Some 2
   pub a_line : landmark (codes "a\nb\n") 0 (view 0 9) (Line 1) ≡ Some 2
   pub a_line_beyond_the_last : landmark (codes "a\nb\n") 0 (view 0 9) (Line 9) ≡ Some 2
+
+-- the first character of a line that is no blank
+pub record NonBlankExamples : Type 0 where
+  pub behind_blanks : landmark (codes " \tab\n") 3 (view 0 9) NonBlank ≡ Some 2
+  pub without_blanks : landmark (codes "a\nbc\n") 3 (view 0 9) NonBlank ≡ Some 2
+  pub blanks_alone : landmark (codes "a\n  \n") 2 (view 0 9) NonBlank ≡ Some 4
+  pub an_empty_line : landmark (codes "a\n\n b\n") 2 (view 0 9) NonBlank ≡ Some 2
