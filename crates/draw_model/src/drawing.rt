@@ -20,6 +20,7 @@ fn cursor_at(world: &World, who: u32) -> Coord
     ensures value { result ≡ main_cursor (text_of who world.now.flat) (sels_of who world.now.flat) }
     ensures small { result.column + 1 < 2 ^ 32 }
 {
+    // its contract bounds the text, and with it the column
     let _stored = world.lines(who).len();
     world.sel(who).cursor()
 }

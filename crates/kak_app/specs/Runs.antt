@@ -7,8 +7,8 @@ use Rattle.kak_ports.specs.Ports.{Rose}
 use Rattle.kak_engine.specs.declared.event.Entry.{Entry}
 use Rattle.session_lines.specs.declared.playing.Stop.{Stop}
 use Rattle.session_lines.specs.declared.playing.Stop.TheVariants as stop
-use Rattle.session_lines.specs.declared.reading.Ending.{Ending}
-use Rattle.session_lines.specs.declared.reading.Ending.TheVariants as ending
+use Rattle.session_lines.specs.declared.reading.InputEnd.{InputEnd}
+use Rattle.session_lines.specs.declared.reading.InputEnd.TheVariants as ending
 use Rattle.session_lines.specs.Session.{AreOf}
 use Rattle.session_lines.specs.Stops.{Causes}
 use Rattle.session_lines.specs.Connections.{WasServed}
@@ -33,7 +33,7 @@ ui_json = codes "-ui" ∷ codes "json" ∷ []
 -- Client 0 was served: there is a history, with no entry of anybody else, and what was read, what stands in that
 -- history and what was written belong together as they do at the end of a connection. A full history has as many
 -- entries as it may have, and a failed write was counted by the output.
-pub record Ran (result : Result Ending Stop) (left rest before now : Option (List ℕ)) (faults_before faults_now : ℕ) : Type 0 where
+pub record Ran (result : Result InputEnd Stop) (left rest before now : Option (List ℕ)) (faults_before faults_now : ℕ) : Type 0 where
   pub history : List Entry
   pub alone : AreOf 0 history
   pub served : WasServed 0 history before now left rest result

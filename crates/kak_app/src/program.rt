@@ -5,7 +5,7 @@ ghost use Rattle.kak_app.specs.Runs.{Ran, code_of, ui_json, Answers};
 ghost use Rattle.session_lines.specs.Reading.{FaultIs};
 
 use kak_ports::{Sink, Source};
-use session_lines::{Ending, LoneSeat, Stop, serve};
+use session_lines::{InputEnd, LoneSeat, Stop, serve};
 use std::alloc::Global;
 
 /// How many entries the history may have, the leaving aside.
@@ -63,7 +63,7 @@ fn serve_client<I: Source, K: Sink>(
     alloc: Global,
     input: &mut I,
     output: &mut K,
-) -> Result<Ending, Stop>
+) -> Result<InputEnd, Stop>
     ensures ran { Ran result (I.left input.old) (I.left input.new) (K.told output.old) (K.told output.new) (K.faults output.old) (K.faults output.new) }
     ensures fault { FaultIs result (I.faults input.old) (I.faults input.new) }
 {
@@ -87,10 +87,10 @@ pub fn run<I: Source, K: Sink>(
         return Status::Usage;
     }
     match serve_client(alloc, input, output) {
-        Ok(Ending::Left) => Status::Done,
-        Ok(Ending::Ended) => Status::Done,
-        Ok(Ending::ReadFault) => Status::ReadFault,
-        Ok(Ending::Full) => Status::InputFull,
+        Ok(InputEnd::Left) => Status::Done,
+        Ok(InputEnd::Ended) => Status::Done,
+        Ok(InputEnd::ReadFault) => Status::ReadFault,
+        Ok(InputEnd::Full) => Status::InputFull,
         Err(Stop::HistoryFull) => Status::HistoryFull,
         Err(Stop::WriteFault) => Status::WriteFault,
         Err(Stop::Broken(_)) => Status::NoMemory,

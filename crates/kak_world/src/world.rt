@@ -37,6 +37,7 @@ fn first_character(lines: &Lines) -> Sel
     ensures inside { IsInside lines.now result }
     ensures first { range_of lines.now result ≡ only 0 }
 {
+    // its contract says that a text has a first character
     let _stored = lines.len();
     Sel::only(Coord { line: 0, column: 0 })
 }

@@ -4,3 +4,5 @@ pub mod SettledLemmas
 pub mod SortLemmas
 pub mod UniqueLemmas
 pub mod MoveLemmas
+pub mod EmbedLemmas
+pub mod ReorderLemmas

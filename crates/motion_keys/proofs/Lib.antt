@@ -1,5 +1,9 @@
 pub mod VerticalLemmas
 pub mod StepLemmas
+pub mod ExtremeLemmas
+pub mod SearchLemmas
+pub mod DepthLemmas
+pub mod LineLemmas
 pub mod NearestLemmas
 pub mod WordLemmas
 pub mod EndLemmas

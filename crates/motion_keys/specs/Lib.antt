@@ -5,3 +5,8 @@ pub mod Words
 pub mod WordExamples
 pub mod WordLaws
 pub mod Examples
+pub mod Extremes
+pub mod Jumps
+pub mod JumpExamples
+pub mod Landmarks
+pub mod LandmarkExamples

@@ -1,13 +1,27 @@
 //! The motions of selections: each call gives where a motion leads, or nothing where it finds no place.
 #![tactic(auto)]
 
+mod bracket_kinds;
+pub mod bracket_moves;
+pub mod char_moves;
+pub mod jump_laws;
+pub mod landmarks;
 pub mod laws;
 pub mod moves;
+pub mod place_moves;
 pub mod word_laws;
 pub mod words;
 
+pub use bracket_moves::bracket;
+pub use char_moves::to_char;
+pub use landmarks::{Place, View};
 pub use moves::{step, vertical};
+pub use place_moves::place;
 pub use words::{WordMove, word};
 
+#[cfg(test)]
+mod jump_tests;
+#[cfg(test)]
+mod place_tests;
 #[cfg(test)]
 mod word_tests;

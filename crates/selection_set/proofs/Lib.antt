@@ -1,1 +1,6 @@
 pub mod CursorLemmas
+pub mod SliceLemmas
+pub mod NumberLemmas
+pub mod SettleLemmas
+pub mod OrderLemmas
+pub mod PairLemmas

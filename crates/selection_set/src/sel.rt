@@ -26,6 +26,14 @@ pub struct Pair {
     pub cursor: Coord,
 }
 
+impl Default for Sel {
+    ghost is_default = { λ s. s ≡ record { low = record { line = 0; column = 0 }; high = record { line = 0; column = 0 }; turned = false; target = None } };
+
+    fn default() -> Sel {
+        Sel::only(Coord { line: 0, column: 0 })
+    }
+}
+
 impl Sel {
     ghost use Rattle.selection_set.specs.Inside.{cursor_at, anchor_at};
     ghost use Rattle.text_model.specs.Coords.{is_at_most};

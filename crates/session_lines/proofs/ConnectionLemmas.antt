@@ -17,8 +17,8 @@ use Rattle.kak_engine.specs.declared.event.Entry.{Entry}
 use Rattle.kak_engine.specs.Held.{entry_of}
 use Rattle.session_lines.specs.declared.playing.Stop.{Stop}
 use Rattle.session_lines.specs.declared.playing.Stop.TheVariants as stop
-use Rattle.session_lines.specs.declared.reading.Ending.{Ending}
-use Rattle.session_lines.specs.declared.reading.Ending.TheVariants.{Left, Ended, ReadFault, Full}
+use Rattle.session_lines.specs.declared.reading.InputEnd.{InputEnd}
+use Rattle.session_lines.specs.declared.reading.InputEnd.TheVariants.{Left, Ended, ReadFault, Full}
 use Rattle.session_lines.specs.Session.{Sees, rules, protocol}
 use Rattle.session_lines.specs.Stops.{IsLoss, Caused, Causes}
 use Rattle.session_lines.specs.Serving.{Serves, HasGone, how_of, how_opened}
@@ -33,7 +33,7 @@ lines-are [] = refl
 lines-are (l ∷ lines) = ap (λ r. l ∷ r) (lines-are lines)
 
 -- an end that isn't told by a last line
-pub input-played : (who : ℕ) (old new : List Entry) (a b left rest : Option (List ℕ)) (ending : Ending) (part : List ℕ) → (ending ≡ Ended → ⊥) → Reads who old new a b left rest (Ok ending) part → Plays [] who old new a b left rest (Ok ending)
+pub input-played : (who : ℕ) (old new : List Entry) (a b left rest : Option (List ℕ)) (ending : InputEnd) (part : List ℕ) → (ending ≡ Ended → ⊥) → Reads who old new a b left rest (Ok ending) part → Plays [] who old new a b left rest (Ok ending)
 input-played who old new a b left rest Left part n r = record {
   bytes = r.bytes;
   takes = r.takes;
@@ -54,7 +54,7 @@ input-stopped who old new a b left rest stop.NoMemory part r = record { bytes = 
 input-stopped who old new a b left rest stop.WriteFault part r = record { bytes = r.bytes; takes = r.takes; lines = whole_lines [] r.bytes; lines_are = inr refl; serves = r.serves; end_is = tt }
 
 -- an end that was told
-pub ended : (who : ℕ) (old new : List Entry) (a b left rest : Option (List ℕ)) (ending : Ending) (part : List ℕ) → ending ≡ Ended → Reads who old new a b left rest (Ok ending) part → Reads who old new a b left rest (Ok Ended) part
+pub ended : (who : ℕ) (old new : List Entry) (a b left rest : Option (List ℕ)) (ending : InputEnd) (part : List ℕ) → ending ≡ Ended → Reads who old new a b left rest (Ok ending) part → Reads who old new a b left rest (Ok Ended) part
 ended who old new a b left rest ending part e r = subst (λ q. Reads who old new a b left rest (Ok q) part) e r
 
 -- the turns of the last line behind those of the whole ones
@@ -116,7 +116,7 @@ opening-stopped A who old new a b left why s = record { bytes = []; takes = Cons
     none stop.WriteFault = inl refl
 
 -- an input behind the opening
-pub opened-played : {A : Type 0} (done : A) (r : Result Ending Stop) (who n : ℕ) (old mid new : List Entry) (a b c left rest : Option (List ℕ)) → n ≡ who
+pub opened-played : {A : Type 0} (done : A) (r : Result InputEnd Stop) (who n : ℕ) (old mid new : List Entry) (a b c left rest : Option (List ℕ)) → n ≡ who
     → Serves who old mid a b (how_opened (Ok done)) (Opens ∷ []) → Plays [] n mid new b c left rest r → Plays (Opens ∷ []) who old new a c left rest r
 opened-played done r who n old mid new a b c left rest same s p = record {
   bytes = p.bytes;
@@ -152,12 +152,12 @@ lost-stayed : (who : ℕ) (new : List Entry) (got : List (Answer Event)) → Has
 lost-stayed who new got f = record { answered = f.answered; stood = inl f.stood }
 
 -- the headline, from what stands
-served : (who : ℕ) (mid new : List Entry) (a b left rest : Option (List ℕ)) (r q : Result Ending Stop) → (p : Plays (Opens ∷ []) who [] mid a b left rest r) → LinesRead (end_of q) p.bytes p.lines
+served : (who : ℕ) (mid new : List Entry) (a b left rest : Option (List ℕ)) (r q : Result InputEnd Stop) → (p : Plays (Opens ∷ []) who [] mid a b left rest r) → LinesRead (end_of q) p.bytes p.lines
     → Stands protocol rules (end_of q) who new (map (λ line. Line line) p.lines) p.serves.out → IsServed protocol rules (end_of q) who new p.bytes p.serves.out
 served who mid new a b left rest r q p l s = record { turns = map (λ line. Line line) p.lines; lines = subst (λ ls. LinesRead (end_of q) p.bytes ls) (sym (lines-are p.lines)) l; stands = s }
 
 -- the connection ended, and the client left
-pub ended-left : (who n : ℕ) (mid new : List Entry) (a b left rest : Option (List ℕ)) (ending : Ending) → n ≡ who → Plays (Opens ∷ []) who [] mid a b left rest (Ok ending) → HasGone n mid new → WasServed who new a b left rest (Ok ending)
+pub ended-left : (who n : ℕ) (mid new : List Entry) (a b left rest : Option (List ℕ)) (ending : InputEnd) → n ≡ who → Plays (Opens ∷ []) who [] mid a b left rest (Ok ending) → HasGone n mid new → WasServed who new a b left rest (Ok ending)
 ended-left who n mid new a b left rest ending same p g = record {
   bytes = p.bytes;
   takes = p.takes;
@@ -167,7 +167,7 @@ ended-left who n mid new a b left rest ending same p g = record {
   end_is = p.end_is;
 }
   where
-    stands : (ending : Ending) (p : Plays (Opens ∷ []) who [] mid a b left rest (Ok ending)) → HasLeft protocol rules who new p.serves.got → Stands protocol rules (end_of (Ok ending)) who new (map (λ line. Line line) p.lines) p.serves.out
+    stands : (ending : InputEnd) (p : Plays (Opens ∷ []) who [] mid a b left rest (Ok ending)) → HasLeft protocol rules who new p.serves.got → Stands protocol rules (end_of (Ok ending)) who new (map (λ line. Line line) p.lines) p.serves.out
     stands Left p f = left-stands protocol rules who new (map (λ line. Line line) p.lines) p.serves.got p.serves.out p.serves.fits f
     stands Ended p f = closed-stands protocol rules who new (map (λ line. Line line) p.lines) p.serves.got p.serves.out p.serves.fits f
     stands ReadFault p f = closed-stands protocol rules who new (map (λ line. Line line) p.lines) p.serves.got p.serves.out p.serves.fits f
@@ -186,7 +186,7 @@ full-left who n mid new a b left rest same p g = record {
 }
 
 -- what was lost, was lost whatever had been played
-lost-served : (who : ℕ) (mid new : List Entry) (a b left rest : Option (List ℕ)) (r : Result Ending Stop) (why : Stop) → IsLoss why ⊎ (why ≡ stop.WriteFault) → (p : Plays (Opens ∷ []) who [] mid a b left rest r) → HasLost protocol rules who new p.serves.got → WasServed who new a b left rest (Err why)
+lost-served : (who : ℕ) (mid new : List Entry) (a b left rest : Option (List ℕ)) (r : Result InputEnd Stop) (why : Stop) → IsLoss why ⊎ (why ≡ stop.WriteFault) → (p : Plays (Opens ∷ []) who [] mid a b left rest r) → HasLost protocol rules who new p.serves.got → WasServed who new a b left rest (Err why)
 lost-served who mid new a b left rest r why is p f = record {
   bytes = p.bytes;
   takes = p.takes;
@@ -196,7 +196,7 @@ lost-served who mid new a b left rest r why is p f = record {
   end_is = tt;
 }
   where
-    any-lines : (r : Result Ending Stop) (p : Plays (Opens ∷ []) who [] mid a b left rest r) → LinesRead Lost p.bytes p.lines
+    any-lines : (r : Result InputEnd Stop) (p : Plays (Opens ∷ []) who [] mid a b left rest r) → LinesRead Lost p.bytes p.lines
     any-lines (Ok Left) p = inl p.lines_are
     any-lines (Ok Ended) p = inl p.lines_are
     any-lines (Ok ReadFault) p = inr p.lines_are
@@ -206,7 +206,7 @@ lost-served who mid new a b left rest r why is p f = record {
     any-lines (Err stop.NoMemory) p = p.lines_are
     any-lines (Err stop.WriteFault) p = p.lines_are
 
-    stands : (r : Result Ending Stop) (p : Plays (Opens ∷ []) who [] mid a b left rest r) → HasLost protocol rules who new p.serves.got → Stands protocol rules Lost who new (map (λ line. Line line) p.lines) p.serves.out
+    stands : (r : Result InputEnd Stop) (p : Plays (Opens ∷ []) who [] mid a b left rest r) → HasLost protocol rules who new p.serves.got → Stands protocol rules Lost who new (map (λ line. Line line) p.lines) p.serves.out
     stands (Ok Left) p f = over-lost protocol rules who new (map (λ line. Line line) p.lines) p.serves.got p.serves.out p.serves.fits f
     stands (Ok Ended) p f = whole-lost protocol rules who new (map (λ line. Line line) p.lines) p.serves.got p.serves.out p.serves.fits f
     stands (Ok ReadFault) p f = whole-lost protocol rules who new (map (λ line. Line line) p.lines) p.serves.got p.serves.out p.serves.fits f
@@ -230,7 +230,7 @@ lost-served who mid new a b left rest r why is p f = record {
     by stop.WriteFault is = all
 
 -- leaving failed behind whatever was played
-pub leaving-lost : (who n : ℕ) (mid new : List Entry) (a b left rest : Option (List ℕ)) (r : Result Ending Stop) (why : Stop) → n ≡ who → Plays (Opens ∷ []) who [] mid a b left rest r → Sees n mid new × IsLoss why → WasServed who new a b left rest (Err why)
+pub leaving-lost : (who n : ℕ) (mid new : List Entry) (a b left rest : Option (List ℕ)) (r : Result InputEnd Stop) (why : Stop) → n ≡ who → Plays (Opens ∷ []) who [] mid a b left rest r → Sees n mid new × IsLoss why → WasServed who new a b left rest (Err why)
 leaving-lost who n mid new a b left rest r why same p s =
     lost-served who mid new a b left rest r why (inl s.1) p (lost-stayed who new p.serves.got (stayed who mid new p.serves.got p.serves.adds (subst (λ k. Sees k mid new) same s.0)))
 
@@ -240,7 +240,7 @@ lost-behind who n mid new a b left rest why is same p g =
     lost-served who mid new a b left rest (Err why) why is p (lost-left who new p.serves.got (gone who mid new p.serves.got p.serves.adds (subst (λ k. HasGone k mid new) same g)))
 
 -- the client left behind whatever was played
-pub all-left : (r : Result Ending Stop) (who n : ℕ) (mid new : List Entry) (a b left rest : Option (List ℕ)) → n ≡ who → Plays (Opens ∷ []) who [] mid a b left rest r → HasGone n mid new → WasServed who new a b left rest r
+pub all-left : (r : Result InputEnd Stop) (who n : ℕ) (mid new : List Entry) (a b left rest : Option (List ℕ)) → n ≡ who → Plays (Opens ∷ []) who [] mid a b left rest r → HasGone n mid new → WasServed who new a b left rest r
 all-left (Ok ending) who n mid new a b left rest same p g = ended-left who n mid new a b left rest ending same p g
 all-left (Err stop.HistoryFull) who n mid new a b left rest same p g = full-left who n mid new a b left rest same p g
 all-left (Err (stop.Broken at)) who n mid new a b left rest same p g = lost-behind who n mid new a b left rest (stop.Broken at) (inl tt) same p g
@@ -248,7 +248,7 @@ all-left (Err stop.NoMemory) who n mid new a b left rest same p g = lost-behind 
 all-left (Err stop.WriteFault) who n mid new a b left rest same p g = lost-behind who n mid new a b left rest stop.WriteFault (inr refl) same p g
 
 -- why a connection ended, behind its leaving: the history is still full, and a fault still counted
-pub causes-later : (r : Result Ending Stop) (limit who : ℕ) (mid new : List Entry) (a b : ℕ) → HasGone who mid new → Causes r limit mid a b → Causes r limit new a b
+pub causes-later : (r : Result InputEnd Stop) (limit who : ℕ) (mid new : List Entry) (a b : ℕ) → HasGone who mid new → Causes r limit mid a b → Causes r limit new a b
 causes-later (Ok ending) limit who mid new a b g c = c
 causes-later (Err stop.HistoryFull) limit who mid new a b g c =
     let n : length new ≡ length (mid ++ g.between) + 1 = ap length g.stands ∙ length-append (mid ++ g.between) (entry_of who Leave ∷ []) in

@@ -11,7 +11,7 @@ use Rattle.session_turns.specs.Growth.{How, Whole, Over}
 use Rattle.kak_engine.specs.declared.event.Entry.{Entry}
 use Rattle.session_lines.specs.declared.reading.TheConstants.{MAX_INPUT}
 use Rattle.session_lines.specs.declared.playing.Stop.{Stop}
-use Rattle.session_lines.specs.declared.reading.Ending.TheVariants.{Left, Ended, ReadFault, Full}
+use Rattle.session_lines.specs.declared.reading.InputEnd.TheVariants.{Left, Ended, ReadFault, Full}
 use Rattle.session_lines.specs.Serving.{Serves, how_of, KeepsPart}
 use Rattle.session_lines.specs.Reading.{Reads}
 use Rattle.session_lines.proofs.ServingLemmas.{serves-append, serves-nothing}

@@ -8,14 +8,14 @@ use Rattle.session_turns.specs.Headline.{End, Left as WasLeft, Closed, Cut, Refu
 use Rattle.kak_engine.specs.declared.event.Entry.{Entry}
 use Rattle.session_lines.specs.declared.playing.Stop.{Stop}
 use Rattle.session_lines.specs.declared.playing.Stop.TheVariants.{HistoryFull}
-use Rattle.session_lines.specs.declared.reading.Ending.{Ending}
-use Rattle.session_lines.specs.declared.reading.Ending.TheVariants.{Left, Ended, ReadFault, Full}
+use Rattle.session_lines.specs.declared.reading.InputEnd.{InputEnd}
+use Rattle.session_lines.specs.declared.reading.InputEnd.TheVariants.{Left, Ended, ReadFault, Full}
 use Rattle.session_lines.specs.Session.{rules, protocol}
 use Rattle.session_lines.specs.Serving.{Serves}
 use Rattle.session_lines.specs.Reading.{how_read, EndIs}
 
 -- how a connection ended
-abbrev pub end_of : Result Ending Stop → End
+abbrev pub end_of : Result InputEnd Stop → End
 end_of (Ok Left) = WasLeft
 end_of (Ok Ended) = Closed
 end_of (Ok ReadFault) = Cut
@@ -24,7 +24,7 @@ end_of (Err HistoryFull) = Refused
 end_of (Err _) = Lost
 
 -- Behind some first turns the lines of an input were played.
-pub record Plays (first : List Turn) (who : ℕ) (old new : List Entry) (before now left rest : Option (List ℕ)) (result : Result Ending Stop) : Type 0 where
+pub record Plays (first : List Turn) (who : ℕ) (old new : List Entry) (before now left rest : Option (List ℕ)) (result : Result InputEnd Stop) : Type 0 where
   pub bytes : List ℕ
   pub takes : Consumes left rest bytes
   pub lines : List (List ℕ)
@@ -33,7 +33,7 @@ pub record Plays (first : List Turn) (who : ℕ) (old new : List Entry) (before 
   pub end_is : EndIs result left bytes
 
 -- A connection was served: these bytes were read, these were sent, and the history is what serving them makes.
-pub record WasServed (who : ℕ) (history : List Entry) (before now left rest : Option (List ℕ)) (result : Result Ending Stop) : Type 0 where
+pub record WasServed (who : ℕ) (history : List Entry) (before now left rest : Option (List ℕ)) (result : Result InputEnd Stop) : Type 0 where
   pub bytes : List ℕ
   pub takes : Consumes left rest bytes
   pub out : List ℕ

@@ -12,7 +12,7 @@ ghost use Rattle.session_lines.specs.Session.{rules};
 ghost use Rattle.session_lines.specs.Stops.{IsIn, Stays, Causes};
 
 use crate::playing::{Stop, leave};
-use crate::reading::{Ending, play_source};
+use crate::reading::{InputEnd, play_source};
 use crate::seat::Seat;
 use crate::turns::{open, play_line};
 use kak_ports::{Sink, Source};
@@ -44,7 +44,7 @@ fn play_input<S: Seat, I: Source, K: Sink>(
     source: &mut I,
     sink: &mut K,
     out: &mut Vec<u8>,
-) -> Result<Ending, Stop>
+) -> Result<InputEnd, Stop>
     requires { IsIn (S.number seat.old) (S.seen seat.old) }
     ensures stays { Stays (S.number seat.old) (S.limit seat.old) (S.number seat.new) (S.limit seat.new) (S.seen seat.new) }
     ensures plays { Plays [] (S.number seat.old) (S.seen seat.old) (S.seen seat.new) (K.told sink.old) (K.told sink.new) (I.left source.old) (I.left source.new) result }
@@ -53,11 +53,11 @@ fn play_input<S: Seat, I: Source, K: Sink>(
 {
     let mut part = Vec::new(alloc);
     match play_source(alloc, seat, source, sink, out, &mut part)? {
-        Ending::Ended => {
+        InputEnd::Ended => {
             if play_last(alloc, seat, sink, out, part.as_slice())? {
-                return Ok(Ending::Left);
+                return Ok(InputEnd::Left);
             }
-            Ok(Ending::Ended)
+            Ok(InputEnd::Ended)
         }
         ending => Ok(ending),
     }
@@ -69,7 +69,7 @@ fn play_connection<S: Seat, I: Source, K: Sink>(
     seat: &mut S,
     source: &mut I,
     sink: &mut K,
-) -> Result<Ending, Stop>
+) -> Result<InputEnd, Stop>
     requires joined { IsIn (S.number seat.old) (S.seen seat.old) }
     requires new { own rules (S.number seat.old) (S.seen seat.old) ≡ Join ∷ [] }
     ensures stays { Stays (S.number seat.old) (S.limit seat.old) (S.number seat.new) (S.limit seat.new) (S.seen seat.new) }
@@ -89,7 +89,7 @@ pub fn serve<S: Seat, I: Source, K: Sink>(
     seat: &mut S,
     source: &mut I,
     sink: &mut K,
-) -> Result<Ending, Stop>
+) -> Result<InputEnd, Stop>
     requires joined { IsIn (S.number seat.old) (S.seen seat.old) }
     requires new { own rules (S.number seat.old) (S.seen seat.old) ≡ Join ∷ [] }
     ensures number { S.number seat.new ≡ S.number seat.old }

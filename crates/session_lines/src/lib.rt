@@ -11,7 +11,7 @@ pub mod turns;
 pub use connection::serve;
 pub use lines::play_bytes;
 pub use playing::{Stop, leave};
-pub use reading::{Ending, MAX_INPUT, play_source};
+pub use reading::{InputEnd, MAX_INPUT, play_source};
 pub use seat::{LoneSeat, Seat};
 pub use turns::{open, play_line};
 

@@ -16,7 +16,7 @@ pub const MAX_INPUT: u64 = 1_073_741_824;
 
 /// How the reading of an input ended.
 #[derive(Clone, Copy, PartialEq, Eq, Debug)]
-pub enum Ending {
+pub enum InputEnd {
     /// The client may leave; nothing more was read.
     Left,
     /// The input ended.
@@ -47,7 +47,7 @@ pub fn play_source<S: Seat, I: Source, K: Sink>(
     sink: &mut K,
     out: &mut Vec<u8>,
     part: &mut Vec<u8>,
-) -> Result<Ending, Stop>
+) -> Result<InputEnd, Stop>
     requires joined { IsIn (S.number seat.old) (S.seen seat.old) }
     requires part { part.old.items ≡ [] }
     ensures stays { Stays (S.number seat.old) (S.limit seat.old) (S.number seat.new) (S.limit seat.new) (S.seen seat.new) }
@@ -63,12 +63,12 @@ pub fn play_source<S: Seat, I: Source, K: Sink>(
             Took::Got(count) => {
                 taken += count as u64;
                 if play_bytes(alloc, seat, sink, out, part, &piece[..count])? {
-                    return Ok(Ending::Left);
+                    return Ok(InputEnd::Left);
                 }
             }
-            Took::End => return Ok(Ending::Ended),
-            Took::Failed => return Ok(Ending::ReadFault),
+            Took::End => return Ok(InputEnd::Ended),
+            Took::Failed => return Ok(InputEnd::ReadFault),
         }
     }
-    Ok(Ending::Full)
+    Ok(InputEnd::Full)
 }

@@ -1,6 +1,6 @@
 ghost use Rattle.std.specs.Prelude.{◌<◌};
 
-use crate::{Ending, LoneSeat, open, play_source};
+use crate::{InputEnd, LoneSeat, open, play_source};
 use kak_ports::{FailingCalls, MemSink, MemSource};
 use std::alloc::Global;
 use std::test::Fail;
@@ -29,7 +29,7 @@ const INPUT: &str =
 #[derive(Drop)]
 struct Session {
     sent: Vec<u8>,
-    ending: Ending,
+    ending: InputEnd,
     part: Vec<u8>,
 }
 
@@ -73,7 +73,7 @@ fn an_empty_input_is_sent_the_first_drawing(rt: HostRuntime) -> Result<(), Fail>
     push_drawing(&mut wanted)?;
     let session = play(rt.alloc(), "", 4096)?;
     assert!(rt; session.sent.as_slice() == wanted.as_slice());
-    assert_eq!(rt; session.ending, Ending::Ended);
+    assert_eq!(rt; session.ending, InputEnd::Ended);
     Ok(())
 }
 
@@ -89,7 +89,7 @@ fn lines_are_answered_in_order_up_to_the_leave(rt: HostRuntime) -> Result<(), Fa
     for piece in [1, 7, 4096] {
         let session = play(rt.alloc(), INPUT, piece)?;
         assert!(rt; session.sent.as_slice() == wanted.as_slice());
-        assert_eq!(rt; session.ending, Ending::Left);
+        assert_eq!(rt; session.ending, InputEnd::Left);
     }
     Ok(())
 }
@@ -98,6 +98,6 @@ fn lines_are_answered_in_order_up_to_the_leave(rt: HostRuntime) -> Result<(), Fa
 fn a_last_part_is_kept(rt: HostRuntime) -> Result<(), Fail> {
     let session = play(rt.alloc(), "\n{\"js", 2)?;
     assert!(rt; session.part.as_slice() == b"{\"js".as_slice());
-    assert_eq!(rt; session.ending, Ending::Ended);
+    assert_eq!(rt; session.ending, InputEnd::Ended);
     Ok(())
 }

@@ -1,0 +1,31 @@
+-- Worked examples of the places that have a name, which hold by computation.
+use Rattle.std.specs.Prelude.{◌≡◌, ℕ, Some, codes}
+use Rattle.motion_keys.specs.declared.landmarks.Place.TheVariants.{First, LastLine, Last, LineStart, LineEnd, NonBlank, WindowTop, WindowMiddle, WindowBottom, Line}
+use Rattle.motion_keys.specs.declared.landmarks.View.{View}
+use Rattle.motion_keys.specs.Landmarks.{landmark}
+
+abbrev pub view : ℕ → ℕ → View
+view top rows = record { top = top; rows = rows }
+
+pub record LandmarkExamples : Type 0 where
+  pub first : landmark (codes "ab\ncd\n") 4 (view 0 9) First ≡ Some 0
+  pub last_line : landmark (codes "ab\ncd\n") 0 (view 0 9) LastLine ≡ Some 3
+  pub last : landmark (codes "ab\ncd\n") 0 (view 0 9) Last ≡ Some 5
+  pub line_start : landmark (codes "ab\ncd\n") 4 (view 0 9) LineStart ≡ Some 3
+  pub line_end : landmark (codes "ab\ncd\n") 3 (view 0 9) LineEnd ≡ Some 4
+  pub line_end_of_one : landmark (codes "ab\nc\n") 4 (view 0 9) LineEnd ≡ Some 3
+  pub end_of_an_empty_line : landmark (codes "ab\n\n") 3 (view 0 9) LineEnd ≡ Some 3
+  pub window_top : landmark (codes "a\nb\nc\nd\n") 0 (view 1 2) WindowTop ≡ Some 2
+  pub window_middle : landmark (codes "a\nb\nc\nd\n") 0 (view 1 2) WindowMiddle ≡ Some 4
+  pub window_bottom : landmark (codes "a\nb\nc\nd\n") 0 (view 1 2) WindowBottom ≡ Some 4
+  pub window_below_the_text : landmark (codes "a\nb\nc\nd\n") 0 (view 2 9) WindowMiddle ≡ Some 6
+  pub of_a_window_of_one_row : landmark (codes "a\nb\nc\n") 0 (view 1 1) WindowBottom ≡ Some 2
+  pub a_line : landmark (codes "a\nb\n") 0 (view 0 9) (Line 1) ≡ Some 2
+  pub a_line_beyond_the_last : landmark (codes "a\nb\n") 0 (view 0 9) (Line 9) ≡ Some 2
+
+-- the first character of a line that is no blank
+pub record NonBlankExamples : Type 0 where
+  pub behind_blanks : landmark (codes " \tab\n") 3 (view 0 9) NonBlank ≡ Some 2
+  pub without_blanks : landmark (codes "a\nbc\n") 3 (view 0 9) NonBlank ≡ Some 2
+  pub blanks_alone : landmark (codes "a\n  \n") 2 (view 0 9) NonBlank ≡ Some 4
+  pub an_empty_line : landmark (codes "a\n\n b\n") 2 (view 0 9) NonBlank ≡ Some 2

@@ -1,0 +1,30 @@
+//! Worked examples of the motions that search, and that what their definitions find is the least and the greatest.
+
+ghost use Rattle.motion_keys.specs.Extremes.{ExtremesAreFound};
+ghost use Rattle.motion_keys.specs.JumpExamples.{CharExamples, BracketExamples};
+ghost use Rattle.motion_keys.specs.LandmarkExamples.{LandmarkExamples, NonBlankExamples};
+
+/// Worked examples of moves to a character.
+pub fn char_examples()
+    ensures { CharExamples }
+{}
+
+/// Worked examples of moves to a bracket.
+pub fn bracket_examples()
+    ensures { BracketExamples }
+{}
+
+/// Worked examples of places that have a name.
+pub fn landmark_examples()
+    ensures { LandmarkExamples }
+{}
+
+/// Worked examples of the first character of a line that is no blank.
+pub fn non_blank_examples()
+    ensures { NonBlankExamples }
+{}
+
+/// What is found is the least or the greatest that passes the test, and none is found only where none passes.
+pub fn extremes_are_found()
+    ensures { ExtremesAreFound }
+{}

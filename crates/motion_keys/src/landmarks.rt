@@ -1,0 +1,35 @@
+//! The places that have a name.
+
+/// A place of the text, of the cursor's line or of the window. A line beyond the last one means the last line.
+#[derive(Clone, Copy, PartialEq, Eq, Debug)]
+pub enum Place {
+    /// The first character of the text.
+    First,
+    /// The first character of the last line.
+    LastLine,
+    /// The last character of the text.
+    Last,
+    /// The first character of the cursor's line.
+    LineStart,
+    /// The last character of the cursor's line before its newline, or the newline of an empty line.
+    LineEnd,
+    /// The first character of the cursor's line that is no blank.
+    NonBlank,
+    /// The first character of the window's first line.
+    WindowTop,
+    /// The first character of the line half the window's rows below its first line.
+    WindowMiddle,
+    /// The first character of the window's last line.
+    WindowBottom,
+    /// The first character of a line, by its number from 0.
+    Line(u32),
+}
+
+/// What a window shows of the lines.
+#[derive(Clone, Copy, PartialEq, Eq, Debug)]
+pub struct View {
+    /// The number of its first line, from 0.
+    pub top: u32,
+    /// How many lines it has room for.
+    pub rows: u32,
+}

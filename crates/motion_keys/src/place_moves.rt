@@ -1,0 +1,92 @@
+//! Moves to places that have a name.
+
+ghost use Rattle.std.specs.Prelude.{◌≡◌, ◌<◌, None, Some, IfSome, option_map};
+ghost use Rattle.text_model.specs.Texts.{offset, line_count, IsPlace};
+ghost use Rattle.list_model.specs.Ranges.{cursor};
+ghost use Rattle.selection_set.specs.Inside.{range_of, IsInside};
+ghost use Rattle.motion_keys.specs.Places.{OffsetsAre};
+ghost use Rattle.motion_keys.specs.Landmarks.{line_start, line_last, line_text, landmark};
+
+use crate::landmarks::{Place, View};
+use kak_text::{Class, Coord, class};
+use line_buffer::Lines;
+use selection_set::{Pair, Sel};
+
+// The first character of a line, or of the last line where there is no such line.
+fn find_start(lines: &Lines, n: usize) -> Coord
+    ensures place { IsPlace lines.now result }
+    ensures value { offset lines.now result ≡ line_start lines.now n }
+{
+    let last = lines.line_count() - 1;
+    let line = n.min(last);
+    Coord {
+        line: line as u32,
+        column: 0,
+    }
+}
+
+// The last character of a line before its newline, or the newline of an empty line.
+fn find_end(lines: &Lines, n: u32) -> Coord
+    requires { n < line_count lines.now }
+    ensures place { IsPlace lines.now result }
+    ensures value { offset lines.now result ≡ line_last lines.now n }
+{
+    let size = lines.line(n as usize).len();
+    Coord {
+        line: n,
+        column: size.saturating_sub(2) as u32,
+    }
+}
+
+// The first character of a line that is no blank.
+fn find_text(lines: &Lines, n: u32) -> Option<Coord>
+    requires { n < line_count lines.now }
+    ensures gives { OffsetsAre lines.now result (line_text lines.now n) }
+{
+    let line = lines.line(n as usize);
+    for column in 0..line.len() {
+        if !class(line[column]).is(Class::Blank) {
+            return Some(Coord {
+                line: n,
+                column: column as u32,
+            });
+        }
+    }
+    None
+}
+
+// The place with a name.
+fn find_place(lines: &Lines, at: Coord, view: View, target: Place) -> Option<Coord>
+    requires { IsPlace lines.now at }
+    ensures gives { OffsetsAre lines.now result (landmark lines.now (offset lines.now at) view target) }
+{
+    let top = view.top as usize;
+    let rows = view.rows as usize;
+    match target {
+        Place::First => Some(find_start(lines, 0)),
+        Place::LastLine => Some(find_start(lines, lines.line_count() - 1)),
+        Place::Last => Some(lines.last_place()),
+        Place::LineStart => Some(find_start(lines, at.line as usize)),
+        Place::LineEnd => Some(find_end(lines, at.line)),
+        Place::NonBlank => find_text(lines, at.line),
+        Place::WindowTop => Some(find_start(lines, top)),
+        Place::WindowMiddle => Some(find_start(lines, top + rows / 2)),
+        Place::WindowBottom => Some(find_start(lines, (top + rows).saturating_sub(1))),
+        Place::Line(n) => Some(find_start(lines, n as usize)),
+    }
+}
+
+/// The character at a place that has a name.
+pub fn place(lines: &Lines, sel: &Sel, view: &View, target: Place) -> Option<Pair>
+    requires { IsInside lines.now sel.now }
+    ensures gives { OffsetsAre lines.now (option_map (λ pair. pair.cursor) result) (landmark lines.now (cursor (range_of lines.now sel.now)) view.now target) }
+    ensures one { IfSome result (λ pair. pair.anchor ≡ pair.cursor) }
+{
+    match find_place(lines, sel.cursor(), *view, target) {
+        None => None,
+        Some(found) => Some(Pair {
+            anchor: found,
+            cursor: found,
+        }),
+    }
+}

@@ -1,0 +1,18 @@
+-- Selections with the numbers of their places in a list, by which they can be put into order.
+use Rattle.std.specs.Prelude.{ℕ, ◌+◌, ◌*◌, ◌<◌, List, [], ◌∷◌}
+use Rattle.selection_set.specs.declared.sel.Sel.{Sel}
+use Rattle.selection_set.specs.declared.order.Numbered.{Numbered}
+
+-- the selections of a list with their numbers, from a number on
+abbrev pub numbered_from : ℕ → List Sel → List Numbered
+numbered_from k [] = []
+numbered_from k (s ∷ ss) = record { sel = s; number = k } ∷ numbered_from (k + 1) ss
+
+-- one number for the first character and the place in the list: the line, then the column, then the place
+abbrev pub rank : Numbered → ℕ
+rank n = (n.sel.low.line * 4294967296 + n.sel.low.column) * 4294967296 + n.number
+
+-- its column and its number are numbers of the code
+pub record IsSmall (n : Numbered) : Type 0 where
+  pub column : n.sel.low.column < 4294967296
+  pub number : n.number < 4294967296
