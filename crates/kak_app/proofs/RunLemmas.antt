@@ -1,5 +1,6 @@
 -- Runs that came to nothing, and runs that ended in one way or another.
 use Rattle.std.proofs.Common.{◌≡◌, ℕ, inl, inr, List, [], Ok, Err, refl}
+use Rattle.std.specs.Prelude.{None}
 use Rattle.std.specs.declared.option.Option.{Option}
 use Rattle.std.proofs.KnownBytes.{Consumes-nil, Appends-nil}
 use Rattle.session_turns.specs.Headline.{Due, Sent}
@@ -26,6 +27,7 @@ nothing-ran left before faults = record {
     };
     end_is = tt;
   };
+  mark = None;
   cause = tt;
 }
 
@@ -35,5 +37,6 @@ broken-ran at left rest before now a b r = record {
   history = r.history;
   alone = r.alone;
   served = record { bytes = r.served.bytes; takes = r.served.takes; out = r.served.out; sends = r.served.sends; served = r.served.served; end_is = tt };
+  mark = r.mark;
   cause = tt;
 }

@@ -32,12 +32,14 @@ ui_json = codes "-ui" ∷ codes "json" ∷ []
 
 -- Client 0 was served: there is a history, with no entry of anybody else, and what was read, what stands in that
 -- history and what was written belong together as they do at the end of a connection. A full history has as many
--- entries as it may have, and a failed write was counted by the output.
+-- entries as it may have, a broken session has its mark, and a failed write was counted by the output.
 pub record Ran (result : Result InputEnd Stop) (left rest before now : Option (List ℕ)) (faults_before faults_now : ℕ) : Type 0 where
   pub history : List Entry
   pub alone : AreOf 0 history
   pub served : WasServed 0 history before now left rest result
-  pub cause : Causes result MAX_ENTRIES history faults_before faults_now
+  -- how many entries stood when the session broke, if it broke
+  pub mark : Option ℕ
+  pub cause : Causes result MAX_ENTRIES mark history faults_before faults_now
 
 -- what each status says of the bytes of the input and of the output, and of the counts of their faults
 abbrev pub Answers : Status → Option (List ℕ) → Option (List ℕ) → Option (List ℕ) → Option (List ℕ) → ℕ → ℕ → ℕ → ℕ → Type 0

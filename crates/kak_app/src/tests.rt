@@ -132,13 +132,14 @@ fn other_words_are_refused_and_nothing_is_written(rt: HostRuntime) -> Result<(),
     let alloc = rt.alloc();
     let mut source = MemSource::new(bytes_of(alloc, "")?, 4096, FailingCalls::none(alloc));
     let mut sink = MemSink::new(alloc, 100_000, FailingCalls::none(alloc))?;
-    let words = words(alloc, "jsonx")?;
+    let others = words(alloc, "jsonx")?;
+    let none = Vec::new(alloc);
     assert_eq!(rt;
-        run(alloc, words.as_slice(), &mut source, &mut sink),
+        run(alloc, others.as_slice(), &mut source, &mut sink),
         Status::Usage
     );
     assert_eq!(rt;
-        run(alloc, &words.as_slice()[..1], &mut source, &mut sink),
+        run(alloc, none.as_slice(), &mut source, &mut sink),
         Status::Usage
     );
     assert_eq!(rt; sink.contents().len(), 0);

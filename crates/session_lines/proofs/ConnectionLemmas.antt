@@ -1,5 +1,6 @@
 -- From what was played of a connection to what stands when it has ended.
 use Rattle.std.proofs.Common.{◌≡◌, ℕ, ◌+◌, ◌⊎◌, inl, inr, Bool, true, false, List, [], ◌∷◌, ◌++◌, length, map, Ok, Err, refl, sym, ap, ◌∙◌, subst, arith, append-nil, length-append}
+use Rattle.std.specs.Prelude.{Some, IfSome}
 use Rattle.std.specs.declared.option.Option.{Option}
 use Rattle.std.specs.declared.result.Result.{Result}
 use Rattle.std.proofs.lemmas.Bool.{eq-eqb}
@@ -186,13 +187,13 @@ full-left who n mid new a b left rest same p g = record {
 }
 
 -- what was lost, was lost whatever had been played
-lost-served : (who : ℕ) (mid new : List Entry) (a b left rest : Option (List ℕ)) (r : Result InputEnd Stop) (why : Stop) → IsLoss why ⊎ (why ≡ stop.WriteFault) → (p : Plays (Opens ∷ []) who [] mid a b left rest r) → HasLost protocol rules who new p.serves.got → WasServed who new a b left rest (Err why)
-lost-served who mid new a b left rest r why is p f = record {
+lost-served : (who : ℕ) (mid new : List Entry) (a b left rest : Option (List ℕ)) (r : Result InputEnd Stop) (why : Stop) → (why ≡ stop.HistoryFull → ⊥) → (p : Plays (Opens ∷ []) who [] mid a b left rest r) → HasLost protocol rules who new p.serves.got → WasServed who new a b left rest (Err why)
+lost-served who mid new a b left rest r why not_full p f = record {
   bytes = p.bytes;
   takes = p.takes;
   out = p.serves.out;
   sends = p.serves.sends;
-  served = by why is;
+  served = by why not_full;
   end_is = tt;
 }
   where
@@ -219,46 +220,49 @@ lost-served who mid new a b left rest r why is p f = record {
     all : IsServed protocol rules Lost who new p.bytes p.serves.out
     all = record { turns = map (λ line. Line line) p.lines; lines = subst (λ ls. LinesRead Lost p.bytes ls) (sym (lines-are p.lines)) (any-lines r p); stands = stands r p f }
 
-    by : (why : Stop) → IsLoss why ⊎ (why ≡ stop.WriteFault) → IsServed protocol rules (end_of (Err why)) who new p.bytes p.serves.out
-    by stop.HistoryFull (inl nothing) = absurd nothing
-    by stop.HistoryFull (inr e) = absurd (not-written e)
-      where
-        not-written : stop.HistoryFull ≡ stop.WriteFault → ⊥
-        not-written e = cc
-    by (stop.Broken at) is = all
-    by stop.NoMemory is = all
-    by stop.WriteFault is = all
+    by : (why : Stop) → (why ≡ stop.HistoryFull → ⊥) → IsServed protocol rules (end_of (Err why)) who new p.bytes p.serves.out
+    by stop.HistoryFull n = absurd (n refl)
+    by (stop.Broken at) n = all
+    by stop.NoMemory n = all
+    by stop.WriteFault n = all
+
+-- a leaving that failed did so for no full history
+loss-not-full : (why : Stop) (mark : Option ℕ) → IsLoss why mark → why ≡ stop.HistoryFull → ⊥
+loss-not-full stop.HistoryFull mark l e = l
+loss-not-full (stop.Broken at) mark l e = cc
+loss-not-full stop.NoMemory mark l e = cc
+loss-not-full stop.WriteFault mark l e = l
 
 -- leaving failed behind whatever was played
-pub leaving-lost : (who n : ℕ) (mid new : List Entry) (a b left rest : Option (List ℕ)) (r : Result InputEnd Stop) (why : Stop) → n ≡ who → Plays (Opens ∷ []) who [] mid a b left rest r → Sees n mid new × IsLoss why → WasServed who new a b left rest (Err why)
-leaving-lost who n mid new a b left rest r why same p s =
-    lost-served who mid new a b left rest r why (inl s.1) p (lost-stayed who new p.serves.got (stayed who mid new p.serves.got p.serves.adds (subst (λ k. Sees k mid new) same s.0)))
+pub leaving-lost : (who n : ℕ) (mid new : List Entry) (mark : Option ℕ) (a b left rest : Option (List ℕ)) (r : Result InputEnd Stop) (why : Stop) → n ≡ who → Plays (Opens ∷ []) who [] mid a b left rest r → Sees n mid new × IsLoss why mark → WasServed who new a b left rest (Err why)
+leaving-lost who n mid new mark a b left rest r why same p s =
+    lost-served who mid new a b left rest r why (loss-not-full why mark s.1) p (lost-stayed who new p.serves.got (stayed who mid new p.serves.got p.serves.adds (subst (λ k. Sees k mid new) same s.0)))
 
 -- playing was lost, and the client left
-lost-behind : (who n : ℕ) (mid new : List Entry) (a b left rest : Option (List ℕ)) (why : Stop) → IsLoss why ⊎ (why ≡ stop.WriteFault) → n ≡ who → Plays (Opens ∷ []) who [] mid a b left rest (Err why) → HasGone n mid new → WasServed who new a b left rest (Err why)
-lost-behind who n mid new a b left rest why is same p g =
-    lost-served who mid new a b left rest (Err why) why is p (lost-left who new p.serves.got (gone who mid new p.serves.got p.serves.adds (subst (λ k. HasGone k mid new) same g)))
+lost-behind : (who n : ℕ) (mid new : List Entry) (a b left rest : Option (List ℕ)) (why : Stop) → (why ≡ stop.HistoryFull → ⊥) → n ≡ who → Plays (Opens ∷ []) who [] mid a b left rest (Err why) → HasGone n mid new → WasServed who new a b left rest (Err why)
+lost-behind who n mid new a b left rest why not_full same p g =
+    lost-served who mid new a b left rest (Err why) why not_full p (lost-left who new p.serves.got (gone who mid new p.serves.got p.serves.adds (subst (λ k. HasGone k mid new) same g)))
 
 -- the client left behind whatever was played
 pub all-left : (r : Result InputEnd Stop) (who n : ℕ) (mid new : List Entry) (a b left rest : Option (List ℕ)) → n ≡ who → Plays (Opens ∷ []) who [] mid a b left rest r → HasGone n mid new → WasServed who new a b left rest r
 all-left (Ok ending) who n mid new a b left rest same p g = ended-left who n mid new a b left rest ending same p g
 all-left (Err stop.HistoryFull) who n mid new a b left rest same p g = full-left who n mid new a b left rest same p g
-all-left (Err (stop.Broken at)) who n mid new a b left rest same p g = lost-behind who n mid new a b left rest (stop.Broken at) (inl tt) same p g
-all-left (Err stop.NoMemory) who n mid new a b left rest same p g = lost-behind who n mid new a b left rest stop.NoMemory (inl tt) same p g
-all-left (Err stop.WriteFault) who n mid new a b left rest same p g = lost-behind who n mid new a b left rest stop.WriteFault (inr refl) same p g
+all-left (Err (stop.Broken at)) who n mid new a b left rest same p g = lost-behind who n mid new a b left rest (stop.Broken at) (λ e. cc) same p g
+all-left (Err stop.NoMemory) who n mid new a b left rest same p g = lost-behind who n mid new a b left rest stop.NoMemory (λ e. cc) same p g
+all-left (Err stop.WriteFault) who n mid new a b left rest same p g = lost-behind who n mid new a b left rest stop.WriteFault (λ e. cc) same p g
 
--- why a connection ended, behind its leaving: the history is still full, and a fault still counted
-pub causes-later : (r : Result InputEnd Stop) (limit who : ℕ) (mid new : List Entry) (a b : ℕ) → HasGone who mid new → Causes r limit mid a b → Causes r limit new a b
-causes-later (Ok ending) limit who mid new a b g c = c
-causes-later (Err stop.HistoryFull) limit who mid new a b g c =
+-- why a connection ended, behind its leaving: the history is still full, a mark still set, and a fault still counted
+pub causes-later : (r : Result InputEnd Stop) (limit who : ℕ) (marked mark : Option ℕ) (mid new : List Entry) (a b : ℕ) → HasGone who mid new → IfSome marked (λ at. mark ≡ Some at) → Causes r limit marked mid a b → Causes r limit mark new a b
+causes-later (Ok ending) limit who marked mark mid new a b g m c = c
+causes-later (Err stop.HistoryFull) limit who marked mark mid new a b g m c =
     let n : length new ≡ length (mid ++ g.between) + 1 = ap length g.stands ∙ length-append (mid ++ g.between) (entry_of who Leave ∷ []) in
     omega (arith, n, length-append mid g.between, c)
-causes-later (Err (stop.Broken at)) limit who mid new a b g c = tt
-causes-later (Err stop.NoMemory) limit who mid new a b g c = tt
-causes-later (Err stop.WriteFault) limit who mid new a b g c = c
+causes-later (Err (stop.Broken at)) limit who marked mark mid new a b g m c = subst (λ q. IfSome q (λ at. mark ≡ Some at)) c m
+causes-later (Err stop.NoMemory) limit who marked mark mid new a b g m c = tt
+causes-later (Err stop.WriteFault) limit who marked mark mid new a b g m c = c
 
-pub loss-caused : (why : Stop) (limit : ℕ) (seen : List Entry) (a b : ℕ) → IsLoss why → Caused why limit seen a b
-loss-caused stop.HistoryFull limit seen a b nothing = absurd nothing
-loss-caused (stop.Broken at) limit seen a b is = tt
-loss-caused stop.NoMemory limit seen a b is = tt
-loss-caused stop.WriteFault limit seen a b nothing = absurd nothing
+pub loss-caused : (why : Stop) (limit : ℕ) (mark : Option ℕ) (seen : List Entry) (a b : ℕ) → IsLoss why mark → Caused why limit mark seen a b
+loss-caused stop.HistoryFull limit mark seen a b l = absurd l
+loss-caused (stop.Broken at) limit mark seen a b l = l
+loss-caused stop.NoMemory limit mark seen a b l = tt
+loss-caused stop.WriteFault limit mark seen a b l = absurd l

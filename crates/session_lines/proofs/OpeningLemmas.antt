@@ -73,6 +73,6 @@ opening-sent (Ok done) who a b x y put before now new t e same s = serves-sent-a
 opening-sent (Err why) who a b x y put before now new t e same s = serves-failed who [] b before now Opens (Join ∷ Refresh true ∷ []) x y put false why (opening-taken who a b x y new t) refl e refl same s
 
 -- and the sink counted its fault
-pub send-causes : {A : Type 0} (r : Result A Stop) (limit : ℕ) (seen : List Entry) (before now : Option (List ℕ)) (put : List ℕ) (a b : ℕ) → Sends r before now put → Counts r a b → Causes r limit seen a b
-send-causes (Ok done) limit seen before now put a b s c = c
-send-causes (Err why) limit seen before now put a b s c = write-caused why limit seen a b s.0 c
+pub send-causes : {A : Type 0} (r : Result A Stop) (limit : ℕ) (mark : Option ℕ) (seen : List Entry) (before now : Option (List ℕ)) (put : List ℕ) (a b : ℕ) → Sends r before now put → Counts r a b → Causes r limit mark seen a b
+send-causes (Ok done) limit mark seen before now put a b s c = c
+send-causes (Err why) limit mark seen before now put a b s c = write-caused why limit mark seen a b s.0 c

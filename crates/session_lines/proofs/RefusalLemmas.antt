@@ -1,6 +1,7 @@
 -- Why an event of a client that is joined is refused.
 use Rattle.std.proofs.Common.{◌≡◌, ℕ, Bool, true, false, List, length, refl, sym, ◌∙◌, subst}
 use Rattle.std.specs.Prelude.{if◌then◌else◌, ◌&&◌, not, nat_le, Some, None}
+use Rattle.std.specs.declared.option.Option.{Option}
 use Rattle.kak_engine.specs.declared.event.Event.{Event}
 use Rattle.kak_engine.specs.declared.event.Entry.{Entry}
 use Rattle.kak_engine.specs.declared.engine.StepFault.{StepFault}
@@ -26,7 +27,7 @@ refusal-is limit who seen event fault joined goes e = chosen-fault _ fault (sym 
 not-no-client : (n : ℕ) → HistoryFull ≡ NoClient n → ⊥
 not-no-client n e = cc
 
-pub no-client-refused : (fault : StepFault) (limit who n : ℕ) (seen : List Entry) (event : Event) → fault ≡ NoClient n → IsIn who seen → is_join event ≡ false → Refuses fault limit who seen event → ⊥
-no-client-refused fault limit who n seen event is joined goes why =
-    let e : refused_by seen limit who event ≡ Some (NoClient n) = subst (λ f. Refuses f limit who seen event) is why in
+pub no-client-refused : (fault : StepFault) (mark : Option ℕ) (limit who n : ℕ) (seen : List Entry) (event : Event) → fault ≡ NoClient n → IsIn who seen → is_join event ≡ false → Refuses fault mark limit who seen event → ⊥
+no-client-refused fault mark limit who n seen event is joined goes why =
+    let e : refused_by seen limit who event ≡ Some (NoClient n) = subst (λ f. Refuses f mark limit who seen event) is why in
     not-no-client n (refusal-is limit who seen event (NoClient n) joined goes e)

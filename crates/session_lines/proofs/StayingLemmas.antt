@@ -1,5 +1,6 @@
 -- What stays, and why playing stops, over calls one after another.
 use Rattle.std.proofs.Common.{◌≡◌, ℕ, ◌≤◌, List, length, refl, sym, ◌∙◌, subst, arith}
+use Rattle.std.specs.declared.option.Option.{Option}
 use Rattle.kak_ports.specs.Ports.{Rose}
 use Rattle.kak_engine.specs.declared.event.Entry.{Entry}
 use Rattle.session_lines.specs.declared.playing.Stop.{Stop}
@@ -19,28 +20,28 @@ pub stays-in : (who limit w l : ℕ) (a : List Entry) → Stays who limit w l a 
 stays-in who limit w l a s = subst (λ k. IsIn k a) (sym s.number) s.joined
 
 -- behind calls that stopped nothing
-pub stopped-behind : (why : Stop) (limit l : ℕ) (seen : List Entry) → l ≡ limit → Stopped why l seen → Stopped why limit seen
-stopped-behind why limit l seen e s = subst (λ k. Stopped why k seen) e s
+pub stopped-behind : (why : Stop) (limit l : ℕ) (mark : Option ℕ) (seen : List Entry) → l ≡ limit → Stopped why l mark seen → Stopped why limit mark seen
+stopped-behind why limit l mark seen e s = subst (λ k. Stopped why k mark seen) e s
 
-pub caused-behind : (why : Stop) (limit l : ℕ) (seen : List Entry) (a b c : ℕ) → l ≡ limit → a ≤ b → Caused why l seen b c → Caused why limit seen a c
-caused-behind HistoryFull limit l seen a b c e le s = subst (λ k. k ≤ length seen) e s
-caused-behind (Broken at) limit l seen a b c e le s = tt
-caused-behind NoMemory limit l seen a b c e le s = tt
-caused-behind WriteFault limit l seen a b c e le s = risen a b c le s
+pub caused-behind : (why : Stop) (limit l : ℕ) (mark : Option ℕ) (seen : List Entry) (a b c : ℕ) → l ≡ limit → a ≤ b → Caused why l mark seen b c → Caused why limit mark seen a c
+caused-behind HistoryFull limit l mark seen a b c e le s = subst (λ k. k ≤ length seen) e s
+caused-behind (Broken at) limit l mark seen a b c e le s = s
+caused-behind NoMemory limit l mark seen a b c e le s = tt
+caused-behind WriteFault limit l mark seen a b c e le s = risen a b c le s
   where
     risen : (a b c : ℕ) → a ≤ b → Rose b c → Rose a c
     risen a b c le r = omega (arith, le, r)
 
 -- events that stopped where nothing was written
-pub stopped-caused : (why : Stop) (limit : ℕ) (seen : List Entry) (a b : ℕ) → Stopped why limit seen → Caused why limit seen a b
-stopped-caused HistoryFull limit seen a b s = s
-stopped-caused (Broken at) limit seen a b s = tt
-stopped-caused NoMemory limit seen a b s = tt
-stopped-caused WriteFault limit seen a b s = absurd s
+pub stopped-caused : (why : Stop) (limit : ℕ) (mark : Option ℕ) (seen : List Entry) (a b : ℕ) → Stopped why limit mark seen → Caused why limit mark seen a b
+stopped-caused HistoryFull limit mark seen a b s = s
+stopped-caused (Broken at) limit mark seen a b s = s
+stopped-caused NoMemory limit mark seen a b s = tt
+stopped-caused WriteFault limit mark seen a b s = absurd s
 
 -- a write that failed
-pub write-caused : (why : Stop) (limit : ℕ) (seen : List Entry) (a b : ℕ) → why ≡ WriteFault → Rose a b → Caused why limit seen a b
-write-caused why limit seen a b e r = subst (λ w. Caused w limit seen a b) (sym e) r
+pub write-caused : (why : Stop) (limit : ℕ) (mark : Option ℕ) (seen : List Entry) (a b : ℕ) → why ≡ WriteFault → Rose a b → Caused why limit mark seen a b
+write-caused why limit mark seen a b e r = subst (λ w. Caused w limit mark seen a b) (sym e) r
 
 pub counted-then : (a b c : ℕ) → a ≤ b → b ≤ c → a ≤ c
 counted-then a b c x y = omega (arith, x, y)

@@ -54,9 +54,9 @@ pub record HasGone (who : ℕ) (old new : List Entry) : Type 0 where
   pub stands : new ≡ old ++ between ++ entry_of who Leave ∷ []
 
 -- the client left, or something was lost, and nothing was added
-abbrev pub Leaves : {A : Type 0} → ℕ → List Entry → List Entry → Result A Stop → Type 0
-Leaves who old new (Ok _) = HasGone who old new
-Leaves who old new (Err why) = Sees who old new × IsLoss why
+abbrev pub Leaves : {A : Type 0} → ℕ → List Entry → List Entry → Option ℕ → Result A Stop → Type 0
+Leaves who old new mark (Ok _) = HasGone who old new
+Leaves who old new mark (Err why) = Sees who old new × IsLoss why mark
 
 -- how turns got on: the client stays, or may leave; the history was full; or something was lost
 abbrev pub how_of : Result Bool Stop → How

@@ -86,12 +86,12 @@ pub record Sees (who : ℕ) (old new : List Entry) : Type 0 where
   pub foreign : own rules who between ≡ []
   pub stands : new ≡ old ++ between
 
--- Why an event was refused: the first reason that the entries seen give, where memory wasn't wanting, nor the session
--- broken.
-abbrev pub Refuses : StepFault → ℕ → ℕ → List Entry → Event → Type 0
-Refuses NoMemory limit who seen event = ⊤
-Refuses (Broken at) limit who seen event = ⊤
-Refuses fault limit who seen event = fault_of seen limit who event ≡ Some fault
+-- Why an event was refused: the session is broken, which its mark says, or, where memory wasn't wanting, the first
+-- reason that the entries seen give.
+abbrev pub Refuses : StepFault → Option ℕ → ℕ → ℕ → List Entry → Event → Type 0
+Refuses NoMemory mark limit who seen event = ⊤
+Refuses (Broken at) mark limit who seen event = mark ≡ Some at
+Refuses fault mark limit who seen event = fault_of seen limit who event ≡ Some fault
 
 -- each entry is that client's
 abbrev pub AreOf : ℕ → List Entry → Type 0

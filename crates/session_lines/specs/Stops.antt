@@ -1,12 +1,13 @@
 -- What stays over the playing of turns, and why playing stops.
-use Rattle.std.specs.Prelude.{◌≡◌, ℕ, ◌≤◌, true, List, length, ⊤, Ok, Err}
+use Rattle.std.specs.Prelude.{◌≡◌, ℕ, ◌≤◌, true, List, length, ⊤, Some, Ok, Err}
+use Rattle.std.specs.declared.option.Option.{Option}
 use Rattle.std.specs.declared.result.Result.{Result}
 use Rattle.kak_ports.specs.Ports.{Rose}
 use Rattle.kak_world.specs.Flat.{is_joined}
 use Rattle.kak_engine.specs.declared.event.Entry.{Entry}
 use Rattle.kak_engine.specs.Steps.{run}
 use Rattle.session_lines.specs.declared.playing.Stop.{Stop}
-use Rattle.session_lines.specs.declared.playing.Stop.TheVariants.{HistoryFull, WriteFault}
+use Rattle.session_lines.specs.declared.playing.Stop.TheVariants.{HistoryFull, Broken, NoMemory, WriteFault}
 
 -- a client is joined in the world that the entries seen lead to
 abbrev pub IsIn : ℕ → List Entry → Type 0
@@ -18,28 +19,31 @@ pub record Stays (who bound who_now bound_now : ℕ) (seen : List Entry) : Type 
   pub limit : bound_now ≡ bound
   pub joined : IsIn who seen
 
--- why events are stopped: the history is full, or something was lost; nothing is written here
-abbrev pub Stopped : Stop → ℕ → List Entry → Type 0
-Stopped HistoryFull limit seen = limit ≤ length seen
-Stopped WriteFault limit seen = ⊥
-Stopped _ limit seen = ⊤
+-- why events are stopped: the history is full, the session is broken, or memory was wanting; nothing is written here
+abbrev pub Stopped : Stop → ℕ → Option ℕ → List Entry → Type 0
+Stopped HistoryFull limit mark seen = limit ≤ length seen
+Stopped (Broken at) limit mark seen = mark ≡ Some at
+Stopped NoMemory limit mark seen = ⊤
+Stopped WriteFault limit mark seen = ⊥
 
-abbrev pub Stops : {A : Type 0} → Result A Stop → ℕ → List Entry → Type 0
-Stops (Ok _) limit seen = ⊤
-Stops (Err why) limit seen = Stopped why limit seen
+abbrev pub Stops : {A : Type 0} → Result A Stop → ℕ → Option ℕ → List Entry → Type 0
+Stops (Ok _) limit mark seen = ⊤
+Stops (Err why) limit mark seen = Stopped why limit mark seen
 
 -- why turns are stopped: as events are, or by a write that failed, which the sink counted
-abbrev pub Caused : Stop → ℕ → List Entry → ℕ → ℕ → Type 0
-Caused HistoryFull limit seen before now = limit ≤ length seen
-Caused WriteFault limit seen before now = Rose before now
-Caused _ limit seen before now = ⊤
+abbrev pub Caused : Stop → ℕ → Option ℕ → List Entry → ℕ → ℕ → Type 0
+Caused HistoryFull limit mark seen before now = limit ≤ length seen
+Caused (Broken at) limit mark seen before now = mark ≡ Some at
+Caused NoMemory limit mark seen before now = ⊤
+Caused WriteFault limit mark seen before now = Rose before now
 
-abbrev pub Causes : {A : Type 0} → Result A Stop → ℕ → List Entry → ℕ → ℕ → Type 0
-Causes (Ok _) limit seen before now = before ≤ now
-Causes (Err why) limit seen before now = Caused why limit seen before now
+abbrev pub Causes : {A : Type 0} → Result A Stop → ℕ → Option ℕ → List Entry → ℕ → ℕ → Type 0
+Causes (Ok _) limit mark seen before now = before ≤ now
+Causes (Err why) limit mark seen before now = Caused why limit mark seen before now
 
--- something was lost that isn't the history's room, nor a write
-abbrev pub IsLoss : Stop → Type 0
-IsLoss HistoryFull = ⊥
-IsLoss WriteFault = ⊥
-IsLoss _ = ⊤
+-- why a leaving fails: the session is broken, or memory was wanting
+abbrev pub IsLoss : Stop → Option ℕ → Type 0
+IsLoss HistoryFull mark = ⊥
+IsLoss (Broken at) mark = mark ≡ Some at
+IsLoss NoMemory mark = ⊤
+IsLoss WriteFault mark = ⊥

@@ -29,7 +29,7 @@ fn play_last<S: Seat, K: Sink>(
     requires { IsIn (S.number seat.old) (S.seen seat.old) }
     ensures stays { Stays (S.number seat.old) (S.limit seat.old) (S.number seat.new) (S.limit seat.new) (S.seen seat.new) }
     ensures serves { Serves (S.number seat.old) (S.seen seat.old) (S.seen seat.new) (K.told sink.old) (K.told sink.new) (how_of result) (map (λ line. Line line) (as_line part.now)) }
-    ensures cause { Causes result (S.limit seat.old) (S.seen seat.new) (K.faults sink.old) (K.faults sink.new) }
+    ensures cause { Causes result (S.limit seat.old) (S.mark seat.new) (S.seen seat.new) (K.faults sink.old) (K.faults sink.new) }
 {
     if part.is_empty() {
         return Ok(false);
@@ -49,7 +49,7 @@ fn play_input<S: Seat, I: Source, K: Sink>(
     ensures stays { Stays (S.number seat.old) (S.limit seat.old) (S.number seat.new) (S.limit seat.new) (S.seen seat.new) }
     ensures plays { Plays [] (S.number seat.old) (S.seen seat.old) (S.seen seat.new) (K.told sink.old) (K.told sink.new) (I.left source.old) (I.left source.new) result }
     ensures fault { FaultIs result (I.faults source.old) (I.faults source.new) }
-    ensures cause { Causes result (S.limit seat.old) (S.seen seat.new) (K.faults sink.old) (K.faults sink.new) }
+    ensures cause { Causes result (S.limit seat.old) (S.mark seat.new) (S.seen seat.new) (K.faults sink.old) (K.faults sink.new) }
 {
     let mut part = Vec::new(alloc);
     match play_source(alloc, seat, source, sink, out, &mut part)? {
@@ -75,7 +75,7 @@ fn play_connection<S: Seat, I: Source, K: Sink>(
     ensures stays { Stays (S.number seat.old) (S.limit seat.old) (S.number seat.new) (S.limit seat.new) (S.seen seat.new) }
     ensures plays { Plays (Opens ∷ []) (S.number seat.old) [] (S.seen seat.new) (K.told sink.old) (K.told sink.new) (I.left source.old) (I.left source.new) result }
     ensures fault { FaultIs result (I.faults source.old) (I.faults source.new) }
-    ensures cause { Causes result (S.limit seat.old) (S.seen seat.new) (K.faults sink.old) (K.faults sink.new) }
+    ensures cause { Causes result (S.limit seat.old) (S.mark seat.new) (S.seen seat.new) (K.faults sink.old) (K.faults sink.new) }
 {
     let mut out = Vec::new(alloc);
     open(alloc, seat, sink, &mut out)?;
@@ -95,7 +95,7 @@ pub fn serve<S: Seat, I: Source, K: Sink>(
     ensures number { S.number seat.new ≡ S.number seat.old }
     ensures served { WasServed (S.number seat.old) (S.seen seat.new) (K.told sink.old) (K.told sink.new) (I.left source.old) (I.left source.new) result }
     ensures fault { FaultIs result (I.faults source.old) (I.faults source.new) }
-    ensures cause { Causes result (S.limit seat.old) (S.seen seat.new) (K.faults sink.old) (K.faults sink.new) }
+    ensures cause { Causes result (S.limit seat.old) (S.mark seat.new) (S.seen seat.new) (K.faults sink.old) (K.faults sink.new) }
 {
     let played = play_connection(alloc, seat, source, sink);
     leave(alloc, seat)?;

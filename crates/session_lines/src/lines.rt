@@ -34,7 +34,7 @@ pub fn play_bytes<S: Seat, K: Sink>(
     ensures stays { Stays (S.number seat.old) (S.limit seat.old) (S.number seat.new) (S.limit seat.new) (S.seen seat.new) }
     ensures serves { Serves (S.number seat.old) (S.seen seat.old) (S.seen seat.new) (K.told sink.old) (K.told sink.new) (how_of result) (map (λ line. Line line) (whole_lines part.old.items bytes.now)) }
     ensures part { KeepsPart result part.new.items (last_part part.old.items bytes.now) }
-    ensures cause { Causes result (S.limit seat.old) (S.seen seat.new) (K.faults sink.old) (K.faults sink.new) }
+    ensures cause { Causes result (S.limit seat.old) (S.mark seat.new) (S.seen seat.new) (K.faults sink.old) (K.faults sink.new) }
 {
     for &byte in bytes {
         if byte != b'\n' {

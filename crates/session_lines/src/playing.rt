@@ -1,6 +1,6 @@
 //! Events of a client that is joined, played over a seat.
 
-ghost use Rattle.std.specs.Prelude.{◌≡◌, ◌++◌, ◌∷◌, [], true, false, IfOk, IfErr, OnOk, OnErr};
+ghost use Rattle.std.specs.Prelude.{◌≡◌, ◌++◌, ◌∷◌, [], true, false, Some, IfOk, IfErr, IfSome, OnOk, OnErr};
 ghost use Rattle.kak_engine.specs.declared.event.Event.TheVariants.{Key as Struck};
 ghost use Rattle.kak_engine.specs.Held.{is_join, is_leave};
 ghost use Rattle.session_lines.specs.Session.{Steps, Sees, drawn_bytes, keys_played};
@@ -18,7 +18,7 @@ use std::alloc::{AllocError, Global};
 pub enum Stop {
     /// The history takes no further entry; nothing was sent for the turn.
     HistoryFull,
-    /// The session is broken since so many entries stood.
+    /// The session is broken, since so many entries stood.
     Broken(u64),
     /// Memory ran out.
     NoMemory,
@@ -45,8 +45,9 @@ fn take<S: Seat>(alloc: Global, seat: &mut S, event: Event) -> Result<Output, St
     ensures joined { is_leave event ≡ false → IsIn (S.number seat.old) (S.seen seat.new) }
     ensures ok { IfOk result (λ output. Steps (S.number seat.old) (S.seen seat.old) (S.seen seat.new) event output) }
     ensures err { OnErr result (Sees (S.number seat.old) (S.seen seat.old) (S.seen seat.new)) }
-    ensures stops { is_leave event ≡ false → Stops result (S.limit seat.old) (S.seen seat.new) }
-    ensures leaves { is_leave event ≡ true → IfErr result IsLoss }
+    ensures stops { is_leave event ≡ false → Stops result (S.limit seat.old) (S.mark seat.new) (S.seen seat.new) }
+    ensures leaves { is_leave event ≡ true → IfErr result (λ stop. IsLoss stop (S.mark seat.new)) }
+    ensures marked { IfSome (S.mark seat.old) (λ at. S.mark seat.new ≡ Some at) }
 {
     match seat.step(alloc, event) {
         Ok(output) => Ok(output),
@@ -74,7 +75,7 @@ fn strike<S: Seat>(alloc: Global, seat: &mut S, key: Key) -> Result<bool, Stop>
     requires { IsIn (S.number seat.old) (S.seen seat.old) }
     ensures stays { Stays (S.number seat.old) (S.limit seat.old) (S.number seat.new) (S.limit seat.new) (S.seen seat.new) }
     ensures takes { Takes (S.number seat.old) (S.seen seat.old) (S.seen seat.new) (Struck key ∷ []) [] [] result }
-    ensures stops { Stops result (S.limit seat.old) (S.seen seat.new) }
+    ensures stops { Stops result (S.limit seat.old) (S.mark seat.new) (S.seen seat.new) }
 {
     let output = take(alloc, seat, Event::Key(key))?;
     Ok(output.leaving)
@@ -85,7 +86,7 @@ pub fn play_drawing<S: Seat>(alloc: Global, seat: &mut S, out: &mut Vec<u8>) -> 
     requires { IsIn (S.number seat.old) (S.seen seat.old) }
     ensures stays { Stays (S.number seat.old) (S.limit seat.old) (S.number seat.new) (S.limit seat.new) (S.seen seat.new) }
     ensures takes { TakesDrawing (S.number seat.old) (S.seen seat.old) (S.seen seat.new) out.old.items out.new.items result }
-    ensures stops { Stops result (S.limit seat.old) (S.seen seat.new) }
+    ensures stops { Stops result (S.limit seat.old) (S.mark seat.new) (S.seen seat.new) }
 {
     let output = take(alloc, seat, Event::Refresh(true))?;
     add_drawing(&output.drawing, out)?;
@@ -102,7 +103,7 @@ pub fn play_keys<S: Seat>(
     requires { IsIn (S.number seat.old) (S.seen seat.old) }
     ensures stays { Stays (S.number seat.old) (S.limit seat.old) (S.number seat.new) (S.limit seat.new) (S.seen seat.new) }
     ensures takes { Takes (S.number seat.old) (S.seen seat.old) (S.seen seat.new) (keys_played keys.now) out.old.items out.new.items result }
-    ensures stops { Stops result (S.limit seat.old) (S.seen seat.new) }
+    ensures stops { Stops result (S.limit seat.old) (S.mark seat.new) (S.seen seat.new) }
 {
     let mut leaving = false;
     for &key in keys {
@@ -116,7 +117,8 @@ pub fn play_keys<S: Seat>(
 pub fn leave<S: Seat>(alloc: Global, seat: &mut S) -> Result<(), Stop>
     requires { IsIn (S.number seat.old) (S.seen seat.old) }
     ensures number { S.number seat.new ≡ S.number seat.old }
-    ensures leaves { Leaves (S.number seat.old) (S.seen seat.old) (S.seen seat.new) result }
+    ensures leaves { Leaves (S.number seat.old) (S.seen seat.old) (S.seen seat.new) (S.mark seat.new) result }
+    ensures marked { IfSome (S.mark seat.old) (λ at. S.mark seat.new ≡ Some at) }
 {
     match take(alloc, seat, Event::Leave) {
         Ok(_output) => Ok(()),

@@ -53,7 +53,7 @@ pub fn play_source<S: Seat, I: Source, K: Sink>(
     ensures stays { Stays (S.number seat.old) (S.limit seat.old) (S.number seat.new) (S.limit seat.new) (S.seen seat.new) }
     ensures reads { Reads (S.number seat.old) (S.seen seat.old) (S.seen seat.new) (K.told sink.old) (K.told sink.new) (I.left source.old) (I.left source.new) result part.new.items }
     ensures fault { FaultIs result (I.faults source.old) (I.faults source.new) }
-    ensures cause { Causes result (S.limit seat.old) (S.seen seat.new) (K.faults sink.old) (K.faults sink.new) }
+    ensures cause { Causes result (S.limit seat.old) (S.mark seat.new) (S.seen seat.new) (K.faults sink.old) (K.faults sink.new) }
 {
     let mut piece = [0; 4096];
     let mut taken: u64 = 0;

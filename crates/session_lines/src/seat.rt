@@ -1,6 +1,7 @@
 //! Where the events of a connection are taken.
 
-ghost use Rattle.std.specs.Prelude.{◌≡◌, ◌<◌, ◌∷◌, [], ℕ, List, IfOk, IfErr, OnOk, OnErr, true, false};
+ghost use Rattle.std.specs.Prelude.{◌≡◌, ◌<◌, ◌∷◌, [], ℕ, List, Some, IfOk, IfErr, IfSome, OnOk, OnErr, true, false};
+ghost use Rattle.std.specs.declared.option.Option.{Option};
 ghost use Rattle.kak_engine.specs.declared.event.Event.TheVariants.{Join};
 ghost use Rattle.kak_engine.specs.Held.{entry_of};
 ghost use Rattle.session_lines.specs.Session.{AreOf};
@@ -23,6 +24,9 @@ pub trait Seat {
     // How many entries the history may have, leaving aside.
     ghost limit: { Self → ℕ };
 
+    // How many entries stood when the session broke, if it was seen to have broken.
+    ghost mark: { Self → Option ℕ };
+
     // The entries that were seen.
     ghost seen: { Self → List Entry };
 
@@ -34,7 +38,8 @@ pub trait Seat {
         ensures stays { OnErr result (is_joined (number self.old) (run (seen self.old)) ≡ true → is_joined (number self.old) (run (seen self.new)) ≡ true) }
         ensures ok { IfOk result (λ output. Steps (number self.old) (seen self.old) (seen self.new) event output) }
         ensures err { OnErr result (Sees (number self.old) (seen self.old) (seen self.new)) }
-        ensures why { IfErr result (λ fault. Refuses fault (limit self.old) (number self.old) (seen self.new) event) };
+        ensures why { IfErr result (λ fault. Refuses fault (mark self.new) (limit self.old) (number self.old) (seen self.new) event) }
+        ensures marked { IfSome (mark self.old) (λ at. mark self.new ≡ Some at) };
 }
 
 /// The one seat at an engine that nobody else uses.
@@ -65,6 +70,8 @@ impl Seat for LoneSeat {
     ghost number = { λ s. s.who };
 
     ghost limit = { λ s. s.engine.limit };
+
+    ghost mark = { λ s. s.engine.mark };
 
     ghost seen = { λ s. s.engine.history };
 

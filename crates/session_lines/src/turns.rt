@@ -38,7 +38,7 @@ fn refuse_line<S: Seat, K: Sink>(
 ) -> Result<bool, Stop>
     requires refused { read_request line.now ≡ Err refusal }
     ensures serves { Serves (S.number seat.now) (S.seen seat.now) (S.seen seat.now) (K.told sink.old) (K.told sink.new) (how_of result) (Line line.now ∷ []) }
-    ensures cause { Causes result (S.limit seat.now) (S.seen seat.now) (K.faults sink.old) (K.faults sink.new) }
+    ensures cause { Causes result (S.limit seat.now) (S.mark seat.now) (S.seen seat.now) (K.faults sink.old) (K.faults sink.new) }
 {
     out.clear();
     encode_refusal(refusal, out)?;
@@ -60,7 +60,7 @@ fn play_keys_line<S: Seat, K: Sink>(
     requires accepted { refused_by (read_request line.now) ≡ [] }
     ensures stays { Stays (S.number seat.old) (S.limit seat.old) (S.number seat.new) (S.limit seat.new) (S.seen seat.new) }
     ensures serves { Serves (S.number seat.old) (S.seen seat.old) (S.seen seat.new) (K.told sink.old) (K.told sink.new) (how_of result) (Line line.now ∷ []) }
-    ensures cause { Causes result (S.limit seat.old) (S.seen seat.new) (K.faults sink.old) (K.faults sink.new) }
+    ensures cause { Causes result (S.limit seat.old) (S.mark seat.new) (S.seen seat.new) (K.faults sink.old) (K.faults sink.new) }
 {
     out.clear();
     let leaving = play_keys(alloc, seat, keys, out)?;
@@ -79,7 +79,7 @@ pub fn play_line<S: Seat, K: Sink>(
     requires { IsIn (S.number seat.old) (S.seen seat.old) }
     ensures stays { Stays (S.number seat.old) (S.limit seat.old) (S.number seat.new) (S.limit seat.new) (S.seen seat.new) }
     ensures serves { Serves (S.number seat.old) (S.seen seat.old) (S.seen seat.new) (K.told sink.old) (K.told sink.new) (how_of result) (Line line.now ∷ []) }
-    ensures cause { Causes result (S.limit seat.old) (S.seen seat.new) (K.faults sink.old) (K.faults sink.new) }
+    ensures cause { Causes result (S.limit seat.old) (S.mark seat.new) (S.seen seat.new) (K.faults sink.old) (K.faults sink.new) }
 {
     match decode_line(alloc, line) {
         Ok(Request::Nothing) => Ok(false),
@@ -100,7 +100,7 @@ pub fn open<S: Seat, K: Sink>(
     requires new { own rules (S.number seat.old) (S.seen seat.old) ≡ Join ∷ [] }
     ensures stays { Stays (S.number seat.old) (S.limit seat.old) (S.number seat.new) (S.limit seat.new) (S.seen seat.new) }
     ensures serves { Serves (S.number seat.old) [] (S.seen seat.new) (K.told sink.old) (K.told sink.new) (how_opened result) (Opens ∷ []) }
-    ensures cause { Causes result (S.limit seat.old) (S.seen seat.new) (K.faults sink.old) (K.faults sink.new) }
+    ensures cause { Causes result (S.limit seat.old) (S.mark seat.new) (S.seen seat.new) (K.faults sink.old) (K.faults sink.new) }
 {
     out.clear();
     play_drawing(alloc, seat, out)?;

@@ -23,7 +23,7 @@ returns-in_err-leaving-clause-takes g c =
 pub returns-in_err-leaving-clause-stops : goal.returns-in_err-leaving-clause-stops
 returns-in_err-leaving-clause-stops g c =
     let p = err_from_is_err_and c.from_residual.result c.from_residual.ensures.1 in
-    rw (p.1, p.2) (stopped-behind _ _ _ _ c.loop-key.invariant.stays.limit c.in_err-leaving.ensures.stops)
+    rw (p.1, p.2) (stopped-behind _ _ _ _ _ c.loop-key.invariant.stays.limit c.in_err-leaving.ensures.stops)
 
 pub returns-in_err-play_drawing-clause-stays : goal.returns-in_err-play_drawing-clause-stays
 returns-in_err-play_drawing-clause-stays g c = stays-then _ _ _ _ _ _ _ _ c.loop-key.invariant.stays c.play_drawing.ensures.stays
@@ -36,7 +36,7 @@ returns-in_err-play_drawing-clause-takes g c =
 pub returns-in_err-play_drawing-clause-stops : goal.returns-in_err-play_drawing-clause-stops
 returns-in_err-play_drawing-clause-stops g c =
     let p = err_from_is_err_and c.from_residual-in_err-play_drawing.result c.from_residual-in_err-play_drawing.ensures.1 in
-    rw (p.1, p.2) (stopped-behind _ _ _ _ c.loop-key.invariant.stays.limit c.in_err-play_drawing.ensures.stops)
+    rw (p.1, p.2) (stopped-behind _ _ _ _ _ c.loop-key.invariant.stays.limit c.in_err-play_drawing.ensures.stops)
 
 pub returns-clause-stays : goal.returns-clause-stays
 returns-clause-stays g c = stays-then _ _ _ _ _ _ _ _ c.loop-key.invariant.stays c.play_drawing.ensures.stays
