@@ -1,9 +1,9 @@
 -- How atoms grow at their end.
-use Rattle.std.proofs.Common.{◌≡◌, Bool, true, false, List, [], ◌∷◌, ◌++◌, refl, ap, ◌∙◌}
+use Rattle.std.proofs.Common.{◌≡◌, Bool, true, false, List, [], ◌∷◌, ◌++◌, refl, sym, ap, ◌∙◌, append_assoc}
 use Rattle.std.specs.Prelude.{if◌then◌else◌}
 use Rattle.kak_faces.specs.Same.{same_face}
 use Rattle.json_ui.specs.declared.drawing.Atom.{Atom}
-use Rattle.draw_model.specs.Atoms.{Shown, atom_of, longer, with_shown, with_all_shown}
+use Rattle.draw_model.specs.Atoms.{Shown, atom_of, longer, with_shown, with_all_shown, atoms_of}
 
 if-front : (t : Bool) (x : Atom) (a b : List Atom) → x ∷ (if t then a else b) ≡ (if t then x ∷ a else x ∷ b)
 if-front true x a b = refl
@@ -31,8 +31,12 @@ pub with_all_shown-append : (atoms : List Atom) (a b : List Shown) → with_all_
 with_all_shown-append atoms [] b = refl
 with_all_shown-append atoms (s ∷ a) b = with_all_shown-append (with_shown atoms s) a b
 
-pub pushed-same : (old front : List Atom) (a : Atom) (s : Shown) → old ≡ front ++ a ∷ [] → same_face a.face s.face ≡ true → with_shown old s ≡ front ++ longer a s.char ∷ []
-pushed-same old front a s e h = ap (λ r. with_shown r s) e ∙ with_shown-same front a s h
+-- two steps of drawing
+pub two_steps : (old mid new : List Atom) (a b all : List Shown) → mid ≡ with_all_shown old a → new ≡ with_all_shown mid b → all ≡ a ++ b → new ≡ with_all_shown old all
+two_steps old mid new a b all e f g =
+    f ∙ ap (λ m. with_all_shown m b) e ∙ sym (with_all_shown-append old a b) ∙ ap (with_all_shown old) (sym g)
 
-pub pushed-other : (old front : List Atom) (a : Atom) (s : Shown) → old ≡ front ++ a ∷ [] → same_face a.face s.face ≡ false → with_shown old s ≡ front ++ a ∷ [] ++ atom_of s ∷ []
-pushed-other old front a s e h = ap (λ r. with_shown r s) e ∙ with_shown-other front a s h
+-- three steps of drawing
+pub three_steps : (one_done two_done new : List Atom) (a b c all : List Shown) → one_done ≡ with_all_shown [] a → two_done ≡ with_all_shown one_done b → new ≡ with_all_shown two_done c → all ≡ a ++ (b ++ c) → new ≡ atoms_of all
+three_steps one_done two_done new a b c all e f g h =
+    two_steps [] two_done new (a ++ b) c all (two_steps [] one_done two_done a b (a ++ b) e f refl) g (h ∙ sym (append_assoc a b c))

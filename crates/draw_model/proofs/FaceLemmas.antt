@@ -1,5 +1,5 @@
 -- The faces of the characters of a text with one selection.
-use Rattle.std.proofs.Common.{◌≡◌, ◌≢◌, ℕ, ◌+◌, ◌<◌, ◌≤◌, Bool, true, false, cond, eqb, leb, List, [], ◌∷◌, ◌++◌, length, map, refl, ap, ◌∙◌, arith, eq-eqb, ne_eqb, ◌&&◌}
+use Rattle.std.proofs.Common.{◌≡◌, ◌≢◌, ℕ, ◌<◌, ◌≤◌, Bool, true, false, cond, eqb, leb, refl, ap, ◌∙◌, arith, eq-eqb, ne_eqb, ◌&&◌}
 use Rattle.text_model.proofs.PlaceLemmas.{leb_true, leb_false}
 use Rattle.list_model.specs.Ranges.{Range, cursor, IsRange}
 use Rattle.kak_faces.specs.declared.face.Face.{Face}
@@ -7,9 +7,7 @@ use Rattle.kak_faces.specs.declared.standard.StandardFace.{StandardFace}
 use Rattle.kak_faces.specs.declared.standard.StandardFace.TheVariants as name
 use Rattle.kak_faces.specs.Faces.{merged}
 use Rattle.kak_faces.specs.Standard.{standard_face}
-use Rattle.draw_model.specs.Atoms.{shown_in}
-use Rattle.list_model.specs.Ranges.{Selected}
-use Rattle.draw_model.specs.Drawings.{over, cursor_name, face_at, shown_from}
+use Rattle.draw_model.specs.Drawings.{over, cursor_name, face_at}
 use Rattle.draw_model.specs.Painting.{one, painted, cursor_face}
 
 over-true : (t : Bool) (s : StandardFace) (f : Face) → t ≡ true → over t s f ≡ merged f (standard_face s)
@@ -79,25 +77,3 @@ face_at-cursor r o c h e =
     over-true (eqb (cursor r) o) (cursor_name true c) (under r o) (eq-eqb (cursor r) o e)
     ∙ ap (λ f. merged f (standard_face (cursor_name true c))) (under-inside r o (omega arith) (omega arith))
     ∙ on_cursor (eqb c 10) painted.selected
-
--- characters one after another
-pub shown_from-append : (sels : Selected) (o : ℕ) (a b : List ℕ) → shown_from sels o (a ++ b) ≡ shown_from sels o a ++ shown_from sels (o + length a) b
-shown_from-append sels o [] b = let e : o + 0 ≡ o = omega arith in rw e refl
-shown_from-append sels o (c ∷ a) b =
-    let e : o + length (c ∷ a) ≡ o + 1 + length a = omega arith in
-    rw e (ap (λ r. record { char = c; face = face_at sels o c } ∷ r) (shown_from-append sels (o + 1) a b))
-
--- characters with one face
-pub shown_from-same : (sels : Selected) (face : Face) (o : ℕ) (cs : List ℕ) → ((k c : ℕ) → o ≤ k → k < o + length cs → face_at sels k c ≡ face) → shown_from sels o cs ≡ shown_in face cs
-shown_from-same sels face o [] h = refl
-shown_from-same sels face o (c ∷ cs) h =
-    ap (λ (f : Face). record { char = c; face = f } ∷ shown_from sels (o + 1) cs) (h o c (omega arith) (omega arith))
-    ∙ ap (λ r. record { char = c; face = face } ∷ r) (shown_from-same sels face (o + 1) cs (λ k d l m. h k d (omega arith) (omega arith)))
-
--- characters of which each is the cursor
-pub shown_from-cursor : (r : Range) (o : ℕ) (cs : List ℕ) → IsRange r → ((k : ℕ) → o ≤ k → k < o + length cs → cursor r ≡ k)
-    → shown_from (one r) o cs ≡ map (λ c. record { char = c; face = cursor_face painted c }) cs
-shown_from-cursor r o [] h at = refl
-shown_from-cursor r o (c ∷ cs) h at =
-    ap (λ (f : Face). record { char = c; face = f } ∷ shown_from (one r) (o + 1) cs) (face_at-cursor r o c h (at o (omega arith) (omega arith)))
-    ∙ ap (λ s. record { char = c; face = cursor_face painted c } ∷ s) (shown_from-cursor r (o + 1) cs h (λ k l m. at k (omega arith) (omega arith)))

@@ -1,8 +1,12 @@
 pub mod AtomLemmas
+pub mod CellLemmas
 pub mod FaceLemmas
 pub mod LawLemmas
+pub mod LineLemmas
 pub mod ModeLemmas
 pub mod PartLemmas
+pub mod PlainLemmas
+pub mod PromptLemmas
 pub mod RunLemmas
 pub mod StatusLemmas
 pub mod WindowLemmas

@@ -1,13 +1,15 @@
 -- How atoms grow by characters in one face.
-use Rattle.std.proofs.Common.{◌≡◌, ℕ, Bool, true, false, List, [], ◌∷◌, ◌++◌, length, refl, sym, ap, ◌∙◌, append_assoc, append-nil, eq-eqb}
+use Rattle.std.proofs.Common.{◌≡◌, ℕ, Bool, true, false, List, [], ◌∷◌, ◌++◌, length, refl, sym, ap, ap₂, ◌∙◌, append_assoc, append-nil, eq-eqb}
 use Rattle.std.specs.Prelude.{◌==◌}
 use Rattle.kak_faces.specs.declared.colour.Colour.{Colour}
 use Rattle.kak_faces.specs.declared.colour.Colour.TheVariants.{Named, Rgb}
 use Rattle.kak_faces.specs.declared.face.Face.{Face}
 use Rattle.kak_faces.specs.Same.{palette_place, same_colour, same_word, same_face}
 use Rattle.json_ui.specs.declared.drawing.Atom.{Atom}
+use Rattle.std.proofs.lemmas.List.{map-append}
 use Rattle.draw_model.specs.Atoms.{Shown, shown_in, atom_of, longer, with_all_shown}
-use Rattle.draw_model.proofs.AtomLemmas.{with_shown-same, with_shown-other}
+use Rattle.draw_model.proofs.AtomLemmas.{with_shown-same, with_shown-other, with_all_shown-append}
+use Rattle.draw_model.proofs.LawLemmas.{equal_faces}
 
 same_number : (n : ℕ) → (n == n) ≡ true
 same_number n = eq-eqb n n refl
@@ -61,3 +63,16 @@ pub pushed_run-other : (old front : List Atom) (a : Atom) (face : Face) (cs : Li
     → with_all_shown old (shown_in face cs) ≡ front ++ a ∷ [] ++ record { contents = cs; face = face } ∷ []
 pushed_run-other old front a face [] e h n = cc
 pushed_run-other old front a face (c ∷ cs) e h n = ap (λ r. with_all_shown r (shown_in face (c ∷ cs))) e ∙ run-other front a face c cs h
+
+-- more characters wait: in the same face, or in another once those that waited were drawn
+pub grown-same : (done : List Atom) (old face : Face) (waiting new more : List ℕ) → same_face old face ≡ true → new ≡ waiting ++ more
+    → with_all_shown done (shown_in old new) ≡ with_all_shown (with_all_shown done (shown_in old waiting)) (shown_in face more)
+grown-same done old face waiting new more e h =
+    ap (λ t. with_all_shown done (shown_in old t)) h
+    ∙ ap (with_all_shown done) (map-append (λ (d : ℕ). let x : Shown = record { char = d; face = old } in x) waiting more)
+    ∙ with_all_shown-append done (shown_in old waiting) (shown_in old more)
+    ∙ ap (λ f. with_all_shown (with_all_shown done (shown_in old waiting)) (shown_in f more)) (equal_faces old face e)
+
+pub grown-other : (done after : List Atom) (old face : Face) (waiting left new more : List ℕ) → after ≡ with_all_shown done (shown_in old waiting) → left ≡ [] → new ≡ left ++ more
+    → with_all_shown after (shown_in face new) ≡ with_all_shown (with_all_shown done (shown_in old waiting)) (shown_in face more)
+grown-other done after old face waiting left new more e z h = ap₂ (λ d t. with_all_shown d (shown_in face t)) e (h ∙ ap (λ t. t ++ more) z)

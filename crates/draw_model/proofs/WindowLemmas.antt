@@ -8,11 +8,11 @@ use Rattle.list_model.specs.Ranges.{Selected}
 use Rattle.window_view.specs.View.{View}
 use Rattle.json_ui.specs.declared.drawing.DrawnLine.{DrawnLine}
 use Rattle.draw_model.specs.Atoms.{atoms_of}
-use Rattle.draw_model.specs.Drawings.{shown_from, cut, drawn_from}
+use Rattle.draw_model.specs.Drawings.{shown_from, drawn_from}
 
 -- a line as it is drawn, that begins at an offset
 abbrev pub drawn_line : Selected → View → ℕ → List ℕ → DrawnLine
-drawn_line sels view o line = record { atoms = atoms_of (cut view (shown_from sels o line)) }
+drawn_line sels view o line = record { atoms = atoms_of (shown_from sels view o 0 line) }
 
 drawn_from-more : (sels : Selected) (view : View) (o : ℕ) (ls : List (List ℕ)) (k : ℕ) → k < length ls
     → drawn_from sels view o (take (k + 1) ls) ≡ drawn_from sels view o (take k ls) ++ drawn_line sels view (o + length (joined (take k ls))) (get_or ls k []) ∷ []

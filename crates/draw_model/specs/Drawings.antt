@@ -1,9 +1,10 @@
 -- What a client is shown of the world.
-use Rattle.std.specs.Prelude.{ℕ, ◌+◌, ◌-◌, Bool, true, false, not, ◌==◌, ◌&&◌, nat_le, if◌then◌else◌, List, [], ◌∷◌, ◌++◌, length, take, drop, codes, decimal, slice_index_or}
+use Rattle.std.specs.Prelude.{ℕ, ◌+◌, ◌-◌, Bool, true, false, not, ◌==◌, ◌&&◌, nat_le, if◌then◌else◌, List, [], ◌∷◌, ◌++◌, length, take, drop, codes, decimal, slice_index, slice_index_or}
 use Rattle.text_model.specs.declared.coords.Coord.{Coord}
-use Rattle.text_model.specs.Texts.{lines_of, joined, coord_at}
+use Rattle.text_model.specs.Texts.{lines_of, joined, nth_line, coord_at}
 use Rattle.list_model.specs.Ranges.{Range, Selected, cursor, only}
-use Rattle.window_view.specs.View.{View, text_columns, followed}
+use Rattle.kak_text.specs.Cells.{cells_of, column_behind, display_column}
+use Rattle.window_view.specs.View.{View, followed}
 use Rattle.kak_faces.specs.declared.face.Face.{Face}
 use Rattle.kak_faces.specs.declared.standard.StandardFace.{StandardFace}
 use Rattle.kak_faces.specs.declared.standard.StandardFace.TheVariants as name
@@ -18,7 +19,9 @@ use Rattle.kak_world.specs.declared.state.Mode.TheVariants.{Normal, Insert, Prom
 use Rattle.kak_world.specs.declared.state.Status.{Status}
 use Rattle.kak_world.specs.declared.state.Status.TheVariants.{Quiet, Said, Refused}
 use Rattle.kak_world.specs.Flat.{Flat, text_of, number_of, mode_of, sels_of, view_of, status_of, prompt_of, is_drawn, with_view}
+use Rattle.draw_model.specs.declared.TheConstants.{TABSTOP}
 use Rattle.draw_model.specs.Atoms.{Shown, shown_in, atoms_of}
+use Rattle.draw_model.specs.Cells.{char_drawn}
 
 -- the face of a selection, of the main one or another
 abbrev pub selection_name : Bool → StandardFace
@@ -53,20 +56,19 @@ abbrev pub face_at : Selected → ℕ → ℕ → Face
 face_at sels o c =
     under_cursors o c sels.main 0 sels.list (under_selections o sels.main 0 sels.list (standard_face name.Default))
 
--- characters that begin at an offset, each in its face; every character has one cell and is drawn as itself
-abbrev pub shown_from : Selected → ℕ → List ℕ → List Shown
-shown_from sels o [] = []
-shown_from sels o (c ∷ cs) = record { char = c; face = face_at sels o c } ∷ shown_from sels (o + 1) cs
-
--- the part of a line that lies in the window
-abbrev pub cut : View → List Shown → List Shown
-cut view shown = take (text_columns view 0) (drop view.left shown)
+-- what a window shows of characters of a line, of which the first is at an offset and begins at a display column: each
+-- in its face, as far as its cells are in the window
+abbrev pub shown_from : Selected → View → ℕ → ℕ → List ℕ → List Shown
+shown_from sels view o column [] = []
+shown_from sels view o column (c ∷ cs) =
+    shown_in (face_at sels o c) (char_drawn view column (cells_of c column TABSTOP) c)
+    ++ shown_from sels view (o + 1) (column + cells_of c column TABSTOP) cs
 
 -- lines as they are drawn, of which the first begins at an offset
 abbrev pub drawn_from : Selected → View → ℕ → List (List ℕ) → List DrawnLine
 drawn_from sels view o [] = []
 drawn_from sels view o (line ∷ lines) =
-    record { atoms = atoms_of (cut view (shown_from sels o line)) } ∷ drawn_from sels view (o + length line) lines
+    record { atoms = atoms_of (shown_from sels view o 0 line) } ∷ drawn_from sels view (o + length line) lines
 
 -- the lines of the window, as many as there are
 abbrev pub drawn_lines : List ℕ → Selected → View → List DrawnLine
@@ -105,6 +107,18 @@ main_range sels = slice_index_or sels.list sels.main (only 0)
 abbrev pub main_cursor : List ℕ → Selected → Coord
 main_cursor text sels = coord_at text (cursor (main_range sels))
 
+-- the line of the main selection's cursor
+abbrev pub main_line : List ℕ → Selected → List ℕ
+main_line text sels = nth_line text (main_cursor text sels).line
+
+-- the display column of the main selection's cursor
+abbrev pub main_column : List ℕ → Selected → ℕ
+main_column text sels = display_column (main_line text sels) (main_cursor text sels).column TABSTOP
+
+-- how many cells the character under the main selection's cursor has
+abbrev pub main_cells : List ℕ → Selected → ℕ
+main_cells text sels = cells_of (slice_index (main_line text sels) (main_cursor text sels).column) (main_column text sels) TABSTOP
+
 -- the mode line: the buffer's name, the cursor's line and column from 1, the mode, the main selection's number from 1
 -- and how many there are, and the client's name
 abbrev pub mode_text : Coord → Mode → Selected → ℕ → List ℕ
@@ -112,16 +126,21 @@ mode_text at mode sels number =
     codes "*scratch* " ++ (decimal (at.line + 1) ++ (codes ":" ++ (decimal (at.column + 1) ++ (codes " " ++ (mode_name mode ++ (codes " "
     ++ (decimal (sels.main + 1) ++ (codes "/" ++ (decimal (length sels.list) ++ (codes " - client" ++ decimal number))))))))))
 
--- where the cursor stands: in the window, or in the prompt behind the colon and what was typed
-abbrev pub cursor_drawn : Mode → Coord → View → List ℕ → Cursor
-cursor_drawn Prompt at view typed = record { prompt = true; line = 0; column = length typed + 1 }
-cursor_drawn _ at view typed = record { prompt = false; line = at.line - view.top; column = at.column - view.left }
+-- how many cells stand before the cursor of a prompt: those of its colon (58) and of what was typed
+abbrev pub prompt_column : List ℕ → ℕ
+prompt_column typed = column_behind TABSTOP 0 (58 ∷ typed)
+
+-- where the cursor stands: in the window, by the line and the display column of the main one; or in the prompt
+abbrev pub cursor_drawn : Mode → ℕ → ℕ → View → List ℕ → Cursor
+cursor_drawn Prompt line column view typed = record { prompt = true; line = 0; column = prompt_column typed }
+cursor_drawn _ line column view typed = record { prompt = false; line = line - view.top; column = column - view.left }
 
 -- the world after a client's window has followed its main cursor
 abbrev pub after_following : ℕ → Flat → Flat
 after_following who flat =
     with_view who
-    (followed (view_of who flat) (main_cursor (text_of who flat) (sels_of who flat)).line (main_cursor (text_of who flat) (sels_of who flat)).column 1 0)
+    (followed (view_of who flat) (main_cursor (text_of who flat) (sels_of who flat)).line
+    (main_column (text_of who flat) (sels_of who flat)) (main_cells (text_of who flat) (sels_of who flat)) 0)
     flat
 
 -- what a client is shown, whose window has followed its main cursor
@@ -137,6 +156,7 @@ drawing_of who flat = record {
         (mode_text (main_cursor (text_of who flat) (sels_of who flat)) (mode_of who flat) (sels_of who flat) (number_of who flat)));
   };
   status_face = standard_face name.StatusLine;
-  cursor = cursor_drawn (mode_of who flat) (main_cursor (text_of who flat) (sels_of who flat)) (view_of who flat) (prompt_of who flat);
+  cursor = cursor_drawn (mode_of who flat) (main_cursor (text_of who flat) (sels_of who flat)).line
+      (main_column (text_of who flat) (sels_of who flat)) (view_of who flat) (prompt_of who flat);
   info = Keep;
 }

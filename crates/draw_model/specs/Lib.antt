@@ -1,4 +1,5 @@
 pub mod Atoms
+pub mod Cells
 pub mod Drawings
 pub mod Painting
 pub mod Laws

@@ -1,5 +1,5 @@
 -- A text with one selection: the faces of its characters, and the parts of a line that have one face each.
-use Rattle.std.specs.Prelude.{◌≡◌, ℕ, ◌+◌, ◌-◌, ◌<◌, ◌≤◌, min, Bool, ◌==◌, if◌then◌else◌, List, [], ◌∷◌, length}
+use Rattle.std.specs.Prelude.{◌≡◌, ℕ, ◌+◌, ◌-◌, ◌<◌, ◌≤◌, min, ◌==◌, if◌then◌else◌, List, [], ◌∷◌, length}
 use Rattle.text_model.specs.declared.coords.Coord.{Coord}
 use Rattle.text_model.specs.Texts.{line_count, nth_line}
 use Rattle.list_model.specs.Ranges.{Range, Selected}
@@ -33,15 +33,9 @@ pub record IsPart (text : List ℕ) (begin : Coord) (len : ℕ) : Type 0 where
   pub in_line : begin.column + len ≤ length (nth_line text begin.line)
 
 -- how many of n characters from an offset on stand before the selection, before the seam between its cursor and the
--- rest of it, and before what follows it
+-- rest of it, and before what follows it; and whether its cursor comes first
 pub record AreParts (r : Range) (o n : ℕ) (parts : Parts) : Type 0 where
   pub low : parts.low ≡ min n (r.low - o)
   pub middle : parts.middle ≡ min n ((if r.turned then r.low + 1 else r.high) - o)
   pub behind : parts.behind ≡ min n (r.high + 1 - o)
-
--- parts in order, of which the cursor's has one character at most
-pub record AreOrdered (turned : Bool) (n : ℕ) (parts : Parts) : Type 0 where
-  pub low : parts.low ≤ parts.middle
-  pub middle : parts.middle ≤ parts.behind
-  pub behind : parts.behind ≤ n
-  pub cursor : (if turned then parts.middle - parts.low else parts.behind - parts.middle) ≤ 1
+  pub turned : parts.turned ≡ r.turned

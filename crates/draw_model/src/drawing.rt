@@ -1,67 +1,102 @@
 //! What a client is shown.
 
 ghost use Rattle.std.specs.Prelude.{◌≡◌, ◌+◌, ◌<◌, ◌^◌, true, IfOk};
+ghost use Rattle.text_model.specs.Texts.{IsPlace};
 ghost use Rattle.window_view.specs.Views.{view_of as window_seen};
 ghost use Rattle.kak_world.specs.Flat.{is_joined, text_of, sels_of};
-ghost use Rattle.draw_model.specs.Drawings.{main_cursor, cursor_drawn, drawing_of, after_following};
+ghost use Rattle.draw_model.specs.Drawings.{main_cursor, main_column, main_cells, prompt_column, cursor_drawn, drawing_of, after_following};
 
+use crate::TABSTOP;
 use crate::status::{draw_mode, draw_status};
 use crate::window_lines::draw_lines;
 use json_ui::{Cursor, Drawing, Info};
 use kak_faces::StandardFace;
-use kak_text::Coord;
+use kak_text::{Coord, cells};
 use kak_world::{Mode, World};
 use std::alloc::{AllocError, Global};
-use window_view::Window;
+use window_view::{Window, cell_of};
+
+// Where the main cursor stands, the display column there, and how many cells its character has.
+#[derive(Clone, Copy, Debug)]
+struct MainCursor {
+    at: Coord,
+    column: u32,
+    cells: u32,
+}
 
 // The coordinate of the main cursor.
 fn cursor_at(world: &World, who: u32) -> Coord
     requires { is_joined who world.now.flat ≡ true }
     ensures value { result ≡ main_cursor (text_of who world.now.flat) (sels_of who world.now.flat) }
-    ensures small { result.column + 1 < 2 ^ 32 }
+    ensures place { IsPlace (text_of who world.now.flat) result }
 {
-    // its contract bounds the text, and with it the column
-    let _stored = world.lines(who).len();
     world.sel(who).cursor()
 }
 
-// How many cells stand before the cursor of a prompt: the colon, and what was typed. More than 32 bits hold count as
-// want of memory.
-fn prompt_cursor(typed: usize) -> Result<u32, AllocError>
-    ensures { IfOk result (λ column. column ≡ typed + 1) }
+// Finds the main cursor.
+fn find_cursor(world: &World, who: u32) -> MainCursor
+    requires { is_joined who world.now.flat ≡ true }
+    ensures at { result.at ≡ main_cursor (text_of who world.now.flat) (sels_of who world.now.flat) }
+    ensures column { result.column ≡ main_column (text_of who world.now.flat) (sels_of who world.now.flat) }
+    ensures cells { result.cells ≡ main_cells (text_of who world.now.flat) (sels_of who world.now.flat) }
+    ensures small { result.column + result.cells < 2 ^ 32 }
 {
-    if typed >= u32::MAX as usize {
-        return Err(AllocError);
+    let at = cursor_at(world, who);
+    let line = world.lines(who).line(at.line as usize);
+    let column = cell_of(line, at.column as usize, TABSTOP);
+    MainCursor {
+        at,
+        column,
+        cells: cells(line[at.column as usize], column, TABSTOP),
     }
-    Ok(typed as u32 + 1)
+}
+
+// How many cells stand before the cursor of a prompt. 2^31 and more count as want of memory.
+fn prompt_cursor(typed: &[char]) -> Result<u32, AllocError>
+    ensures { IfOk result (λ column. column ≡ prompt_column typed.now) }
+{
+    let mut column = 1;
+    for c in typed {
+        if column >= 1 << 31 {
+            return Err(AllocError);
+        }
+        column += cells(*c, column, TABSTOP);
+    }
+    Ok(column)
 }
 
 // Where the cursor stands.
-fn cursor_of(mode: Mode, at: Coord, window: Window, typed: &[char]) -> Result<Cursor, AllocError>
-    ensures { IfOk result (λ cursor. cursor ≡ cursor_drawn mode at (window_seen window) typed.now) }
+fn cursor_of(
+    mode: Mode,
+    main: MainCursor,
+    window: Window,
+    typed: &[char],
+) -> Result<Cursor, AllocError>
+    ensures { IfOk result (λ cursor. cursor ≡ cursor_drawn mode main.at.line main.column (window_seen window) typed.now) }
 {
     match mode {
         Mode::Prompt => Ok(Cursor {
             prompt: true,
             line: 0,
-            column: prompt_cursor(typed.len())?,
+            column: prompt_cursor(typed)?,
         }),
         Mode::Normal | Mode::Insert => Ok(Cursor {
             prompt: false,
-            line: at.line.saturating_sub(window.top),
-            column: at.column.saturating_sub(window.left),
+            line: main.at.line.saturating_sub(window.top),
+            column: main.column.saturating_sub(window.left),
         }),
     }
 }
 
-/// Draws what a client is shown, whose window has followed its main cursor. It costs the window's characters, and not
-/// the text's. An `Err` says that memory ran out; a prompt of 2^32 - 1 characters or more counts as that too.
+/// Draws what a client is shown, whose window has followed its main cursor. It costs the lines of
+/// the window up to its right side, and not the text. An `Err` says that memory ran out; a prompt of 2^31 cells or more
+/// counts as that too.
 pub fn draw(alloc: Global, world: &World, who: u32) -> Result<Drawing, AllocError>
     requires { is_joined who world.now.flat ≡ true }
     ensures { IfOk result (λ drawing. drawing ≡ drawing_of who world.now.flat) }
 {
     let sel = world.sel(who);
-    let at = cursor_at(world, who);
+    let main = find_cursor(world, who);
     let window = world.window(who);
     let mode = world.mode(who);
     let typed = world.prompt(who);
@@ -71,9 +106,9 @@ pub fn draw(alloc: Global, world: &World, who: u32) -> Result<Drawing, AllocErro
         default_face: StandardFace::Default.face(),
         padding_face: StandardFace::BufferPadding.face(),
         status: draw_status(alloc, mode, world.status(who), typed)?,
-        mode_line: draw_mode(alloc, at, mode, world.number(who))?,
+        mode_line: draw_mode(alloc, main.at, mode, world.number(who))?,
         status_face: StandardFace::StatusLine.face(),
-        cursor: cursor_of(mode, at, window, typed)?,
+        cursor: cursor_of(mode, main, window, typed)?,
         info: Info::Keep,
     })
 }
@@ -84,6 +119,6 @@ pub fn follow_cursor(world: &mut World, who: u32)
     ensures follows { world.new.flat ≡ after_following who world.old.flat }
     ensures stays { is_joined who world.new.flat ≡ true }
 {
-    let at = cursor_at(world, who);
-    world.follow(who, at.line, at.column, 1, 0);
+    let main = find_cursor(world, who);
+    world.follow(who, main.at.line, main.column, main.cells, 0);
 }

@@ -2,7 +2,7 @@
 
 ghost use Rattle.std.specs.Prelude.{◌≡◌, List};
 ghost use Rattle.draw_model.specs.Atoms.{Shown, atoms_of};
-ghost use Rattle.draw_model.specs.Laws.{spelled, AreRuns};
+ghost use Rattle.draw_model.specs.Laws.{spelled, AreRuns, PlainLinesAreCut, AsciiIsPlain};
 ghost use Rattle.draw_model.specs.Examples.{Examples};
 
 /// The atoms of characters, spelled out again, are these characters; no atom is empty, and neighbours have different
@@ -10,6 +10,14 @@ ghost use Rattle.draw_model.specs.Examples.{Examples};
 pub fn atoms_are_runs()
     ensures same { (shown : List Shown) → spelled (atoms_of shown) ≡ shown }
     ensures runs { (shown : List Shown) → AreRuns (atoms_of shown) }
+{}
+
+/// Of a line of characters that have one cell each and are drawn as themselves, a window shows as many as it has
+/// columns, from its first column on; the printable characters of ASCII and the newline are such. The function does
+/// nothing; its clauses are the laws.
+pub fn plain_lines_are_cut()
+    ensures cut { PlainLinesAreCut }
+    ensures ascii { AsciiIsPlain }
 {}
 
 /// Drawings of given worlds. The function does nothing; its clause is the table.

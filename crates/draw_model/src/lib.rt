@@ -2,16 +2,21 @@
 #![tactic(auto)]
 
 mod atoms;
+mod cells;
 mod drawing;
+mod growing;
 mod laws;
 mod paint;
 mod parts;
 mod status;
 mod window_lines;
 
+/// The distance of tab stops, in cells.
+pub const TABSTOP: u32 = 8;
+
 pub use atoms::{push_run, push_shown};
 pub use drawing::{draw, follow_cursor};
-pub use laws::{atoms_are_runs, worked_examples};
+pub use laws::{atoms_are_runs, plain_lines_are_cut, worked_examples};
 
 #[cfg(test)]
 mod tests;

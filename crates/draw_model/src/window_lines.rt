@@ -1,82 +1,53 @@
 //! The lines of a window.
 
-ghost use Rattle.std.specs.Prelude.{◌≡◌, ℕ, ◌+◌, ◌<◌, ◌≤◌, length, map, take, slice_range, OnOk, IfOk};
+ghost use Rattle.std.specs.Prelude.{◌≡◌, ℕ, ◌<◌, ◌≤◌, length, take, OnOk, IfOk};
+ghost use Rattle.text_model.specs.declared.TheConstants.{MAX_CHARS};
 ghost use Rattle.text_model.specs.Texts.{joined, lines_of, line_count, nth_line};
 ghost use Rattle.list_model.specs.Ranges.{Range, IsRange};
 ghost use Rattle.selection_set.specs.Inside.{range_of, IsInside};
 ghost use Rattle.window_view.specs.Views.{view_of as window_seen};
 ghost use Rattle.draw_model.specs.Atoms.{atoms_of, with_all_shown};
-ghost use Rattle.draw_model.specs.Drawings.{shown_from, cut, drawn_lines as lines_drawn};
-ghost use Rattle.draw_model.specs.Painting.{one, painted, cursor_face, AreParts, AreOrdered};
+ghost use Rattle.draw_model.specs.Drawings.{shown_from, drawn_lines as lines_drawn};
+ghost use Rattle.draw_model.specs.Painting.{one, painted, AreParts};
 
-use crate::atoms::{push_run, push_shown};
+use crate::TABSTOP;
+use crate::cells::{char_drawn, right};
+use crate::growing::Growing;
 use crate::paint::Paint;
 use crate::parts::Parts;
-use json_ui::{Atom, Atoms, DrawnLine, DrawnLines};
-use kak_text::Coord;
+use json_ui::{Atoms, DrawnLine, DrawnLines};
+use kak_text::{Coord, cells};
 use line_buffer::Lines;
 use selection_set::Sel;
 use std::alloc::{AllocError, Global};
 use window_view::Window;
 
-// Adds the cursor, where it is there, behind the atoms.
-fn push_cursor(
+// Adds what a window shows of the characters of a line, of which some are selected. What stands right of the window
+// isn't looked at.
+pub fn push_line(
     alloc: Global,
-    atoms: &mut Vec<Atom>,
-    chars: &[char],
-    paint: &Paint,
-) -> Result<(), AllocError>
-    requires { length chars.now ≤ 1 }
-    ensures { OnOk result (atoms.new.items ≡ with_all_shown atoms.old.items (map (λ c. record { char = c; face = cursor_face paint.now c }) chars.now)) }
-{
-    match chars.first() {
-        None => Ok(()),
-        Some(c) => push_shown(alloc, atoms, *c, paint.cursor_on(*c)),
-    }
-}
-
-// Draws characters of a line, of which some are selected.
-fn draw_parts(
-    alloc: Global,
-    chars: &[char],
-    parts: Parts,
-    turned: bool,
-    paint: &Paint,
-) -> Result<DrawnLine, AllocError>
-    requires paint { paint.now ≡ painted }
-    requires parts { AreOrdered turned (length chars.now) parts }
-    ensures { IfOk result (λ line. (r : Range) (o : ℕ) → IsRange r → r.turned ≡ turned → AreParts r o (length chars.now) parts → line ≡ record { atoms = atoms_of (shown_from (one r) o chars.now) }) }
-{
-    let mut atoms = Vec::new(alloc);
-    push_run(alloc, &mut atoms, &chars[..parts.low], paint.bare)?;
-    push_selected(alloc, &mut atoms, chars, parts, turned, paint)?;
-    push_run(alloc, &mut atoms, &chars[parts.behind..], paint.bare)?;
-    Ok(DrawnLine {
-        atoms: Atoms::of_vec(atoms),
-    })
-}
-
-// Adds those of the characters that are selected.
-fn push_selected(
-    alloc: Global,
-    atoms: &mut Vec<Atom>,
-    chars: &[char],
-    parts: Parts,
-    turned: bool,
+    atoms: &mut Growing,
+    line: &[char],
+    window: Window,
+    parts: &Parts,
     paint: &Paint,
 ) -> Result<(), AllocError>
     requires paint { paint.now ≡ painted }
-    requires parts { AreOrdered turned (length chars.now) parts }
-    ensures { OnOk result ((r : Range) (o : ℕ) → IsRange r → r.turned ≡ turned → AreParts r o (length chars.now) parts → atoms.new.items ≡ with_all_shown atoms.old.items (shown_from (one r) (o + parts.low) (slice_range chars.now parts.low parts.behind))) }
+    requires short { length line.now ≤ MAX_CHARS }
+    ensures { OnOk result ((r : Range) (o : ℕ) → IsRange r → AreParts r o (length line.now) parts.now → atoms.new ≡ with_all_shown atoms.old (shown_from (one r) (window_seen window) o 0 line.now)) }
 {
-    let first = &chars[parts.low..parts.middle];
-    let second = &chars[parts.middle..parts.behind];
-    if turned {
-        push_cursor(alloc, atoms, first, paint)?;
-        return push_run(alloc, atoms, second, paint.selected);
+    let mut column = 0;
+    for (i, c) in line.iter().enumerate() {
+        if u64::from(column) >= right(window) {
+            return Ok(());
+        }
+        let width = cells(*c, column, TABSTOP);
+        let face = parts.face(i, *c, paint);
+        let drawn = char_drawn(window, column, width, *c);
+        atoms.push(alloc, drawn.c, drawn.count, face)?;
+        column += width;
     }
-    push_run(alloc, atoms, first, paint.selected)?;
-    push_cursor(alloc, atoms, second, paint)
+    Ok(())
 }
 
 // Draws a line's part that lies in the window.
@@ -91,17 +62,15 @@ fn draw_line(
     requires there { n < line_count lines.now }
     requires inside { IsInside lines.now sel }
     requires paint { paint.now ≡ painted }
-    ensures { IfOk result (λ line. line ≡ record { atoms = atoms_of (cut (window_seen window) (shown_from (one (range_of lines.now sel)) (length (joined (take n (lines_of lines.now)))) (nth_line lines.now n))) }) }
+    ensures { IfOk result (λ line. line ≡ record { atoms = atoms_of (shown_from (one (range_of lines.now sel)) (window_seen window) (length (joined (take n (lines_of lines.now)))) 0 (nth_line lines.now n)) }) }
 {
     let line = lines.line(n as usize);
-    let from = line.len().min(window.left as usize);
-    let to = line.len().min(from + usize::from(window.columns));
-    let begin = Coord {
-        line: n,
-        column: from as u32,
-    };
-    let parts = Parts::of_sel(begin, to - from, sel);
-    draw_parts(alloc, &line[from..to], parts, sel.turned, paint)
+    let parts = Parts::of_sel(Coord { line: n, column: 0 }, line.len(), sel);
+    let mut atoms = Growing::new(alloc);
+    push_line(alloc, &mut atoms, line, window, &parts, paint)?;
+    Ok(DrawnLine {
+        atoms: Atoms::of_vec(atoms.into_atoms(alloc)?),
+    })
 }
 
 /// Draws the lines of a window, as many as there are, of a text with one selection.

@@ -1,6 +1,7 @@
 use Rattle.std.proofs.Common.{◌≡◌, ℕ, List, refl, sym, ap, ap₂, ◌∙◌}
 use Rattle.std.specs.Prelude.{not, length}
 use Rattle.list_model.specs.Ranges.{Selected}
+use Rattle.text_model.specs.declared.coords.Coord.{Coord}
 use Rattle.selection_set.specs.Inside.{range_of}
 use Rattle.window_view.specs.Views.{view_of as window_seen}
 use Rattle.kak_faces.specs.declared.standard.StandardFace.TheVariants as name
@@ -10,7 +11,7 @@ use Rattle.kak_world.specs.Flat.{Flat, text_of, number_of, mode_of, sels_of, vie
 use Rattle.json_ui.specs.declared.drawing.Drawing.{Drawing}
 use Rattle.json_ui.specs.declared.drawing.Info.TheVariants.{Keep}
 use Rattle.draw_model.specs.Atoms.{Shown, shown_in, atoms_of}
-use Rattle.draw_model.specs.Drawings.{drawn_lines, status_line, mode_text, main_cursor, cursor_drawn, drawing_of}
+use Rattle.draw_model.specs.Drawings.{drawn_lines, status_line, mode_text, main_cursor, main_column, cursor_drawn, drawing_of}
 use Rattle.draw_model.specs.Painting.{one}
 use Rattle.draw_model.proofs.drawing.draw.Goals as goal
 
@@ -41,12 +42,13 @@ returns c =
     ∙ ap₂ (λ s t. line_of (status_line (mode_of who flat) s t)) c.status.ensures c.prompt-typed.ensures in
     let mode : c.in_ok-draw_mode.field-0 ≡ line_of (shown_in (standard_face name.StatusLine) (mode_text (main_cursor text sels) (mode_of who flat) sels (number_of who flat))) =
     c.in_ok-draw_mode.ensures sels (ap (λ (s : Selected). s.main) c.sel-sel.ensures.sel) (ap (λ (s : Selected). length s.list) c.sel-sel.ensures.sel)
-    ∙ ap₂ (λ a m. line_of (shown_in (standard_face name.StatusLine) (mode_text a m sels c.number.result))) c.cursor_at-at.ensures.value c.mode-mode.ensures
+    ∙ ap₂ (λ a m. line_of (shown_in (standard_face name.StatusLine) (mode_text a m sels c.number.result))) c.find_cursor-main.ensures.at c.mode-mode.ensures
     ∙ ap (λ n. line_of (shown_in (standard_face name.StatusLine) (mode_text (main_cursor text sels) (mode_of who flat) sels n))) c.number.ensures in
-    let cursor : c.in_ok-cursor_of.field-0 ≡ cursor_drawn (mode_of who flat) (main_cursor text sels) (view_of who flat) (prompt_of who flat) =
+    let cursor : c.in_ok-cursor_of.field-0 ≡ cursor_drawn (mode_of who flat) (main_cursor text sels).line (main_column text sels) (view_of who flat) (prompt_of who flat) =
     c.in_ok-cursor_of.ensures
-    ∙ ap₂ (λ m a. cursor_drawn m a (window_seen c.window-window.result) c.prompt-typed.result.now) c.mode-mode.ensures c.cursor_at-at.ensures.value
-    ∙ ap₂ (λ v t. cursor_drawn (mode_of who flat) (main_cursor text sels) v t) c.window-window.ensures c.prompt-typed.ensures in
+    ∙ ap₂ (λ m (a : Coord). cursor_drawn m a.line c.find_cursor-main.result.column (window_seen c.window-window.result) c.prompt-typed.result.now) c.mode-mode.ensures c.find_cursor-main.ensures.at
+    ∙ ap₂ (λ k v. cursor_drawn (mode_of who flat) (main_cursor text sels).line k v c.prompt-typed.result.now) c.find_cursor-main.ensures.column c.window-window.ensures
+    ∙ ap (λ t. cursor_drawn (mode_of who flat) (main_cursor text sels).line (main_column text sels) (view_of who flat) t) c.prompt-typed.ensures in
     let a : Drawing = record {
       first = not c.is_drawn.result;
       lines = c.in_ok-draw_lines.field-0;

@@ -1,16 +1,33 @@
+-- The examples hold by computation, with the table of widths open.
 use Rattle.std.proofs.Common.{◌≡◌, [], ◌∷◌, refl, arith}
 use Rattle.std.specs.Prelude.{decimal}
 use Rattle.std.proofs.lemmas.Fmt.{decimal_digit}
+use Rattle.unicode_width.proofs.Computing.{unicode_width}
 use Rattle.draw_model.specs.Drawings.{drawing_of}
+use Rattle.draw_model.specs.Examples.{CharExamples, LineExamples, PlaceExamples}
 use Rattle.draw_model.proofs.laws.worked_examples.Goals as goal
 
+chars : CharExamples
+chars = search
+
+cells : LineExamples
+unfolding unicode_width
+cells = search
+
+places : PlaceExamples
+unfolding unicode_width
+places = search
+
 pub returns : goal.returns
-unfolding drawing_of
+unfolding drawing_of unicode_width
 returns c =
     let zero : decimal 0 ≡ 48 ∷ [] = decimal_digit 0 (omega arith) in
     let one : decimal 1 ≡ 49 ∷ [] = decimal_digit 1 (omega arith) in
     let two : decimal 2 ≡ 50 ∷ [] = decimal_digit 2 (omega arith) in
     record {
+      chars = chars;
+      cells = cells;
+      places = places;
       opened_world = rw (one, zero) refl;
       drawn_before = refl;
       cursor_in_the_middle = refl;

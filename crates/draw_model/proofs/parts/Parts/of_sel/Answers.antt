@@ -1,4 +1,4 @@
-use Rattle.std.proofs.Common.{◌+◌, ◌≤◌, length, arith}
+use Rattle.std.proofs.Common.{◌+◌, ◌≤◌, length, refl, arith}
 use Rattle.text_model.specs.Texts.{nth_line}
 use Rattle.draw_model.proofs.parts.Parts.of_sel.Goals as goal
 
@@ -10,4 +10,5 @@ returns c text inside part =
       low = c.chars_before.ensures text part inside.low.on_line low;
       middle = c.chars_before_seam.ensures text inside part;
       behind = omega (arith, c.chars_before-2.ensures text part inside.high.on_line high);
+      turned = refl;
     }
