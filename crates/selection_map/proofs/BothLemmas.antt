@@ -11,7 +11,8 @@ use Rattle.selection_set.specs.declared.sel.Sel.{Sel}
 use Rattle.selection_set.specs.Inside.{IsInside}
 use Rattle.selection_map.specs.Carrying.{IsStep, Carries, CarriesBoth}
 
-ordered-by : (insert : Bool) (old new : List ℕ) (b e : ℕ) → IsChange insert old new b e → b ≤ e
+-- the range of a change is in order
+pub ordered-by : (insert : Bool) (old new : List ℕ) (b e : ℕ) → IsChange insert old new b e → b ≤ e
 ordered-by true old new b e c = c.ordered
 ordered-by false old new b e c = c.ordered
 

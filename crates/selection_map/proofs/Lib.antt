@@ -1,3 +1,5 @@
 pub mod CarryLemmas
 pub mod SmallLemmas
 pub mod BothLemmas
+pub mod FrontLemmas
+pub mod ListLemmas

@@ -9,6 +9,7 @@ use Rattle.list_model.specs.Settling.{carried}
 use Rattle.selection_set.specs.declared.sel.Sel.{Sel}
 use Rattle.selection_set.specs.Inside.{range_of, IsInside}
 use Rattle.text_model.specs.Mapping.{shifted}
+use Rattle.std.specs.List.{AllByRecursion}
 
 -- a coordinate within what a text may have
 pub record IsSmall (at : Coord) : Type 0 where
@@ -37,3 +38,7 @@ pub record AreSmall (sel : Sel) (shift : Shift) : Type 0 where
 pub record CarriesBoth (old new : List ℕ) (m : Move) (sel to : Sel) : Type 0 where
   pub inside : IsInside new to
   pub goes : range_of new to ≡ carried (shifted m) (range_of old sel)
+
+-- the coordinates of all selections of a list and of a shift, within what a text may have
+abbrev pub AllSmall : List Sel → Shift → Type 0
+AllSmall list shift = AllByRecursion (λ s. AreSmall s shift) list

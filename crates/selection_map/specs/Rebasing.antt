@@ -3,6 +3,7 @@ use Rattle.std.specs.Prelude.{◌+◌, ◌-◌, ◌==◌, if◌then◌else◌}
 use Rattle.text_model.specs.declared.coords.Coord.{Coord}
 use Rattle.text_model.specs.declared.coords.Shift.{Shift}
 use Rattle.text_model.specs.Coords.{is_at_most}
+use Rattle.selection_set.specs.declared.sel.Sel.{Sel}
 
 -- the coordinate that lies as far behind `to` as `at` lies behind `from`
 abbrev pub rebased : Coord → Coord → Coord → Coord
@@ -26,3 +27,7 @@ uncut shift at =
 -- where a coordinate goes through a change
 abbrev pub mapped : Shift → Coord → Coord
 mapped shift at = earlier (uncut shift at) shift.last
+
+-- where a selection goes through a change: both of its ends go, flag and target stay
+abbrev pub mapped_sel : Shift → Sel → Sel
+mapped_sel shift sel = record { low = mapped shift sel.low; high = mapped shift sel.high; turned = sel.turned; target = sel.target }

@@ -6,7 +6,7 @@ ghost use Rattle.text_model.specs.Texts.{IsPlace};
 ghost use Rattle.text_model.specs.Changes.{Move};
 ghost use Rattle.selection_map.specs.Carrying.{IsSmall, IsStep, Carries, AreSmall, CarriesBoth};
 ghost use Rattle.selection_set.specs.Inside.{IsInside};
-ghost use Rattle.selection_map.specs.Rebasing.{rebased, mapped, earlier};
+ghost use Rattle.selection_map.specs.Rebasing.{rebased, mapped, mapped_sel, earlier};
 
 use selection_set::Sel;
 use text_model::{Coord, Shift};
@@ -73,6 +73,7 @@ pub fn map_one(at: Coord, shift: &Shift) -> Coord
 /// its target stay.
 pub fn map_sel(sel: Sel, shift: &Shift) -> Sel
     requires { AreSmall sel shift.now }
+    ensures mapped { result ≡ mapped_sel shift.now sel }
     ensures carries { (old new : List ℕ) (m : Move) → IsStep old new shift.now m → IsInside old sel → CarriesBoth old new m sel result }
 {
     Sel {
