@@ -1,7 +1,17 @@
 -- Lemmas on display columns.
-use Rattle.std.proofs.Common.{◌≡◌, ℕ, ◌+◌, ◌<◌, ◌≤◌, List, [], ◌∷◌, ◌++◌, length, take, drop, get_or, refl, sym, ap, ◌∙◌, arith}
+use Rattle.std.proofs.Common.{◌≡◌, ℕ, ◌+◌, ◌<◌, ◌≤◌, leb, List, [], ◌∷◌, ◌++◌, length, take, drop, get_or, refl, sym, ap, ◌∙◌, arith, false, Some, None, lt-ltb}
+use Rattle.std.specs.Prelude.{if◌then◌else◌, unwrap_or}
 use Rattle.std.proofs.lemmas.List.{take_more, take-append-drop, take-take}
-use Rattle.kak_text.specs.Cells.{cells_of, column_behind, display_column}
+use Rattle.text_model.proofs.PlaceLemmas.{leb_true}
+use Rattle.unicode_width.specs.Width.{char_width, alone}
+use Rattle.kak_text.specs.Cells.{cells_of, column_behind, display_column, width_of}
+
+-- a printable character of ASCII has one cell
+pub printable-width : (c : ℕ) → 0x20 ≤ c → c < 0x7F → width_of c ≡ 1
+unfolding char_width
+printable-width c h k =
+    ap (λ t. unwrap_or (if t then (if leb 0x20 c then Some 1 else None) else (if leb 0xA0 c then Some (alone false c).0 else None)) 1) (lt-ltb c 0x7F k)
+    ∙ ap (λ t. unwrap_or (if t then Some 1 else None) 1) (leb_true 0x20 c h)
 
 column_behind-append : (tabstop column : ℕ) (xs ys : List ℕ) → column_behind tabstop column (xs ++ ys) ≡ column_behind tabstop (column_behind tabstop column xs) ys
 column_behind-append tabstop column [] ys = refl

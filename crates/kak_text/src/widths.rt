@@ -23,11 +23,14 @@ pub fn cells(c: char, column: u32, tabstop: u32) -> u32
     width(c)
 }
 
-// The width of a character that is no tab.
+// The width of a character that is no tab. Printable ASCII, which most text is, needs no table.
 fn width(c: char) -> u32
     ensures value { result ≡ width_of c }
     ensures small { result ≤ 3 }
 {
+    if matches!(c, ' '..='~') {
+        return 1;
+    }
     match c.width() {
         Some(width) => width as u32,
         None => 1,
