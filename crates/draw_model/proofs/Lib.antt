@@ -1,12 +1,17 @@
 pub mod AtomLemmas
 pub mod CellLemmas
+pub mod CursorLemmas
+pub mod DrawnLemmas
 pub mod FaceLemmas
 pub mod LawLemmas
 pub mod LineLemmas
+pub mod ListLemmas
 pub mod ModeLemmas
+pub mod PaintedLemmas
 pub mod PartLemmas
 pub mod PlainLemmas
 pub mod PromptLemmas
 pub mod RunLemmas
 pub mod StatusLemmas
+pub mod StretchLemmas
 pub mod WindowLemmas

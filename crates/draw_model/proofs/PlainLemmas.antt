@@ -1,14 +1,15 @@
 -- What a window shows of characters of one cell.
-use Rattle.std.proofs.Common.{◌≡◌, ℕ, zero, suc, ◌+◌, ◌-◌, ◌<◌, ◌≤◌, ◌%◌, max, true, false, ◌==◌, eqb, leb, List, [], ◌∷◌, ◌++◌, take, drop, replicate, refl, sym, ap, ap₂, ◌∙◌, arith, inl, inr, lt-ltb, ne_eqb, Some, None}
-use Rattle.std.specs.Prelude.{if◌then◌else◌, unwrap_or}
+use Rattle.std.proofs.Common.{◌≡◌, ℕ, zero, suc, ◌+◌, ◌-◌, ◌<◌, ◌≤◌, ◌%◌, max, true, false, ◌==◌, eqb, leb, List, [], ◌∷◌, ◌++◌, take, drop, replicate, refl, sym, ap, ap₂, ◌∙◌, arith, inl, inr, ne_eqb}
+use Rattle.std.specs.Prelude.{if◌then◌else◌}
 use Rattle.std.specs.List.{AllByRecursion}
 use Rattle.std.proofs.lemmas.Bool.{cases_lt}
 use Rattle.text_model.proofs.PlaceLemmas.{leb_true, leb_false}
 use Rattle.list_model.specs.Ranges.{Selected}
-use Rattle.unicode_width.specs.Width.{char_width, alone}
+use Rattle.unicode_width.specs.Width.{char_width}
 use Rattle.kak_text.specs.Cells.{cells_of, width_of}
+use Rattle.kak_text.proofs.CellLemmas.{printable-width}
 use Rattle.window_view.specs.View.{View, text_columns}
-use Rattle.draw_model.specs.declared.TheConstants.{TABSTOP}
+use Rattle.kak_world.specs.declared.state.TheConstants.{TABSTOP}
 use Rattle.draw_model.specs.Atoms.{Shown, shown_in}
 use Rattle.draw_model.specs.Cells.{right_of, cells_inside, whole_drawn, char_drawn}
 use Rattle.draw_model.specs.Drawings.{face_at, shown_from}
@@ -20,7 +21,7 @@ plain-before view column c h =
     let z : cells_inside view column 1 ≡ 0 = omega arith in
     ap (λ n. if n == 1 then whole_drawn c 1 else replicate n 32) z
 
-plain-within : (view : View) (column c : ℕ) → view.left ≤ column → column < right_of view → whole_drawn c 1 ≡ c ∷ [] → char_drawn view column 1 c ≡ c ∷ []
+pub plain-within : (view : View) (column c : ℕ) → view.left ≤ column → column < right_of view → whole_drawn c 1 ≡ c ∷ [] → char_drawn view column 1 c ≡ c ∷ []
 plain-within view column c h k itself =
     let z : cells_inside view column 1 ≡ 1 = omega arith in
     ap (λ n. if n == 1 then whole_drawn c 1 else replicate n 32) z ∙ itself
@@ -69,15 +70,9 @@ plain_lines sels view o line h =
     let m : view.left - 0 ≡ view.left = omega arith in
     plain-from sels view o 0 line h ∙ ap₂ (λ a b. take a (drop b (faced_from sels o line))) n m
 
-printable_width : (c : ℕ) → 0x20 ≤ c → c < 0x7F → width_of c ≡ 1
-unfolding char_width
-printable_width c h k =
-    ap (λ t. unwrap_or (if t then (if leb 0x20 c then Some 1 else None) else (if leb 0xA0 c then Some (alone false c).0 else None)) 1) (lt-ltb c 0x7F k)
-    ∙ ap (λ t. unwrap_or (if t then Some 1 else None) 1) (leb_true 0x20 c h)
-
 printable_cells : (c : ℕ) → 0x20 ≤ c → c < 0x7F → (column : ℕ) → cells_of c column TABSTOP ≡ 1
 printable_cells c h k column =
-    ap (λ t. if t then TABSTOP - column % TABSTOP else width_of c) (ne_eqb c 9 (λ e. omega arith)) ∙ printable_width c h k
+    ap (λ t. if t then TABSTOP - column % TABSTOP else width_of c) (ne_eqb c 9 (λ e. omega arith)) ∙ printable-width c h k
 
 printable_itself : (c : ℕ) → 0x20 ≤ c → c < 0x7F → whole_drawn c 1 ≡ c ∷ []
 printable_itself c h k =

@@ -3,7 +3,7 @@ use Rattle.std.proofs.Common.{◌≡◌, ℕ, suc, ◌+◌, ◌<◌, List, [], �
 use Rattle.unicode_width.specs.Width.{char_width}
 use Rattle.kak_text.specs.Cells.{cells_of, display_column}
 use Rattle.window_view.proofs.HoldingLemmas.{next_column}
-use Rattle.draw_model.specs.declared.TheConstants.{TABSTOP}
+use Rattle.kak_world.specs.declared.state.TheConstants.{TABSTOP}
 use Rattle.draw_model.specs.Drawings.{prompt_column}
 
 -- before what was typed there is one cell

@@ -1,5 +1,5 @@
 -- How atoms grow by characters in one face.
-use Rattle.std.proofs.Common.{◌≡◌, ℕ, Bool, true, false, List, [], ◌∷◌, ◌++◌, length, refl, sym, ap, ap₂, ◌∙◌, append_assoc, append-nil, eq-eqb}
+use Rattle.std.proofs.Common.{◌≡◌, ℕ, Bool, true, false, List, [], ◌∷◌, ◌++◌, length, refl, sym, ap, ◌∙◌, append_assoc, append-nil, eq-eqb}
 use Rattle.std.specs.Prelude.{◌==◌}
 use Rattle.kak_faces.specs.declared.colour.Colour.{Colour}
 use Rattle.kak_faces.specs.declared.colour.Colour.TheVariants.{Named, Rgb}
@@ -8,6 +8,7 @@ use Rattle.kak_faces.specs.Same.{palette_place, same_colour, same_word, same_fac
 use Rattle.json_ui.specs.declared.drawing.Atom.{Atom}
 use Rattle.std.proofs.lemmas.List.{map-append}
 use Rattle.draw_model.specs.Atoms.{Shown, shown_in, atom_of, longer, with_all_shown}
+use Rattle.draw_model.specs.Painting.{Grown}
 use Rattle.draw_model.proofs.AtomLemmas.{with_shown-same, with_shown-other, with_all_shown-append}
 use Rattle.draw_model.proofs.LawLemmas.{equal_faces}
 
@@ -64,15 +65,30 @@ pub pushed_run-other : (old front : List Atom) (a : Atom) (face : Face) (cs : Li
 pushed_run-other old front a face [] e h n = cc
 pushed_run-other old front a face (c ∷ cs) e h n = ap (λ r. with_all_shown r (shown_in face (c ∷ cs))) e ∙ run-other front a face c cs h
 
--- more characters wait: in the same face, or in another once those that waited were drawn
-pub grown-same : (done : List Atom) (old face : Face) (waiting new more : List ℕ) → same_face old face ≡ true → new ≡ waiting ++ more
-    → with_all_shown done (shown_in old new) ≡ with_all_shown (with_all_shown done (shown_in old waiting)) (shown_in face more)
-grown-same done old face waiting new more e h =
-    ap (λ t. with_all_shown done (shown_in old t)) h
-    ∙ ap (with_all_shown done) (map-append (λ (d : ℕ). let x : Shown = record { char = d; face = old } in x) waiting more)
-    ∙ with_all_shown-append done (shown_in old waiting) (shown_in old more)
-    ∙ ap (λ f. with_all_shown (with_all_shown done (shown_in old waiting)) (shown_in f more)) (equal_faces old face e)
+-- more characters wait
+pub grown-more : (done : List Atom) (face : Face) (waiting new more : List ℕ) → new ≡ waiting ++ more
+    → with_all_shown done (shown_in face new) ≡ with_all_shown (with_all_shown done (shown_in face waiting)) (shown_in face more)
+grown-more done face waiting new more h =
+    ap (λ t. with_all_shown done (shown_in face t)) h
+    ∙ ap (with_all_shown done) (map-append (λ (d : ℕ). let x : Shown = record { char = d; face = face } in x) waiting more)
+    ∙ with_all_shown-append done (shown_in face waiting) (shown_in face more)
 
-pub grown-other : (done after : List Atom) (old face : Face) (waiting left new more : List ℕ) → after ≡ with_all_shown done (shown_in old waiting) → left ≡ [] → new ≡ left ++ more
-    → with_all_shown after (shown_in face new) ≡ with_all_shown (with_all_shown done (shown_in old waiting)) (shown_in face more)
-grown-other done after old face waiting left new more e z h = ap₂ (λ d t. with_all_shown d (shown_in face t)) e (h ∙ ap (λ t. t ++ more) z)
+-- atoms with those that wait, and the face
+abbrev pub grown : List Atom → Face → List ℕ → Grown
+grown done face waiting = record { atoms = with_all_shown done (shown_in face waiting); face = face }
+
+abbrev more_of : Grown → List ℕ → Grown
+more_of old more = record { atoms = with_all_shown old.atoms (shown_in old.face more); face = old.face }
+
+pub grown-pushed : (done : List Atom) (face : Face) (waiting new more : List ℕ) (old : Grown) → new ≡ waiting ++ more → grown done face waiting ≡ old
+    → grown done face new ≡ more_of old more
+grown-pushed done face waiting new more old h e =
+    ap (λ (t : List Atom). let r : Grown = record { atoms = t; face = face } in r) (grown-more done face waiting new more h)
+    ∙ ap (λ (g : Grown). more_of g more) e
+
+abbrev with_face : Grown → Face → Grown
+with_face old face = record { atoms = old.atoms; face = face }
+
+-- the face is there already
+pub faced-same : (done : List Atom) (own face : Face) (waiting : List ℕ) (old : Grown) → same_face own face ≡ true → grown done own waiting ≡ old → old ≡ with_face old face
+faced-same done own face waiting old h e = ap (with_face old) (sym (ap (λ (g : Grown). g.face) e) ∙ equal_faces own face h)

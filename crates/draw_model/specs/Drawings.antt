@@ -19,7 +19,7 @@ use Rattle.kak_world.specs.declared.state.Mode.TheVariants.{Normal, Insert, Prom
 use Rattle.kak_world.specs.declared.state.Status.{Status}
 use Rattle.kak_world.specs.declared.state.Status.TheVariants.{Quiet, Said, Refused}
 use Rattle.kak_world.specs.Flat.{Flat, text_of, number_of, mode_of, sels_of, view_of, status_of, prompt_of, is_drawn, with_view}
-use Rattle.draw_model.specs.declared.TheConstants.{TABSTOP}
+use Rattle.kak_world.specs.declared.state.TheConstants.{TABSTOP}
 use Rattle.draw_model.specs.Atoms.{Shown, shown_in, atoms_of}
 use Rattle.draw_model.specs.Cells.{char_drawn}
 

@@ -1,6 +1,6 @@
 -- Worked examples of drawings, which hold by computation.
 use Rattle.std.specs.Prelude.{◌≡◌, ℕ, true, false, None, List, [], ◌∷◌, codes}
-use Rattle.list_model.specs.Ranges.{Range, only}
+use Rattle.list_model.specs.Ranges.{Range, Selected, only}
 use Rattle.window_view.specs.View.{View}
 use Rattle.kak_faces.specs.declared.colour.NamedColour.{NamedColour}
 use Rattle.kak_faces.specs.declared.colour.NamedColour.TheVariants as named
@@ -97,6 +97,57 @@ pub record LineExamples : Type 0 where
   pub mark_at_the_right : drawn_lines (0x61 ∷ 0x62 ∷ 0x65 ∷ 0x0301 ∷ 10 ∷ []) (one (only 0)) (narrow 0 0) ≡ line (under_cursor (codes "a") ∷ bare (codes "be") ∷ []) ∷ []
   pub control : drawn_lines (0x61 ∷ 0x1B ∷ 0x62 ∷ 10 ∷ []) (one (only 0)) whole ≡ line (under_cursor (codes "a") ∷ bare (0xFFFD ∷ 0x62 ∷ 10 ∷ []) ∷ []) ∷ []
 
+-- a turned selection
+abbrev pub turned_between : ℕ → ℕ → Range
+turned_between a b = record (between a b) { turned = true }
+
+-- a list of two selections, and of three
+abbrev pub two : Range → Range → ℕ → Selected
+two r s main = record { list = r ∷ s ∷ []; main = main }
+
+abbrev pub three : Range → Range → Range → ℕ → Selected
+three r s t main = record { list = r ∷ s ∷ t ∷ []; main = main }
+
+-- an atom of the main selection, and of another
+abbrev pub in_main : List ℕ → Atom
+in_main contents = atom contents named.White named.Blue
+
+abbrev pub in_other : List ℕ → Atom
+in_other contents = atom contents named.Black named.Blue
+
+-- of lists of selections
+pub record ListExamples : Type 0 where
+  pub first_is_main : drawn_lines (codes "abcdef\n") (two (between 0 1) (between 3 4) 0) whole
+      ≡ line (in_main (codes "a") ∷ under_cursor (codes "b") ∷ bare (codes "c") ∷ in_other (codes "d") ∷ under_cursor (codes "e") ∷ bare (codes "f\n") ∷ []) ∷ []
+  pub turned_other : drawn_lines (codes "abcdef\n") (two (turned_between 0 2) (between 4 4) 1) whole
+      ≡ line (under_cursor (codes "a") ∷ in_other (codes "bc") ∷ bare (codes "d") ∷ under_cursor (codes "e") ∷ bare (codes "f\n") ∷ []) ∷ []
+  pub turned_main : drawn_lines (codes "abcdef\n") (two (between 0 1) (turned_between 3 5) 1) whole
+      ≡ line (in_other (codes "a") ∷ under_cursor (codes "b") ∷ bare (codes "c") ∷ under_cursor (codes "d") ∷ in_main (codes "ef") ∷ bare (codes "\n") ∷ []) ∷ []
+  -- selections that touch
+  pub neighbours : drawn_lines (codes "abcd\n") (two (between 0 1) (between 2 3) 1) whole
+      ≡ line (in_other (codes "a") ∷ under_cursor (codes "b") ∷ in_main (codes "c") ∷ under_cursor (codes "d") ∷ bare (codes "\n") ∷ []) ∷ []
+  -- two cursors beside each other make one atom, since they have the same face
+  pub cursors_that_touch : drawn_lines (codes "abcd\n") (two (only 1) (only 2) 0) whole ≡ line (bare (codes "a") ∷ under_cursor (codes "bc") ∷ bare (codes "d\n") ∷ []) ∷ []
+  pub both_on_newlines : drawn_lines (codes "ab\nc\n") (two (between 1 2) (only 4) 1) whole
+      ≡ line (bare (codes "a") ∷ in_other (codes "b") ∷ atom (codes "\n") named.Black named.Cyan ∷ []) ∷ line (bare (codes "c") ∷ atom (codes "\n") named.Black named.Cyan ∷ []) ∷ []
+  -- each over a line's end; the main one is the second
+  pub over_lines : drawn_lines (codes "ab\ncd\nef\n") (two (between 1 3) (turned_between 5 7) 1) whole
+      ≡ line (bare (codes "a") ∷ in_other (codes "b\n") ∷ [])
+      ∷ line (under_cursor (codes "c") ∷ bare (codes "d") ∷ atom (codes "\n") named.Black named.Cyan ∷ [])
+      ∷ line (in_main (codes "ef") ∷ bare (codes "\n") ∷ []) ∷ []
+  -- the first ends on the line on which the second begins, which goes over a whole line
+  pub over_a_whole_line : drawn_lines (codes "ab\ncd\nef\n") (three (between 0 1) (between 2 6) (only 7) 1) whole
+      ≡ line (in_other (codes "a") ∷ under_cursor (codes "b") ∷ in_main (codes "\n") ∷ [])
+      ∷ line (in_main (codes "cd\n") ∷ [])
+      ∷ line (under_cursor (codes "ef") ∷ bare (codes "\n") ∷ []) ∷ []
+  -- the first selection is above the window, and the last one below it
+  pub one_in_the_window : drawn_lines (codes "a\nb\nc\nd\n") (three (only 0) (between 3 4) (only 6) 0) (narrow 1 0)
+      ≡ line (bare (codes "b") ∷ in_other (codes "\n") ∷ []) ∷ line (under_cursor (codes "c") ∷ bare (codes "\n") ∷ []) ∷ []
+  -- the first selection is left of the window, and the last one right of it
+  pub cut_by_the_window : drawn_lines (codes "abcdefgh\n") (three (between 0 1) (between 3 5) (only 7) 1) (narrow 0 4)
+      ≡ line (in_main (codes "e") ∷ under_cursor (codes "f") ∷ bare (codes "g") ∷ []) ∷ []
+  pub mode_of_three : mode_text (main_cursor (codes "a\nbc\n") (three (only 0) (only 2) (only 3) 1)) Normal (three (only 0) (only 2) (only 3) 1) 1 ≡ codes "*scratch* 2:1 normal 2/3 - client1"
+
 -- of where the main cursor stands
 pub record PlaceExamples : Type 0 where
   pub column_behind_a_tab : main_column (codes "x\na\tb\n") (one (only 4)) ≡ 8
@@ -116,6 +167,7 @@ pub record PlaceExamples : Type 0 where
 pub record Examples : Type 0 where
   pub chars : CharExamples
   pub cells : LineExamples
+  pub lists : ListExamples
   pub places : PlaceExamples
   pub opened_world : drawing_of 0 opened ≡ record {
     first = true;

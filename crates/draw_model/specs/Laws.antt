@@ -6,7 +6,7 @@ use Rattle.kak_text.specs.Cells.{cells_of}
 use Rattle.window_view.specs.View.{View, text_columns}
 use Rattle.kak_faces.specs.Same.{same_face}
 use Rattle.json_ui.specs.declared.drawing.Atom.{Atom}
-use Rattle.draw_model.specs.declared.TheConstants.{TABSTOP}
+use Rattle.kak_world.specs.declared.state.TheConstants.{TABSTOP}
 use Rattle.draw_model.specs.Atoms.{Shown, shown_in}
 use Rattle.draw_model.specs.Cells.{whole_drawn}
 use Rattle.draw_model.specs.Drawings.{face_at, shown_from}

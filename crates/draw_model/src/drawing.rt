@@ -6,13 +6,12 @@ ghost use Rattle.window_view.specs.Views.{view_of as window_seen};
 ghost use Rattle.kak_world.specs.Flat.{is_joined, text_of, sels_of};
 ghost use Rattle.draw_model.specs.Drawings.{main_cursor, main_column, main_cells, prompt_column, cursor_drawn, drawing_of, after_following};
 
-use crate::TABSTOP;
 use crate::status::{draw_mode, draw_status};
 use crate::window_lines::draw_lines;
 use json_ui::{Cursor, Drawing, Info};
 use kak_faces::StandardFace;
 use kak_text::{Coord, cells};
-use kak_world::{Mode, World};
+use kak_world::{Mode, TABSTOP, World};
 use std::alloc::{AllocError, Global};
 use window_view::{Window, cell_of};
 
@@ -30,7 +29,8 @@ fn cursor_at(world: &World, who: u32) -> Coord
     ensures value { result ≡ main_cursor (text_of who world.now.flat) (sels_of who world.now.flat) }
     ensures place { IsPlace (text_of who world.now.flat) result }
 {
-    world.sel(who).cursor()
+    let sels = world.sels(who);
+    sels.at(sels.main()).cursor()
 }
 
 // Finds the main cursor.
@@ -88,25 +88,32 @@ fn cursor_of(
     }
 }
 
-/// Draws what a client is shown, whose window has followed its main cursor. It costs the lines of
-/// the window up to its right side, and not the text. An `Err` says that memory ran out; a prompt of 2^31 cells or more
-/// counts as that too.
+/// Draws what a client is shown, whose window has followed its main cursor. It costs the lines of the window up to its
+/// right side with the selections up to its end, and not the text. An `Err` says that memory ran out; a prompt of 2^31
+/// cells or more counts as that too.
 pub fn draw(alloc: Global, world: &World, who: u32) -> Result<Drawing, AllocError>
     requires { is_joined who world.now.flat ≡ true }
     ensures { IfOk result (λ drawing. drawing ≡ drawing_of who world.now.flat) }
 {
-    let sel = world.sel(who);
+    let sels = world.sels(who);
     let main = find_cursor(world, who);
     let window = world.window(who);
     let mode = world.mode(who);
     let typed = world.prompt(who);
     Ok(Drawing {
         first: !world.is_drawn(who),
-        lines: draw_lines(alloc, world.lines(who), window, sel)?,
+        lines: draw_lines(alloc, world.lines(who), window, sels)?,
         default_face: StandardFace::Default.face(),
         padding_face: StandardFace::BufferPadding.face(),
         status: draw_status(alloc, mode, world.status(who), typed)?,
-        mode_line: draw_mode(alloc, main.at, mode, world.number(who))?,
+        mode_line: draw_mode(
+            alloc,
+            main.at,
+            mode,
+            sels.main(),
+            sels.len(),
+            world.number(who),
+        )?,
         status_face: StandardFace::StatusLine.face(),
         cursor: cursor_of(mode, main, window, typed)?,
         info: Info::Keep,

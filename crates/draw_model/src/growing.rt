@@ -1,4 +1,4 @@
-//! Atoms that grow character by character.
+//! Atoms that grow at their end.
 
 ghost use Rattle.std.specs.Prelude.{◌≡◌, [], ◌++◌, replicate, OnOk, IfOk};
 ghost use Rattle.draw_model.specs.Atoms.{shown_in, with_all_shown};
@@ -10,27 +10,27 @@ use kak_text::Chars;
 use std::alloc::{AllocError, Global};
 use std::marker::Model;
 
-// Atoms that grow at their end. The characters that came last wait for others of their face; contracts see the atoms
-// that there are with them.
+// Atoms that grow at their end, and the face that more characters get. The characters that came last wait for others
+// of their face; contracts see the atoms that there are with them.
 #[derive(Drop, Debug)]
 pub struct Growing {
+    alloc: Global,
     done: Vec<Atom>,
     waiting: Chars,
     face: Face,
 }
 
 impl Model for Growing {
-    ghost use Rattle.std.specs.Prelude.{List};
-    ghost use Rattle.json_ui.specs.declared.drawing.Atom.{Atom};
     ghost use Rattle.draw_model.specs.Atoms.{shown_in, with_all_shown};
+    ghost use Rattle.draw_model.specs.Painting.{Grown};
 
-    ghost Value = { List Atom };
+    ghost Value = { Grown };
 
-    ghost view = { λ g. with_all_shown g.done.items (shown_in g.face g.waiting) };
+    ghost view = { λ g. record { atoms = with_all_shown g.done.items (shown_in g.face g.waiting); face = g.face } };
 }
 
 // Adds a character so many times.
-fn push_times(chars: &mut Chars, c: char, count: u64) -> Result<(), AllocError>
+fn add_times(chars: &mut Chars, c: char, count: u64) -> Result<(), AllocError>
     ensures { OnOk result (chars.new ≡ chars.old ++ replicate count c) }
 {
     for _ in 0..count {
@@ -55,35 +55,50 @@ fn push_taken(
 }
 
 impl Growing {
-    // No atoms.
+    // No atoms. Takes no memory.
     pub fn new(alloc: Global) -> Growing
-        ensures { result ≡ [] }
+        ensures { result.atoms ≡ [] }
     {
         Growing {
+            alloc,
             done: Vec::new(alloc),
             waiting: Chars::new(alloc),
             face: StandardFace::Default.face(),
         }
     }
 
-    // Adds a character in its face so many times. An `Err` leaves some of the atoms.
-    pub fn push(&mut self, alloc: Global, c: char, count: u64, face: Face) -> Result<(), AllocError>
-        ensures { OnOk result (self.new ≡ with_all_shown self.old (shown_in face (replicate count c))) }
+    // Changes the face that more characters get. An `Err` leaves some of the atoms.
+    pub fn set_face(&mut self, face: Face) -> Result<(), AllocError>
+        ensures { OnOk result (self.new ≡ record { atoms = self.old.atoms; face = face }) }
     {
         if self.face.is_same(face) {
-            return push_times(&mut self.waiting, c, count);
+            return Ok(());
         }
-        push_taken(alloc, &mut self.done, &mut self.waiting, self.face)?;
+        push_taken(self.alloc, &mut self.done, &mut self.waiting, self.face)?;
         self.face = face;
-        push_times(&mut self.waiting, c, count)
+        Ok(())
     }
 
-    // The atoms, with those that waited.
-    pub fn into_atoms(self, alloc: Global) -> Result<Vec<Atom>, AllocError>
-        ensures { IfOk result (λ atoms. atoms.items ≡ self) }
+    // Adds characters. An `Err` leaves some of the atoms.
+    pub fn push_chars(&mut self, chars: &[char]) -> Result<(), AllocError>
+        ensures { OnOk result (self.new ≡ record { atoms = with_all_shown self.old.atoms (shown_in self.old.face chars.now); face = self.old.face }) }
     {
-        let mut atoms = self.done;
-        push_run(alloc, &mut atoms, self.waiting.as_slice(), self.face)?;
-        Ok(atoms)
+        self.waiting.extend_from_slice(chars)
+    }
+
+    // Adds a character so many times. An `Err` leaves some of the atoms.
+    pub fn push_times(&mut self, c: char, count: u64) -> Result<(), AllocError>
+        ensures { OnOk result (self.new ≡ record { atoms = with_all_shown self.old.atoms (shown_in self.old.face (replicate count c)); face = self.old.face }) }
+    {
+        add_times(&mut self.waiting, c, count)
+    }
+
+    // Takes the atoms out, with those that waited: none are left. An `Err` leaves some of them.
+    pub fn take_atoms(&mut self) -> Result<Vec<Atom>, AllocError>
+        ensures taken { IfOk result (λ atoms. atoms.items ≡ self.old.atoms) }
+        ensures left { OnOk result (self.new.atoms ≡ []) }
+    {
+        push_taken(self.alloc, &mut self.done, &mut self.waiting, self.face)?;
+        Ok(std::mem::replace(&mut self.done, Vec::new(self.alloc)))
     }
 }

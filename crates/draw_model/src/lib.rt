@@ -9,10 +9,8 @@ mod laws;
 mod paint;
 mod parts;
 mod status;
+mod stretches;
 mod window_lines;
-
-/// The distance of tab stops, in cells.
-pub const TABSTOP: u32 = 8;
 
 pub use atoms::{push_run, push_shown};
 pub use drawing::{draw, follow_cursor};

@@ -1,33 +1,37 @@
-//! The faces of the characters of a text with one selection.
+//! The faces of the characters of a text with selections.
 
 ghost use Rattle.std.specs.Prelude.{◌≡◌};
 
 use kak_faces::{Face, StandardFace, merge};
 
-// The faces of characters outside of the selection, inside it, and of the cursor, on a newline or another character.
+// The faces of a selection: of its characters, and of its cursor on a newline or another character.
 #[derive(Clone, Copy, Debug)]
-pub struct Paint {
-    pub bare: Face,
+pub struct Colors {
     pub selected: Face,
     pub cursor: Face,
     pub cursor_eol: Face,
 }
 
-impl Paint {
-    ghost use Rattle.draw_model.specs.Painting.{painted, cursor_face};
+// The faces of characters outside of selections, and of the main one and the others.
+#[derive(Clone, Copy, Debug)]
+pub struct Paint {
+    pub bare: Face,
+    pub main: Colors,
+    pub other: Colors,
+}
 
-    // The faces that the standard faces give.
-    #[tactic(auto, unfolding(crate::specs::Painting::painted))]
-    pub fn standard() -> Paint
-        ensures { result ≡ painted }
+impl Colors {
+    ghost use Rattle.draw_model.specs.Painting.{colored, cursor_face};
+
+    // The faces that these standard faces give.
+    fn standard(selection: StandardFace, cursor: StandardFace, cursor_eol: StandardFace) -> Colors
+        ensures { result ≡ colored selection cursor cursor_eol }
     {
-        let bare = StandardFace::Default.face();
-        let selected = merge(bare, StandardFace::PrimarySelection.face());
-        Paint {
-            bare,
+        let selected = merge(StandardFace::Default.face(), selection.face());
+        Colors {
             selected,
-            cursor: merge(selected, StandardFace::PrimaryCursor.face()),
-            cursor_eol: merge(selected, StandardFace::PrimaryCursorEol.face()),
+            cursor: merge(selected, cursor.face()),
+            cursor_eol: merge(selected, cursor_eol.face()),
         }
     }
 
@@ -40,5 +44,36 @@ impl Paint {
         } else {
             self.cursor
         }
+    }
+}
+
+impl Paint {
+    ghost use Rattle.draw_model.specs.Painting.{painted, colors_of};
+
+    // The faces that the standard faces give.
+    #[tactic(auto, unfolding(crate::specs::Painting::painted))]
+    pub fn standard() -> Paint
+        ensures { result ≡ painted }
+    {
+        Paint {
+            bare: StandardFace::Default.face(),
+            main: Colors::standard(
+                StandardFace::PrimarySelection,
+                StandardFace::PrimaryCursor,
+                StandardFace::PrimaryCursorEol,
+            ),
+            other: Colors::standard(
+                StandardFace::SecondarySelection,
+                StandardFace::SecondaryCursor,
+                StandardFace::SecondaryCursorEol,
+            ),
+        }
+    }
+
+    // The faces of a selection, of the main one or another.
+    pub fn colors(&self, main: bool) -> Colors
+        ensures { result ≡ colors_of self.now main }
+    {
+        if main { self.main } else { self.other }
     }
 }

@@ -3,12 +3,8 @@
 ghost use Rattle.std.specs.Prelude.{◌≡◌, ℕ, ◌+◌, ◌-◌, ◌<◌, ◌≤◌, min, List, length, take, if◌then◌else◌};
 ghost use Rattle.text_model.specs.Texts.{lines_of, joined, line_count, nth_line, offset};
 ghost use Rattle.selection_set.specs.Inside.{range_of, IsInside};
-ghost use Rattle.list_model.specs.Ranges.{Range, IsRange};
-ghost use Rattle.draw_model.specs.Drawings.{face_at};
-ghost use Rattle.draw_model.specs.Painting.{IsPart, one, painted};
+ghost use Rattle.draw_model.specs.Painting.{IsPart};
 
-use crate::paint::Paint;
-use kak_faces::Face;
 use kak_text::Coord;
 use selection_set::Sel;
 
@@ -59,28 +55,5 @@ impl Parts {
             behind: chars_before(begin, len, sel.high.line, sel.high.column as usize + 1),
             turned: sel.turned,
         }
-    }
-
-    // The face of a character, before which so many of the characters stand.
-    pub fn face(&self, before: usize, c: char, paint: &Paint) -> Face
-        requires { paint.now ≡ painted }
-        ensures { (r : Range) (o n : ℕ) → IsRange r → AreParts r o n self.now → before < n → result ≡ face_at (one r) (o + before) c }
-    {
-        if before < self.low {
-            return paint.bare;
-        }
-        if before >= self.behind {
-            return paint.bare;
-        }
-        if self.turned {
-            if before < self.middle {
-                return paint.cursor_on(c);
-            }
-            return paint.selected;
-        }
-        if before < self.middle {
-            return paint.selected;
-        }
-        paint.cursor_on(c)
     }
 }

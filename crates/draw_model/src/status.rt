@@ -1,6 +1,6 @@
 //! The status line and the mode line.
 
-ghost use Rattle.std.specs.Prelude.{◌≡◌, ℕ, length, codes, IfOk};
+ghost use Rattle.std.specs.Prelude.{◌≡◌, ℕ, ◌<◌, length, codes, IfOk};
 ghost use Rattle.list_model.specs.Ranges.{Selected};
 ghost use Rattle.kak_faces.specs.declared.standard.StandardFace.TheVariants as name;
 ghost use Rattle.kak_faces.specs.Standard.{standard_face};
@@ -77,21 +77,42 @@ fn name_of(mode: Mode) -> &'static str
     }
 }
 
-// The text of the mode line of one selection.
-fn mode_chars(alloc: Global, at: Coord, mode: Mode, number: u32) -> Result<Chars, AllocError>
-    ensures { IfOk result (λ text. (sels : Selected) → sels.main ≡ 0 → length sels.list ≡ 1 → text ≡ mode_text at mode sels number) }
+// The text of the mode line, of the place of the main selection and how many there are.
+fn mode_chars(
+    alloc: Global,
+    at: Coord,
+    mode: Mode,
+    main: usize,
+    count: usize,
+    number: u32,
+) -> Result<Chars, AllocError>
+    requires { main < count }
+    ensures { IfOk result (λ text. (sels : Selected) → sels.main ≡ main → length sels.list ≡ count → text ≡ mode_text at mode sels number) }
 {
     let line = u64::from(at.line) + 1;
     let column = u64::from(at.column) + 1;
     let name = name_of(mode);
-    let text = format!(in alloc; "*scratch* {line}:{column} {name} 1/1 - client{number}")?;
+    let nth = main as u64 + 1;
+    let count = count as u64;
+    let text = format!(in alloc;
+        "*scratch* {line}:{column} {name} {nth}/{count} - client{number}"
+    )?;
     Chars::from_str(alloc, text.as_str())
 }
 
-/// Draws the mode line: the coordinate of the main cursor, the mode, and the number in the client's name.
-pub fn draw_mode(alloc: Global, at: Coord, mode: Mode, number: u32) -> Result<DrawnLine, AllocError>
-    ensures { IfOk result (λ line. (sels : Selected) → sels.main ≡ 0 → length sels.list ≡ 1 → line ≡ record { atoms = atoms_of (shown_in (standard_face name.StatusLine) (mode_text at mode sels number)) }) }
+/// Draws the mode line: the coordinate of the main cursor, the mode, the place of the main selection and how many there
+/// are, and the number in the client's name.
+pub fn draw_mode(
+    alloc: Global,
+    at: Coord,
+    mode: Mode,
+    main: usize,
+    count: usize,
+    number: u32,
+) -> Result<DrawnLine, AllocError>
+    requires { main < count }
+    ensures { IfOk result (λ line. (sels : Selected) → sels.main ≡ main → length sels.list ≡ count → line ≡ record { atoms = atoms_of (shown_in (standard_face name.StatusLine) (mode_text at mode sels number)) }) }
 {
-    let text = mode_chars(alloc, at, mode, number)?;
+    let text = mode_chars(alloc, at, mode, main, count, number)?;
     run_line(alloc, text.as_slice(), StandardFace::StatusLine.face())
 }

@@ -1,8 +1,8 @@
 -- The rows of insert mode and of prompts: what each key does.
-use Rattle.std.specs.Prelude.{ℕ, ◌+◌, ◌*◌, Bool, ◌&&◌, nat_lt, nat_le, if◌then◌else◌, List, [], ◌∷◌, ◌++◌, length}
+use Rattle.std.specs.Prelude.{ℕ, ◌+◌, ◌*◌, Bool, nat_lt, if◌then◌else◌, List, [], ◌∷◌, ◌++◌, length}
 use Rattle.key_names.specs.declared.key.Key.{Key}
 use Rattle.key_names.specs.declared.key.Base.{Base}
-use Rattle.key_names.specs.declared.key.Base.TheVariants.{Char, Ret, Esc}
+use Rattle.key_names.specs.declared.key.Base.TheVariants.{Char, Ret, Tab, Esc}
 use Rattle.key_names.specs.Modified.{is_modified}
 use Rattle.text_model.specs.declared.TheConstants.{MAX_CHARS}
 use Rattle.kak_world.specs.declared.ask.Ask.TheVariants.{Commands}
@@ -11,10 +11,6 @@ use Rattle.kak_world.specs.declared.state.Mode.TheVariants.{Normal}
 use Rattle.kak_world.specs.Flat.{Flat, text_of, sels_of, prompt_of, with_mode, with_prompt}
 use Rattle.kak_world.specs.Changing.{put_before_cursors}
 use Rattle.kak_world.specs.Rows.{RowEnd, Asks, Fails, error_text, does}
-
--- a character that may be typed: printable ASCII
-abbrev pub is_printable : ℕ → Bool
-is_printable c = nat_le 32 c && nat_le c 126
 
 -- whether a text has no room for characters before each cursor
 abbrev pub is_full : List ℕ → ℕ → Flat → Bool
@@ -27,13 +23,12 @@ typed s who flat =
     then record { world = flat; row = Fails (error_text TextFull) }
     else does (put_before_cursors s (sels_of who flat) flat)
 
-abbrev pub insert_character : ℕ → ℕ → Flat → RowEnd
-insert_character c who flat = if is_printable c then typed (c ∷ []) who flat else does flat
-
--- the row of a key without modifiers in insert mode
+-- the row of a key without modifiers in insert mode: a character goes in as itself, return as a newline (10), tab as a
+-- tab (9)
 abbrev pub insert_base : Base → ℕ → Flat → RowEnd
-insert_base (Char c) who flat = insert_character c who flat
+insert_base (Char c) who flat = typed (c ∷ []) who flat
 insert_base Ret who flat = typed (10 ∷ []) who flat
+insert_base Tab who flat = typed (9 ∷ []) who flat
 insert_base Esc who flat = does (with_mode who Normal flat)
 insert_base _ who flat = does flat
 
@@ -43,8 +38,7 @@ row_insert key who flat = if is_modified key then does flat else insert_base key
 
 -- a character goes in at the end of the prompt
 abbrev pub prompt_character : ℕ → ℕ → Flat → RowEnd
-prompt_character c who flat =
-    if is_printable c then does (with_prompt who (prompt_of who flat ++ c ∷ []) flat) else does flat
+prompt_character c who flat = does (with_prompt who (prompt_of who flat ++ c ∷ []) flat)
 
 -- the prompt is left, and is empty
 abbrev pub leave_prompt : ℕ → Flat → Flat

@@ -1,21 +1,14 @@
 //! The rows of prompts.
 
-ghost use Rattle.std.specs.Prelude.{◌≡◌, true, OnOk};
+ghost use Rattle.std.specs.Prelude.{◌≡◌, true};
 ghost use Rattle.kak_world.specs.Flat.{is_joined, prompt_of};
-ghost use Rattle.kak_world.specs.Rows.{Gives, does};
-ghost use Rattle.insert_prompt.specs.Rows.{is_printable, prompt_character, leave_prompt, row_prompt};
+ghost use Rattle.kak_world.specs.Rows.{Gives};
+ghost use Rattle.insert_prompt.specs.Rows.{leave_prompt, row_prompt};
 
 use kak_text::Chars;
 use kak_world::{Ask, EditError, Mode, World};
 use key_names::{Base, Key};
-use std::alloc::{AllocError, Global};
-
-/// Whether a character may be typed: printable ASCII.
-pub fn is_printable(c: char) -> bool
-    ensures { result ≡ is_printable c }
-{
-    (' '..='~').contains(&c)
-}
+use std::alloc::Global;
 
 // Leaves the prompt, and gives what was typed.
 fn leave(alloc: Global, world: &mut World, who: u32) -> Chars
@@ -27,18 +20,6 @@ fn leave(alloc: Global, world: &mut World, who: u32) -> Chars
     let typed = world.take_prompt(alloc, who);
     world.set_mode(who, Mode::Normal);
     typed
-}
-
-// Types a character into the prompt.
-fn type_in(world: &mut World, who: u32, c: char) -> Result<(), AllocError>
-    requires { is_joined who world.old.flat ≡ true }
-    ensures row { OnOk result (prompt_character c who world.old.flat ≡ does world.new.flat) }
-    ensures stays { is_joined who world.new.flat ≡ true }
-{
-    if !is_printable(c) {
-        return Ok(());
-    }
-    world.push_prompt(who, c)
 }
 
 /// Runs one key of a prompt. An `Err` comes only for want of memory.
@@ -53,7 +34,7 @@ pub fn prompt_key(alloc: Global, world: &mut World, who: u32, key: Key) -> Resul
     }
     match key.base {
         Base::Char(c) => {
-            type_in(world, who, c)?;
+            world.push_prompt(who, c)?;
             Ok(Ask::Nothing)
         }
         Base::Ret => Ok(Ask::Commands(leave(alloc, world, who))),

@@ -5,14 +5,14 @@ use Rattle.std.specs.declared.result.Result.{Result}
 use Rattle.std.specs.declared.alloc.AllocError.{AllocError}
 use Rattle.kak_world.specs.declared.ask.Ask.{Ask}
 use Rattle.kak_world.specs.declared.ask.EditError.{EditError}
-use Rattle.kak_world.specs.declared.ask.EditError.TheVariants.{TextFull, NoSuchCommand, NoMemory}
+use Rattle.kak_world.specs.declared.ask.EditError.TheVariants.{TextFull, NoSuchCommand, NothingSelected, TooManySelections, BudgetSpent, NoMemory}
 use Rattle.kak_world.specs.Flat.{Flat, with_units}
-use Rattle.kak_world.specs.Rows.{Asks, Fails, RowEnd, Gives, error_text}
+use Rattle.kak_world.specs.Rows.{Asks, Fails, GivesUp, RowEnd, Gives, error_text}
 use Rattle.command_set.specs.Rows.{row_command}
 use Rattle.kak_engine.specs.declared.event.Answered.{Answered}
 use Rattle.kak_engine.specs.declared.doing.Ending.{Ending}
 use Rattle.kak_engine.specs.Doing.{End, Fine, Failed, GivenUp, Moment, Outcome, Part, ends, after, unit_of, with_unit, go_on, run_text, Do, budget_spent}
-use Rattle.kak_engine.specs.Seen.{Ends, end_seen, moment_of, top}
+use Rattle.kak_engine.specs.Seen.{Ends, end_seen, end_of, moment_of, top}
 use Rattle.kak_engine.proofs.DoingLemmas.{Do-body}
 
 -- a part that is another one
@@ -38,12 +38,22 @@ failed-row who text e now before end g f answers =
     ∙ Do-body who top (Fails text) (moment_of answers now)
     ∙ ap (λ (x : End). let o : Outcome = record { moment = moment_of answers now; end = x } in o) (sym f)
 
--- a row that fails ends the part with its text
-pub row-fails : (who : ℕ) (error : EditError) (r : Result Ending AllocError) (now : Flat) → IfOk r (λ e. end_seen e ≡ Failed (error_text error)) → (error ≡ NoMemory → IsErr r)
+given-up-row : (who : ℕ) (e : Ending) (now before : Flat) (end : RowEnd) → end ≡ record { world = now; row = GivesUp } → end_seen e ≡ GivenUp budget_spent
+    → (answers : List Answered) → go_on (Do who) top end (moment_of answers before) ≡ record { moment = moment_of answers now; end = end_seen e }
+given-up-row who e now before end g f answers =
+    ap (λ (x : RowEnd). go_on (Do who) top x (moment_of answers before)) g
+    ∙ Do-body who top GivesUp (moment_of answers now)
+    ∙ ap (λ (x : End). let o : Outcome = record { moment = moment_of answers now; end = x } in o) (sym f)
+
+-- a row that fails ends the part as its refusal does
+pub row-fails : (who : ℕ) (error : EditError) (r : Result Ending AllocError) (now : Flat) → IfOk r (λ e. end_seen e ≡ end_of error) → (error ≡ NoMemory → IsErr r)
     → (before : Flat) (end : RowEnd) → Gives (Err error) now end → Ends r (λ m. go_on (Do who) top end m) before now
 row-fails who error (Err e) now f n before end g = tt
 row-fails who TextFull (Ok e) now f n before end g = failed-row who (error_text TextFull) e now before end g f
 row-fails who (NoSuchCommand name) (Ok e) now f n before end g = failed-row who (error_text (NoSuchCommand name)) e now before end g f
+row-fails who NothingSelected (Ok e) now f n before end g = failed-row who (error_text NothingSelected) e now before end g f
+row-fails who TooManySelections (Ok e) now f n before end g = failed-row who (error_text TooManySelections) e now before end g f
+row-fails who BudgetSpent (Ok e) now f n before end g = given-up-row who e now before end g f
 row-fails who NoMemory (Ok e) now f n before end g = absurd (let x : IsErr {T = Ending} {E = AllocError} (Ok e) = n refl in cc)
 
 -- a part behind a unit that was taken, and one without a unit

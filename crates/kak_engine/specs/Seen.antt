@@ -2,6 +2,9 @@
 use Rattle.std.specs.Prelude.{◌≡◌, true, List, Ok, Err}
 use Rattle.std.specs.declared.result.Result.{Result}
 use Rattle.std.specs.declared.alloc.AllocError.{AllocError}
+use Rattle.kak_world.specs.declared.ask.EditError.{EditError}
+use Rattle.kak_world.specs.declared.ask.EditError.TheVariants.{BudgetSpent}
+use Rattle.kak_world.specs.Rows.{error_text}
 use Rattle.kak_world.specs.Flat.{Flat}
 use Rattle.kak_engine.specs.declared.event.Answered.{Answered}
 use Rattle.kak_engine.specs.declared.doing.Ending.{Ending}
@@ -13,6 +16,11 @@ abbrev pub end_seen : Ending → End
 end_seen code.Fine = Fine
 end_seen (code.Failed text) = Failed text
 end_seen code.GivenUp = GivenUp budget_spent
+
+-- how a row ends that was refused: given up where its units were spent, else with the text of the refusal
+abbrev pub end_of : EditError → End
+end_of BudgetSpent = GivenUp budget_spent
+end_of error = Failed (error_text error)
 
 -- a moment of a step that asks the outside for nothing
 abbrev pub moment_of : List Answered → Flat → Moment

@@ -3,8 +3,8 @@
 ghost use Rattle.std.specs.Prelude.{◌≡◌, true, IfOk, IsErr};
 ghost use Rattle.kak_world.specs.Flat.{Flat, is_joined};
 ghost use Rattle.kak_world.specs.Rows.{Gives, RowEnd, Asks, error_text};
-ghost use Rattle.kak_engine.specs.Doing.{Do, Failed, strike as strike_part, row_key, run_text, go_on as row_and_rest};
-ghost use Rattle.kak_engine.specs.Seen.{Ends, end_seen, top};
+ghost use Rattle.kak_engine.specs.Doing.{Do, strike as strike_part, row_key, run_text, go_on as row_and_rest};
+ghost use Rattle.kak_engine.specs.Seen.{Ends, end_seen, end_of, top};
 
 use command_set::command;
 use insert_prompt::{insert_key, prompt_key};
@@ -32,6 +32,9 @@ fn text_of(alloc: Global, error: EditError) -> Result<Chars, AllocError>
 {
     match error {
         EditError::TextFull => Chars::from_str(alloc, "text is full"),
+        EditError::NothingSelected => Chars::from_str(alloc, "nothing selected"),
+        EditError::TooManySelections => Chars::from_str(alloc, "too many selections"),
+        EditError::BudgetSpent => Chars::from_str(alloc, "given up: budget spent"),
         EditError::NoSuchCommand(name) => {
             let mut text = Chars::from_str(alloc, "no such command: ")?;
             text.extend_from_slice(name.as_slice())?;
@@ -54,12 +57,15 @@ fn run_row(alloc: Global, world: &mut World, who: u32, key: Key) -> Result<Ask, 
     }
 }
 
-// What a refusal ends with: its status text.
-fn failed(alloc: Global, error: EditError) -> Result<Ending, AllocError>
-    ensures text { IfOk result (λ ending. end_seen ending ≡ Failed (error_text error)) }
+// How a row ends that was refused.
+fn ending_of(alloc: Global, error: EditError) -> Result<Ending, AllocError>
+    ensures ends { IfOk result (λ ending. end_seen ending ≡ end_of error) }
     ensures memory { error ≡ EditError.NoMemory → IsErr result }
 {
-    Ok(Ending::Failed(text_of(alloc, error)?))
+    match error {
+        EditError::BudgetSpent => Ok(Ending::GivenUp),
+        error => Ok(Ending::Failed(text_of(alloc, error)?)),
+    }
 }
 
 // Does what a row asks for, or ends with its error.
@@ -76,7 +82,7 @@ fn go_on(
 {
     match row {
         Ok(ask) => do_ask(alloc, world, who, ask),
-        Err(error) => failed(alloc, error),
+        Err(error) => ending_of(alloc, error),
     }
 }
 

@@ -1,2 +1,3 @@
 pub mod FirstPlace
 pub mod PutLemmas
+pub mod ListLemmas

@@ -9,18 +9,25 @@ use Rattle.text_model.specs.declared.coords.Shift.{Shift}
 use Rattle.text_model.specs.Texts.{IsStored}
 use Rattle.text_model.specs.Changes.{Insertion, changed, inserted, put_in, insertion_of, move_of, Move, IsShift}
 use Rattle.text_model.proofs.ChangeLemmas.{put_in-inside, length-inserted}
+use Rattle.selection_set.specs.declared.sel.Sel.{Sel}
+use Rattle.selection_set.specs.Listing.{AreInside}
+use Rattle.selection_map.specs.Carrying.{AllSmall as ListIsSmall}
 use Rattle.selection_map.proofs.SmallLemmas.{both-small}
 use Rattle.kak_world.specs.declared.client.ClientState.{ClientState}
 use Rattle.std.proofs.Common.{◌||◌}
 use Rattle.std.proofs.Math.Dec.{eqb}
 use Rattle.kak_world.specs.Flat.{Client, Flat, is_here}
 use Rattle.kak_world.specs.Changing.{changed_once, changed_by, put_at}
-use Rattle.kak_world.specs.Seen.{clients_seen, AreInside, AllSmall, AreCarried, carried_along}
+use Rattle.kak_world.specs.Seen.{clients_seen, AreHeld, AllSmall, AreCarried, carried_along}
+
+list-small : (old new : List ℕ) (list : List Sel) (s : Shift) (m : Move) → IsStored old → IsStored new → IsShift old new s m → AreInside old list → ListIsSmall list s
+list-small old new [] s m o n f i = tt
+list-small old new (x ∷ xs) s m o n f i = (both-small old new x s m o n f i.0, list-small old new xs s m o n f i.1)
 
 -- all coordinates are small, where the texts are within the limit
-pub all-small : (old new : List ℕ) (c : Option ClientState) (s : Shift) (m : Move) → IsStored old → IsStored new → IsShift old new s m → AreInside old c → AllSmall c s
+pub all-small : (old new : List ℕ) (c : Option ClientState) (s : Shift) (m : Move) → IsStored old → IsStored new → IsShift old new s m → AreHeld old c → AllSmall c s
 all-small old new None s m o n f i = tt
-all-small old new (Some c) s m o n f i = both-small old new c.sel s m o n f i
+all-small old new (Some c) s m o n f i = list-small old new c.sels.list s m o n f i.inside
 
 -- some characters inside the text go in as they are
 pub put-inserted : (text : List ℕ) (p : ℕ) (s : List ℕ) → p < length text → inserted text p s ≡ changed text (Insertion p s)
@@ -33,7 +40,7 @@ insertion-some : (p : ℕ) (s : List ℕ) → 0 < length s → insertion_of p s 
 insertion-some p [] h = absurd (omega arith)
 insertion-some p (c ∷ s) h = refl
 
-put-once : (flat : Flat) (p : ℕ) (s : List ℕ) → p < length flat.text → 0 < length s → put_at p s flat ≡ changed_once (Insertion p s) flat
+pub put-once : (flat : Flat) (p : ℕ) (s : List ℕ) → p < length flat.text → 0 < length s → put_at p s flat ≡ changed_once (Insertion p s) flat
 put-once flat p s h some =
     ap (λ r. changed_by (insertion_of p r) flat) (put_in-inside flat.text p s h)
     ∙ ap (λ r. changed_by r flat) (insertion-some p s some)

@@ -5,6 +5,8 @@ use Rattle.list_model.specs.Ranges.{Selected, only}
 use Rattle.window_view.specs.View.{View}
 use Rattle.kak_world.specs.declared.state.Mode.{Mode}
 use Rattle.kak_world.specs.declared.state.Mode.TheVariants.{Normal}
+use Rattle.kak_world.specs.declared.state.Awaiting.{Awaiting}
+use Rattle.kak_world.specs.declared.state.Awaiting.TheVariants as awaits
 use Rattle.kak_world.specs.declared.state.Status.{Status}
 use Rattle.kak_world.specs.declared.state.Status.TheVariants.{Quiet}
 
@@ -14,6 +16,9 @@ pub record Client : Type 0 where
   pub who : ℕ
   pub number : ℕ
   pub mode : Mode
+  -- how often its next key is to be run, as digits have said so far, or 0; and what that key is for, if one waits for it
+  pub count : ℕ
+  pub awaiting : Awaiting
   pub sels : Selected
   pub view : View
   pub status : Status
@@ -40,6 +45,8 @@ newcomer who number = record {
   who = who;
   number = number;
   mode = Normal;
+  count = 0;
+  awaiting = awaits.Nothing;
   sels = only_at 0;
   view = record { top = 0; left = 0; rows = 24; columns = 80 };
   status = Quiet;
@@ -104,6 +111,12 @@ number_of who flat = (client_of who flat).number
 abbrev pub mode_of : ℕ → Flat → Mode
 mode_of who flat = (client_of who flat).mode
 
+abbrev pub count_of : ℕ → Flat → ℕ
+count_of who flat = (client_of who flat).count
+
+abbrev pub awaiting_of : ℕ → Flat → Awaiting
+awaiting_of who flat = (client_of who flat).awaiting
+
 abbrev pub sels_of : ℕ → Flat → Selected
 sels_of who flat = (client_of who flat).sels
 
@@ -128,6 +141,16 @@ with_client who f flat = record { text = flat.text; clients = changed_in who f f
 
 abbrev pub with_mode : ℕ → Mode → Flat → Flat
 with_mode who mode flat = with_client who (λ c. record c { mode = mode }) flat
+
+abbrev pub with_count : ℕ → ℕ → Flat → Flat
+with_count who count flat = with_client who (λ c. record c { count = count }) flat
+
+abbrev pub with_awaiting : ℕ → Awaiting → Flat → Flat
+with_awaiting who awaiting flat = with_client who (λ c. record c { awaiting = awaiting }) flat
+
+-- the world in which a client has no count, and no key of it is waited for
+abbrev pub cleared : ℕ → Flat → Flat
+cleared who flat = with_client who (λ c. record c { count = 0; awaiting = awaits.Nothing }) flat
 
 abbrev pub with_sels : ℕ → Selected → Flat → Flat
 with_sels who sels flat = with_client who (λ c. record c { sels = sels }) flat

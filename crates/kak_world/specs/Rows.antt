@@ -5,7 +5,7 @@ use Rattle.std.specs.Prelude.{Ok, Err}
 use Rattle.kak_world.specs.declared.ask.Ask.{Ask}
 use Rattle.kak_world.specs.declared.ask.Ask.TheVariants.{Nothing}
 use Rattle.kak_world.specs.declared.ask.EditError.{EditError}
-use Rattle.kak_world.specs.declared.ask.EditError.TheVariants.{TextFull, NoSuchCommand, NoMemory}
+use Rattle.kak_world.specs.declared.ask.EditError.TheVariants.{TextFull, NoSuchCommand, NothingSelected, TooManySelections, BudgetSpent, NoMemory}
 use Rattle.kak_world.specs.Flat.{Flat}
 
 -- What comes after a row: it asks for something, it fails with a status text, or the whole step is given up.
@@ -23,11 +23,18 @@ pub record RowEnd : Type 0 where
 abbrev pub does : Flat → RowEnd
 does flat = record { world = flat; row = Asks Nothing }
 
--- the status text of a refusal
+-- the status text of a refusal; want of memory has none
 abbrev pub error_text : EditError → List ℕ
 error_text TextFull = codes "text is full"
 error_text (NoSuchCommand name) = codes "no such command: " ++ name
+error_text NothingSelected = codes "nothing selected"
+error_text TooManySelections = codes "too many selections"
+error_text BudgetSpent = codes "given up: budget spent"
 error_text NoMemory = []
+
+-- a row that fails, and leaves the world as it is
+abbrev pub fails : EditError → Flat → RowEnd
+fails error flat = record { world = flat; row = Fails (error_text error) }
 
 -- what a row's code answered, over the world that it left, is what the row gives, unless memory was wanting
 abbrev pub Gives : Result Ask EditError → Flat → RowEnd → Type 0
@@ -35,3 +42,6 @@ Gives (Ok ask) new end = end ≡ record { world = new; row = Asks ask }
 Gives (Err NoMemory) new end = Unit {0}
 Gives (Err TextFull) new end = end ≡ record { world = new; row = Fails (error_text TextFull) }
 Gives (Err (NoSuchCommand name)) new end = end ≡ record { world = new; row = Fails (error_text (NoSuchCommand name)) }
+Gives (Err NothingSelected) new end = end ≡ record { world = new; row = Fails (error_text NothingSelected) }
+Gives (Err TooManySelections) new end = end ≡ record { world = new; row = Fails (error_text TooManySelections) }
+Gives (Err BudgetSpent) new end = end ≡ record { world = new; row = GivesUp }

@@ -24,6 +24,12 @@ pub enum EditError {
     TextFull,
     /// There is no such command.
     NoSuchCommand(Chars),
+    /// No selection would be left.
+    NothingSelected,
+    /// There would be more selections than there may be.
+    TooManySelections,
+    /// A further run was due, and the step had no unit left; what was done before stays done.
+    BudgetSpent,
     /// Memory ran out; the world may have been changed in part.
     NoMemory,
 }

@@ -4,9 +4,9 @@ ghost use Rattle.std.specs.Prelude.{◌≡◌, ℕ, List, ◌<◌, ◌+◌, leng
 ghost use Rattle.text_model.specs.declared.TheConstants.{MAX_CHARS};
 ghost use Rattle.text_model.specs.Texts.{IsPlace, offset};
 ghost use Rattle.text_model.specs.Changes.{Move};
-ghost use Rattle.selection_set.specs.Inside.{IsInside};
-ghost use Rattle.selection_map.specs.Carrying.{AreSmall, IsStep};
-ghost use Rattle.kak_world.specs.Seen.{AreInside, IsCarried, AllSmall, AreCarried, clients_seen, world_seen};
+ghost use Rattle.selection_map.specs.Carrying.{AllSmall as ListIsSmall, IsStep};
+ghost use Rattle.kak_world.specs.Lists.{IsHeld};
+ghost use Rattle.kak_world.specs.Seen.{AreHeld, IsCarried, AllSmall, AreCarried, clients_seen, world_seen};
 ghost use Rattle.kak_world.specs.Flat.{is_here, is_joined};
 ghost use Rattle.kak_world.specs.Changing.{put_at};
 
@@ -14,21 +14,21 @@ use crate::client::ClientState;
 use crate::world::World;
 use kak_text::{Coord, Shift};
 use line_buffer::{Lines, LinesError};
-use selection_map::map_sel;
+use selection_map::map_sels;
 use std::alloc::Global;
 
-// Carries a client's selection through a change of the text.
+// Carries a client's selections through a change of the text, and settles them.
 fn carry(client: &mut ClientState, shift: &Shift)
-    requires { AreSmall client.old.sel shift.now }
-    ensures carries { (old new : List ℕ) (m : Move) → IsStep old new shift.now m → IsInside old client.old.sel → IsCarried old new m client.old client.new }
+    requires { ListIsSmall client.old.sels.list shift.now }
+    ensures carries { (old new : List ℕ) (m : Move) → IsStep old new shift.now m → IsHeld old client.old.sels → IsCarried old new m client.old client.new }
 {
-    client.sel = map_sel(client.sel, shift);
+    map_sels(&mut client.sels, shift);
 }
 
-// Carries the selections of those that are there through a change of the text.
+// Carries and settles the selections of those that are there through a change of the text.
 fn carry_all(client: &mut Option<ClientState>, shift: &Shift)
     requires { AllSmall client.old shift.now }
-    ensures carries { (old new : List ℕ) (m : Move) → IsStep old new shift.now m → AreInside old client.old → AreCarried old new m client.old client.new }
+    ensures carries { (old new : List ℕ) (m : Move) → IsStep old new shift.now m → AreHeld old client.old → AreCarried old new m client.old client.new }
 {
     match client {
         None => {}
@@ -36,7 +36,7 @@ fn carry_all(client: &mut Option<ClientState>, shift: &Shift)
     }
 }
 
-// Puts characters into the text, and carries the selections of those that are there.
+// Puts characters into the text, and carries and settles the selections of those that are there.
 fn put_in_both(
     alloc: Global,
     lines: &mut Lines,
@@ -46,9 +46,9 @@ fn put_in_both(
 ) -> Result<(), LinesError>
     requires place { IsPlace lines.old at }
     requires some { 0 < length chars.now }
-    requires inside { AreInside lines.old client.old }
+    requires held { AreHeld lines.old client.old }
     ensures ok { OnOk result ((units : ℕ) → world_seen lines.new client.new units ≡ put_at (offset lines.old at) chars.now (world_seen lines.old client.old units)) }
-    ensures inside { AreInside lines.new client.new }
+    ensures held { AreHeld lines.new client.new }
     ensures full { IsErrOf result LinesError.TextFull ↔ (MAX_CHARS < length lines.old + length chars.now) }
     ensures err { OnErr result ((lines.new ≡ lines.old) × (client.new ≡ client.old)) }
     ensures stay { (who : ℕ) → is_here who (clients_seen lines.new client.new) ≡ is_here who (clients_seen lines.old client.old) }

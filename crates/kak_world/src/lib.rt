@@ -9,5 +9,5 @@ pub mod state;
 pub mod world;
 
 pub use ask::{Ask, EditError};
-pub use state::{Mode, Status};
+pub use state::{Awaiting, Mode, Reach, Search, Status, TABSTOP};
 pub use world::World;

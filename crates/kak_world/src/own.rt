@@ -1,15 +1,15 @@
-//! What is each client's own: its mode, its selection, its status, its prompt and its window.
+//! What is each client's own: its mode, its selections, its status, its prompt and its window.
 
-ghost use Rattle.std.specs.Prelude.{◌≡◌, ◌<◌, ◌+◌, ◌^◌, true, [], ◌∷◌, ◌++◌, OnOk, OnErr};
-ghost use Rattle.selection_set.specs.Inside.{range_of, IsInside};
+ghost use Rattle.std.specs.Prelude.{◌≡◌, ◌<◌, ◌+◌, ◌^◌, true, [], ◌∷◌, ◌++◌, length, OnOk, OnErr};
 ghost use Rattle.window_view.specs.View.{followed};
 ghost use Rattle.window_view.specs.Views.{view_of as window_seen};
-ghost use Rattle.kak_world.specs.Flat.{is_joined, text_of, mode_of, sels_of, status_of, prompt_of, view_of, is_leaving, is_drawn, number_of, with_mode, with_sels, with_status, with_prompt, with_leaving, with_drawn, with_view};
+ghost use Rattle.kak_world.specs.Flat.{is_joined, text_of, mode_of, sels_of, status_of, prompt_of, view_of, is_leaving, is_drawn, number_of, count_of, awaiting_of, with_mode, with_count, with_awaiting, cleared, with_sels, with_status, with_prompt, with_leaving, with_drawn, with_view};
+ghost use Rattle.kak_world.specs.Lists.{selected, IsHeld};
 
-use crate::state::{Mode, Status};
+use crate::state::{Awaiting, Mode, Status};
 use crate::world::World;
 use kak_text::Chars;
-use selection_set::Sel;
+use selection_set::Sels;
 use std::alloc::{AllocError, Global};
 use window_view::Window;
 
@@ -47,27 +47,95 @@ impl World {
         }
     }
 
-    /// The selection of a client, which lies inside the text.
-    pub fn sel(&self, who: u32) -> Sel
+    /// How often a client's next key is to be run, as digits have said so far; 0 where none did.
+    pub fn count(&self, who: u32) -> u32
         requires { is_joined who self.now.flat ≡ true }
-        ensures sel { sels_of who self.now.flat ≡ record { list = range_of (text_of who self.now.flat) result ∷ []; main = 0 } }
-        ensures inside { IsInside (text_of who self.now.flat) result }
+        ensures { result ≡ count_of who self.now.flat }
     {
         match &self.client {
             None => unreachable!(),
-            Some(c) => c.sel,
+            Some(c) => c.count,
         }
     }
 
-    /// Changes the selection of a client, to one that lies inside the text.
-    pub fn set_sel(&mut self, who: u32, sel: Sel)
-        requires joined { is_joined who self.old.flat ≡ true }
-        requires inside { IsInside (text_of who self.old.flat) sel }
-        ensures sets { self.new.flat ≡ with_sels who (record { list = range_of (text_of who self.old.flat) sel ∷ []; main = 0 }) self.old.flat }
+    /// Changes how often a client's next key is to be run.
+    pub fn set_count(&mut self, who: u32, count: u32)
+        requires { is_joined who self.old.flat ≡ true }
+        ensures sets { self.new.flat ≡ with_count who count self.old.flat }
         ensures stays { is_joined who self.new.flat ≡ true }
     {
         if let Some(c) = &mut self.client {
-            c.sel = sel;
+            c.count = count;
+        }
+    }
+
+    /// What a client's next key is for.
+    pub fn awaiting(&self, who: u32) -> Awaiting
+        requires { is_joined who self.now.flat ≡ true }
+        ensures { result ≡ awaiting_of who self.now.flat }
+    {
+        match &self.client {
+            None => unreachable!(),
+            Some(c) => c.awaiting,
+        }
+    }
+
+    /// Changes what a client's next key is for.
+    pub fn set_awaiting(&mut self, who: u32, awaiting: Awaiting)
+        requires { is_joined who self.old.flat ≡ true }
+        ensures sets { self.new.flat ≡ with_awaiting who awaiting self.old.flat }
+        ensures stays { is_joined who self.new.flat ≡ true }
+    {
+        if let Some(c) = &mut self.client {
+            c.awaiting = awaiting;
+        }
+    }
+
+    /// Drops a client's count, and what its next key was for.
+    pub fn clear_count(&mut self, who: u32)
+        requires { is_joined who self.old.flat ≡ true }
+        ensures clears { self.new.flat ≡ cleared who self.old.flat }
+        ensures stays { is_joined who self.new.flat ≡ true }
+    {
+        if let Some(c) = &mut self.client {
+            c.count = 0;
+            c.awaiting = Awaiting::Nothing;
+        }
+    }
+
+    /// The selections of a client: a settled list inside the text that the client sees.
+    pub fn sels(&self, who: u32) -> &Sels
+        requires { is_joined who self.now.flat ≡ true }
+        ensures sels { sels_of who self.now.flat ≡ selected (text_of who self.now.flat) result.now }
+        ensures held { IsHeld (text_of who self.now.flat) result.now }
+    {
+        match &self.client {
+            None => unreachable!(),
+            Some(c) => &c.sels,
+        }
+    }
+
+    /// Changes the selections of a client, to a settled list inside the text that the client sees.
+    pub fn set_sels(&mut self, who: u32, sels: Sels)
+        requires joined { is_joined who self.old.flat ≡ true }
+        requires held { IsHeld (text_of who self.old.flat) sels }
+        ensures sets { self.new.flat ≡ with_sels who (selected (text_of who self.old.flat) sels) self.old.flat }
+        ensures stays { is_joined who self.new.flat ≡ true }
+    {
+        if let Some(c) = &mut self.client {
+            c.sels = sels;
+        }
+    }
+
+    /// Makes the n-th selection of a client its main one.
+    pub fn set_main(&mut self, who: u32, n: usize)
+        requires joined { is_joined who self.old.flat ≡ true }
+        requires there { n < length (sels_of who self.old.flat).list }
+        ensures sets { self.new.flat ≡ with_sels who (record { list = (sels_of who self.old.flat).list; main = n }) self.old.flat }
+        ensures stays { is_joined who self.new.flat ≡ true }
+    {
+        if let Some(c) = &mut self.client {
+            c.sels.set_main(n);
         }
     }
 

@@ -1,15 +1,14 @@
 //! The world: its clients and its text.
 
 ghost use Rattle.std.specs.Prelude.{◌≡◌, suc, ◌≤◌, true, false, [], length, IfOk, IsTrue};
-ghost use Rattle.list_model.specs.Ranges.{only};
-ghost use Rattle.selection_set.specs.Inside.{range_of, IsInside};
-ghost use Rattle.kak_world.specs.Flat.{opening, joined_by, left_by, is_joined, text_of, with_units};
+ghost use Rattle.kak_world.specs.Lists.{selected, IsHeld};
+ghost use Rattle.kak_world.specs.Flat.{only_at, opening, joined_by, left_by, is_joined, text_of, with_units};
 
 use crate::client::ClientState;
-use crate::state::{Mode, Status};
+use crate::state::{Awaiting, Mode, Status};
 use kak_text::{Chars, Coord, Text};
 use line_buffer::Lines;
-use selection_set::Sel;
+use selection_set::{Sel, Sels};
 use std::alloc::{AllocError, Global};
 use std::marker::Model;
 use window_view::Window;
@@ -23,23 +22,27 @@ pub struct World {
 }
 
 impl Model for World {
-    ghost use Rattle.kak_world.specs.Seen.{Kept, world_seen, AreInside};
+    ghost use Rattle.kak_world.specs.Seen.{Kept, world_seen, AreHeld};
 
     ghost Value = { Kept };
 
     ghost view = { λ w. record { flat = world_seen w.lines w.client w.units } };
 
-    ghost invariant = { λ w. AreInside w.lines w.client };
+    ghost invariant = { λ w. AreHeld w.lines w.client };
 }
 
-// The selection of a text's first character.
-fn first_character(lines: &Lines) -> Sel
-    ensures inside { IsInside lines.now result }
-    ensures first { range_of lines.now result ≡ only 0 }
+// The list of one selection, of a text's first character. It takes no memory.
+fn first_character(alloc: Global, lines: &Lines) -> Sels
+    ensures held { IsHeld lines.now result }
+    ensures first { selected lines.now result ≡ only_at 0 }
 {
     // its contract says that a text has a first character
     let _stored = lines.len();
-    Sel::only(Coord { line: 0, column: 0 })
+    let first = [Sel::only(Coord { line: 0, column: 0 })];
+    match Sels::of_sels(alloc, first.as_slice(), 0) {
+        Ok(sels) => sels,
+        Err(_) => unreachable!(),
+    }
 }
 
 impl World {
@@ -85,7 +88,9 @@ impl World {
             who,
             number: 0,
             mode: Mode::Normal,
-            sel: first_character(&self.lines),
+            count: 0,
+            awaiting: Awaiting::Nothing,
+            sels: first_character(alloc, &self.lines),
             window: Window::new(24, 80),
             status: Status::Quiet,
             prompt: Chars::new(alloc),

@@ -11,9 +11,9 @@ use Rattle.kak_text.specs.declared.classes.Class.{Class}
 use Rattle.kak_text.specs.declared.classes.Class.TheVariants.{Line, Blank, Word, Mark}
 use Rattle.kak_text.specs.Classes.{is_same}
 use Rattle.motion_keys.specs.Motions.{offset_beside}
-use Rattle.motion_keys.specs.Nearest.{least_from, greatest_to, IsLeast, IsLeastFrom, IsGreatest, IsGreatestTo}
+use Rattle.motion_keys.specs.Nearest.{least_from, greatest_to}
 use Rattle.motion_keys.specs.Words.{class_for, class_at, is_other, with_its_class, begin_ahead, begin_back, behind_run, run_last, behind_word, last_before_next, last_of_word, behind_or_first, run_first, start_or_first, first_of_word}
-use Rattle.motion_keys.proofs.NearestLemmas.{least_found, greatest_found}
+use Rattle.motion_keys.proofs.NearestLemmas.{FirstFrom, IsLeastFrom, LastTo, IsGreatestTo, least_found, greatest_found}
 
 -- ---- classes
 
@@ -105,9 +105,9 @@ run_ends big text o h l e =
     let f : IsLeastFrom (is_other big k) text o (behind_run big text o) = least_found (is_other big k) text o in
     let s : (n : ℕ) × (behind_run big text o ≡ Some n) = finds big k text o (behind_run big text o) h l (same_turned Line k ∙ e) f in
     let P : Option ℕ → Type 0 = IsLeastFrom (is_other big k) text o in
-    let g : IsLeast (is_other big k) text o s.0 = subst P s.1 f in
+    let g : FirstFrom (is_other big k) text o s.0 = subst P s.1 f in
     let ne : o ≡ s.0 → ⊥ = apart big k text o s.0 (same_self k) (not_false _ g.passes) in
-    record { at = s.0; is = s.1; later = omega (arith, g.from); inside = g.inside }
+    record { at = s.0; is = s.1; later = omega (arith, g.inside.0); inside = g.inside.1 }
 
 word_ends_behind : (big : Bool) (text : List ℕ) (o : ℕ) → IsText text → o < length text → is_same (class_at big text o) Line ≡ false → FoundBehind text o (behind_word big text o)
 word_ends_behind big text o h l e =
@@ -128,9 +128,9 @@ next_some big text o h l e =
     let f : IsLeastFrom (is_other big Blank) text d.at (search d.at) = least_found (is_other big Blank) text d.at in
     let s : (n : ℕ) × (search d.at ≡ Some n) = finds big Blank text d.at (search d.at) h d.inside refl f in
     let P : Option ℕ → Type 0 = IsLeastFrom (is_other big Blank) text d.at in
-    let g : IsLeast (is_other big Blank) text d.at s.0 = subst P s.1 f in
+    let g : FirstFrom (is_other big Blank) text d.at s.0 = subst P s.1 f in
     some_from (last_before_next big text o) (s.0 - 1)
-    (ap (λ r. option_and_then back (option_and_then search r)) d.is ∙ ap (option_and_then back) s.1 ∙ before_some text s.0 (omega (arith, g.from, d.later)))
+    (ap (λ r. option_and_then back (option_and_then search r)) d.is ∙ ap (option_and_then back) s.1 ∙ before_some text s.0 (omega (arith, g.inside.0, d.later)))
 
 run_last_some : (big : Bool) (text : List ℕ) (o : ℕ) → IsText text → o < length text → is_same (class_at big text o) Line ≡ false → IsSome (run_last big text o)
 run_last_some big text o h l e =
@@ -144,15 +144,15 @@ end_some big text o h l e =
     let f : IsLeastFrom (is_other big Blank) text o (search o) = least_found (is_other big Blank) text o in
     let s : (n : ℕ) × (search o ≡ Some n) = finds big Blank text o (search o) h l refl f in
     let P : Option ℕ → Type 0 = IsLeastFrom (is_other big Blank) text o in
-    let g : IsLeast (is_other big Blank) text o s.0 = subst P s.1 f in
+    let g : FirstFrom (is_other big Blank) text o s.0 = subst P s.1 f in
     let tail : ℕ → Option ℕ = λ n. cond (is_same (class_at big text n) Line) (offset_beside text n false) (run_last big text n) in
     let Q : Option ℕ → Type 0 = λ r. IsSome (option_and_then tail r) in
     let R : Bool → Type 0 = λ v. IsSome (cond v (offset_beside text s.0 false) (run_last big text s.0)) in
     subst Q (sym s.1)
     (elim (test_cases (is_same (class_at big text s.0) Line)) [
       | inl t ↦ let ne : s.0 ≡ o → ⊥ = apart big Line text s.0 o t e in
-          subst R (sym t) (some_from (offset_beside text s.0 false) (s.0 - 1) (before_some text s.0 (omega (arith, g.from))))
-      | inr u ↦ subst R (sym u) (run_last_some big text s.0 h g.inside u)
+          subst R (sym t) (some_from (offset_beside text s.0 false) (s.0 - 1) (before_some text s.0 (omega (arith, g.inside.0))))
+      | inr u ↦ subst R (sym u) (run_last_some big text s.0 h g.inside.1 u)
     ])
 
 -- a motion forward begins inside the text, and not at a newline
@@ -160,8 +160,8 @@ begun_ahead : (big : Bool) (text : List ℕ) (w : ℕ → ℕ) (found : Option �
 begun_ahead big text w None b e = absurd (none-some b e)
 begun_ahead big text w (Some n) b e =
     let P : Option ℕ → Type 0 = IsLeastFrom (is_other big Line) text (w n) in
-    let f : IsLeast (is_other big Line) text (w n) b = subst P e (least_found (is_other big Line) text (w n)) in
-    (f.inside, not_false _ f.passes)
+    let f : FirstFrom (is_other big Line) text (w n) b = subst P e (least_found (is_other big Line) text (w n)) in
+    (f.inside.1, not_false _ f.passes)
 
 pub next_has_end : (big : Bool) (text : List ℕ) (o b : ℕ) → IsText text → begin_ahead big text o ≡ Some b → IsSome (last_before_next big text b)
 next_has_end big text o b h e = let s = begun_ahead big text (with_its_class big text o) (offset_beside text o true) b e in next_some big text b h s.0 s.1
@@ -179,15 +179,15 @@ run_first_some : (big : Bool) (text : List ℕ) (o : ℕ) (found : Option ℕ) �
 run_first_some big text o None l f = refl
 run_first_some big text o (Some n) l f =
     let k : Class = class_at big text o in
-    behind_found text o n f.upto (λ e. apart big k text o n (same_self k) (not_false _ f.passes) (sym e)) l
+    behind_found text o n (omega (arith, f.inside)) (λ e. apart big k text o n (same_self k) (not_false _ f.passes) (sym e)) l
 
 back_some : (big : Bool) (text : List ℕ) (o : ℕ) (found : Option ℕ) → o < length text → is_same (class_at big text o) Line ≡ false → IsGreatestTo (is_other big Blank) text o found → IsSome (start_or_first big text found)
 back_some big text o None l e f = refl
 back_some big text o (Some n) l e f =
     let R : Bool → Type 0 = λ v. IsSome (cond v (offset_beside text n true) (run_first big text n)) in
     elim (test_cases (is_same (class_at big text n) Line)) [
-      | inl t ↦ subst R (sym t) (behind_found text o n f.upto (apart big Line text n o t e) l)
-      | inr u ↦ let inside : n < length text = omega (arith, f.upto) in
+      | inl t ↦ subst R (sym t) (behind_found text o n (omega (arith, f.inside)) (apart big Line text n o t e) l)
+      | inr u ↦ let inside : n < length text = omega (arith, f.inside) in
           subst R (sym u) (run_first_some big text n (greatest_to (is_other big (class_at big text n)) text n) inside (greatest_found (is_other big (class_at big text n)) text n))
     ]
 
@@ -197,8 +197,8 @@ begun_back : (big : Bool) (text : List ℕ) (o : ℕ) (w : ℕ → ℕ) (found :
 begun_back big text o w None b l h e = absurd (none-some b e)
 begun_back big text o w (Some n) b l h e =
     let P : Option ℕ → Type 0 = IsGreatestTo (is_other big Line) text (w n) in
-    let f : IsGreatest (is_other big Line) text (w n) b = subst P e (greatest_found (is_other big Line) text (w n)) in
-    (omega (arith, f.upto, h n refl), not_false _ f.passes)
+    let f : LastTo (is_other big Line) text (w n) b = subst P e (greatest_found (is_other big Line) text (w n)) in
+    (omega (arith, f.inside, h n refl), not_false _ f.passes)
 
 -- the offset before another isn't behind it, and neither is the one of the two
 before_le : (text : List ℕ) (o n : ℕ) → offset_beside text o false ≡ Some n → n ≤ o

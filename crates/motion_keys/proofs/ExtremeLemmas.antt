@@ -1,5 +1,6 @@
 -- Finding the least and the greatest, step by step.
-use Rattle.std.proofs.Common.{◌≡◌, ℕ, zero, suc, ◌+◌, ◌-◌, ◌<◌, ◌≤◌, Bool, true, false, cond, Option, None, Some, sym, ap, subst, ◌∙◌, arith, inl, inr, ◌⊎◌}
+use Rattle.std.proofs.Common.{◌≡◌, ℕ, zero, suc, ◌+◌, ◌-◌, ◌<◌, ◌≤◌, Bool, true, false, cond, Option, None, Some, refl, sym, ap, subst, ◌∙◌, arith, inl, inr, ◌⊎◌}
+use Rattle.std.proofs.lemmas.Bool.{cases_lt, false≢true}
 use Rattle.text_model.proofs.CoordLemmas.{test_cases}
 use Rattle.motion_keys.specs.Extremes.{least_of, least_between, greatest_below, IsLeastOrNone, IsGreatestOrNone}
 
@@ -70,3 +71,40 @@ greatest-is test (suc n) =
     earlier : test n ≡ false → (found : Option ℕ) → IsGreatestOrNone test n found → IsGreatestOrNone test (suc n) found
     earlier f None h = λ k l. last_or f k l (λ g. h k g)
     earlier f (Some m) h = record { inside = omega (arith, h.inside); passes = h.passes; greatest = λ k l g. last_or f k g (λ i. h.greatest k l i) }
+
+-- ---- only that is found
+
+clash : (b : Bool) → b ≡ true → b ≡ false → ⊥
+clash b h k = false≢true (sym k ∙ h)
+
+one-least : (test : ℕ → Bool) (from limit : ℕ) (r s : Option ℕ) → IsLeastOrNone test from limit r → IsLeastOrNone test from limit s → r ≡ s
+one-least test from limit None None h k = refl
+one-least test from limit None (Some n) h k = absurd (clash (test n) k.passes (h n k.inside.0 k.inside.1))
+one-least test from limit (Some m) None h k = absurd (clash (test m) h.passes (k m h.inside.0 h.inside.1))
+one-least test from limit (Some m) (Some n) h k =
+    elim (cases_lt m n) [
+      | inl lt ↦ absurd (clash (test m) h.passes (k.least m h.inside.0 lt))
+      | inr ge ↦ elim (cases_lt n m) [
+        | inl gt ↦ absurd (clash (test n) k.passes (h.least n k.inside.0 gt))
+        | inr le ↦ let e : m ≡ n = omega arith in ap Some e
+      ]
+    ]
+
+pub only-least : (test : ℕ → Bool) (from limit : ℕ) (found : Option ℕ) → IsLeastOrNone test from limit found → found ≡ least_between test from limit
+only-least test from limit found h = one-least test from limit found (least_between test from limit) h (least-is test from limit)
+
+one-greatest : (test : ℕ → Bool) (limit : ℕ) (r s : Option ℕ) → IsGreatestOrNone test limit r → IsGreatestOrNone test limit s → r ≡ s
+one-greatest test limit None None h k = refl
+one-greatest test limit None (Some n) h k = absurd (clash (test n) k.passes (h n k.inside))
+one-greatest test limit (Some m) None h k = absurd (clash (test m) h.passes (k m h.inside))
+one-greatest test limit (Some m) (Some n) h k =
+    elim (cases_lt m n) [
+      | inl lt ↦ absurd (clash (test n) k.passes (h.greatest n lt k.inside))
+      | inr ge ↦ elim (cases_lt n m) [
+        | inl gt ↦ absurd (clash (test m) h.passes (k.greatest m gt h.inside))
+        | inr le ↦ let e : m ≡ n = omega arith in ap Some e
+      ]
+    ]
+
+pub only-greatest : (test : ℕ → Bool) (limit : ℕ) (found : Option ℕ) → IsGreatestOrNone test limit found → found ≡ greatest_below test limit
+only-greatest test limit found h = one-greatest test limit found (greatest_below test limit) h (greatest-is test limit)

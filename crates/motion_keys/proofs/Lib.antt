@@ -1,9 +1,11 @@
+pub mod HolderLemmas
 pub mod VerticalLemmas
 pub mod StepLemmas
 pub mod ExtremeLemmas
 pub mod SearchLemmas
 pub mod DepthLemmas
 pub mod LineLemmas
+pub mod PartLemmas
 pub mod NearestLemmas
 pub mod WordLemmas
 pub mod EndLemmas

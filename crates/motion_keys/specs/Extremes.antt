@@ -38,7 +38,9 @@ abbrev pub IsGreatestOrNone : (ℕ → Bool) → ℕ → Option ℕ → Type 0
 IsGreatestOrNone test limit None = (k : ℕ) → k < limit → test k ≡ false
 IsGreatestOrNone test limit (Some n) = IsGreatest test limit n
 
--- what the definitions find is the least and the greatest
+-- what the definitions find is the least and the greatest, and nothing else is
 pub record ExtremesAreFound : Type 0 where
   pub least : (test : ℕ → Bool) (from limit : ℕ) → IsLeastOrNone test from limit (least_between test from limit)
   pub greatest : (test : ℕ → Bool) (limit : ℕ) → IsGreatestOrNone test limit (greatest_below test limit)
+  pub only_least : (test : ℕ → Bool) (from limit : ℕ) (found : Option ℕ) → IsLeastOrNone test from limit found → found ≡ least_between test from limit
+  pub only_greatest : (test : ℕ → Bool) (limit : ℕ) (found : Option ℕ) → IsGreatestOrNone test limit found → found ≡ greatest_below test limit

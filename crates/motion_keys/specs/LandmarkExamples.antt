@@ -2,7 +2,11 @@
 use Rattle.std.specs.Prelude.{◌≡◌, ℕ, Some, codes}
 use Rattle.motion_keys.specs.declared.landmarks.Place.TheVariants.{First, LastLine, Last, LineStart, LineEnd, NonBlank, WindowTop, WindowMiddle, WindowBottom, Line}
 use Rattle.motion_keys.specs.declared.landmarks.View.{View}
-use Rattle.motion_keys.specs.Landmarks.{landmark}
+use Rattle.motion_keys.specs.declared.landmarks.LinePart.TheVariants.{ToStart, ToEnd}
+use Rattle.list_model.specs.Ranges.{only}
+use Rattle.selection_set.specs.Listing.{range_between}
+use Rattle.motion_keys.specs.Examples.{turned_from}
+use Rattle.motion_keys.specs.Landmarks.{landmark, line_part}
 
 abbrev pub view : ℕ → ℕ → View
 view top rows = record { top = top; rows = rows }
@@ -29,3 +33,15 @@ pub record NonBlankExamples : Type 0 where
   pub without_blanks : landmark (codes "a\nbc\n") 3 (view 0 9) NonBlank ≡ Some 2
   pub blanks_alone : landmark (codes "a\n  \n") 2 (view 0 9) NonBlank ≡ Some 4
   pub an_empty_line : landmark (codes "a\n\n b\n") 2 (view 0 9) NonBlank ≡ Some 2
+
+-- parts of the cursor's line
+pub record LinePartExamples : Type 0 where
+  pub to_the_start : line_part (codes "ab\ncde\n") (only 5) ToStart ≡ range_between 5 3
+  pub at_the_start : line_part (codes "ab\ncde\n") (only 3) ToStart ≡ range_between 3 3
+  pub from_the_newline_to_the_start : line_part (codes "ab\ncde\n") (only 6) ToStart ≡ range_between 6 3
+  pub from_the_cursor_to_the_start : line_part (codes "ab\ncde\n") (turned_from 4 6) ToStart ≡ range_between 4 3
+  pub to_the_end : line_part (codes "ab\ncde\n") (only 3) ToEnd ≡ range_between 3 5
+  pub at_the_end : line_part (codes "ab\ncde\n") (only 5) ToEnd ≡ range_between 5 5
+  pub from_the_newline_to_the_end : line_part (codes "ab\ncde\n") (only 6) ToEnd ≡ range_between 6 5
+  pub of_an_empty_line : line_part (codes "ab\n\n") (only 3) ToEnd ≡ range_between 3 3
+  pub from_the_cursor_to_the_end : line_part (codes "ab\ncde\n") (turned_from 0 5) ToEnd ≡ range_between 0 1

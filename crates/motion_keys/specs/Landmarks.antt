@@ -2,11 +2,15 @@
 use Rattle.std.specs.Prelude.{ℕ, ◌+◌, ◌-◌, ◌/◌, min, Bool, not, List, length, slice_index, Some}
 use Rattle.std.specs.declared.option.Option.{Option}
 use Rattle.text_model.specs.Texts.{offset, coord_at, nth_line, line_count, last_place}
+use Rattle.list_model.specs.Ranges.{Range, cursor}
+use Rattle.selection_set.specs.Listing.{range_between}
 use Rattle.kak_text.specs.declared.classes.Class.TheVariants.{Blank}
 use Rattle.kak_text.specs.Classes.{class_of, is_same}
 use Rattle.motion_keys.specs.declared.landmarks.Place.{Place}
 use Rattle.motion_keys.specs.declared.landmarks.Place.TheVariants.{First, LastLine, Last, LineStart, LineEnd, NonBlank, WindowTop, WindowMiddle, WindowBottom, Line}
 use Rattle.motion_keys.specs.declared.landmarks.View.{View}
+use Rattle.motion_keys.specs.declared.landmarks.LinePart.{LinePart}
+use Rattle.motion_keys.specs.declared.landmarks.LinePart.TheVariants.{ToStart, ToEnd}
 use Rattle.motion_keys.specs.Extremes.{least_between}
 
 -- the first offset of a line, by its number; for a number beyond the last line, the last line's
@@ -41,3 +45,8 @@ landmark text o view WindowTop = Some (line_start text view.top)
 landmark text o view WindowMiddle = Some (line_start text (view.top + view.rows / 2))
 landmark text o view WindowBottom = Some (line_start text (view.top + view.rows - 1))
 landmark text o view (Line n) = Some (line_start text n)
+
+-- from the cursor to its line's first character; or to the last one before the newline, where the line has one
+abbrev pub line_part : List ℕ → Range → LinePart → Range
+line_part text r ToStart = range_between (cursor r) (line_start text (line_of text (cursor r)))
+line_part text r ToEnd = range_between (cursor r) (line_last text (line_of text (cursor r)))

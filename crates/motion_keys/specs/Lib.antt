@@ -5,6 +5,7 @@ pub mod Words
 pub mod WordExamples
 pub mod WordLaws
 pub mod Examples
+pub mod VerticalExamples
 pub mod Extremes
 pub mod Jumps
 pub mod JumpExamples

@@ -2,7 +2,7 @@
 
 ghost use Rattle.motion_keys.specs.Extremes.{ExtremesAreFound};
 ghost use Rattle.motion_keys.specs.JumpExamples.{CharExamples, BracketExamples};
-ghost use Rattle.motion_keys.specs.LandmarkExamples.{LandmarkExamples, NonBlankExamples};
+ghost use Rattle.motion_keys.specs.LandmarkExamples.{LandmarkExamples, NonBlankExamples, LinePartExamples};
 
 /// Worked examples of moves to a character.
 pub fn char_examples()
@@ -24,7 +24,13 @@ pub fn non_blank_examples()
     ensures { NonBlankExamples }
 {}
 
-/// What is found is the least or the greatest that passes the test, and none is found only where none passes.
+/// Worked examples of parts of the cursor's line.
+pub fn line_part_examples()
+    ensures { LinePartExamples }
+{}
+
+/// What is found is the least or the greatest that passes the test, none is found only where none passes, and nothing
+/// else is the least or the greatest.
 pub fn extremes_are_found()
     ensures { ExtremesAreFound }
 {}

@@ -33,3 +33,12 @@ pub struct View {
     /// How many lines it has room for.
     pub rows: u32,
 }
+
+/// A part of the cursor's line.
+#[derive(Clone, Copy, PartialEq, Eq, Debug)]
+pub enum LinePart {
+    /// From the cursor to the line's first character.
+    ToStart,
+    /// From the cursor to the last character before the newline, or to the newline of an empty line.
+    ToEnd,
+}

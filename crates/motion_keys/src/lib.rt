@@ -14,13 +14,15 @@ pub mod words;
 
 pub use bracket_moves::bracket;
 pub use char_moves::to_char;
-pub use landmarks::{Place, View};
+pub use landmarks::{LinePart, Place, View};
 pub use moves::{step, vertical};
-pub use place_moves::place;
+pub use place_moves::{line_part, place};
 pub use words::{WordMove, word};
 
 #[cfg(test)]
 mod jump_tests;
+#[cfg(test)]
+mod move_tests;
 #[cfg(test)]
 mod place_tests;
 #[cfg(test)]

@@ -1,15 +1,15 @@
-//! Moves by one character and by one line.
+//! Moves by one character and by lines.
 
-ghost use Rattle.std.specs.Prelude.{◌≡◌, ◌<◌, ◌≤◌, None, Some, MatchOption, IsNone, IfSome, option_map, ⊤};
-ghost use Rattle.text_model.specs.declared.TheConstants.{MAX_CHARS};
+ghost use Rattle.std.specs.Prelude.{◌≡◌, ◌<◌, ◌≤◌, None, Some, IsNone, IfSome, option_map, length};
 ghost use Rattle.text_model.specs.Texts.{line_count, offset, IsPlace};
 ghost use Rattle.selection_set.specs.Inside.{range_of, IsInside};
-ghost use Rattle.motion_keys.specs.Motions.{line_beside, landing, landed, vertical, stepped, offset_beside};
+ghost use Rattle.motion_keys.specs.Motions.{line_by, landing, aim, landed, vertical, stepped, offset_beside};
 ghost use Rattle.motion_keys.specs.Places.{OffsetsAre};
 
-use kak_text::Coord;
+use kak_text::{Coord, MAX_CHARS, MAX_TABSTOP};
 use line_buffer::Lines;
 use selection_set::{Pair, Sel};
+use window_view::{cell_of, offset_at};
 
 // The place of the character after a place, or before it.
 fn beside_place(lines: &Lines, at: Coord, forward: bool) -> Option<Coord>
@@ -37,45 +37,71 @@ pub fn step(lines: &Lines, sel: &Sel, forward: bool) -> Option<Pair>
     }
 }
 
-// The line below a line, or above it.
-fn beside(lines: &Lines, line: u32, down: bool) -> Option<u32>
-    requires { line < line_count lines.now }
-    ensures gives { result ≡ line_beside (line_count lines.now) line down }
-    ensures there { MatchOption result ⊤ (λ n. n < line_count lines.now) }
+// The line some lines below a line, or above it, among so many.
+fn line_by(count: usize, line: u32, by: i64) -> Option<u32>
+    requires there { line < count }
+    requires few { count ≤ MAX_CHARS }
+    ensures gives { result ≡ line_by count line by }
+    ensures there { IfSome result (λ n. n < count) }
 {
-    let count = lines.line_count();
-    if down {
-        if line as usize + 1 < count {
-            return Some(line + 1);
+    if by == 0 {
+        return Some(line);
+    }
+    let line = u64::from(line);
+    let steps = by.unsigned_abs();
+    if by < 0 {
+        if line == 0 {
+            return None;
         }
+        return Some(line.saturating_sub(steps) as u32);
+    }
+    let last = count as u64 - 1;
+    if line == last {
         return None;
     }
-    if line > 0 {
-        return Some(line - 1);
-    }
-    None
+    Some(line.saturating_add(steps).min(last) as u32)
 }
 
-// The column on a line of that length at which a vertical move arrives.
-fn landing_column(target: u32, size: usize) -> u32
-    requires some { 0 < size }
-    requires few { size ≤ MAX_CHARS }
-    ensures gives { result ≡ landing target size }
-    ensures inside { result < size }
+// The display column that a vertical move aims at.
+fn aim(lines: &Lines, sel: &Sel, tabstop: u32) -> u32
+    requires inside { IsInside lines.now sel.now }
+    requires some { 1 ≤ tabstop }
+    requires few { tabstop ≤ MAX_TABSTOP }
+    ensures { result ≡ aim lines.now (range_of lines.now sel.now) tabstop }
 {
-    if (target as usize) < size {
-        return target;
+    match sel.target {
+        Some(target) => target,
+        None => {
+            let at = sel.cursor();
+            cell_of(lines.line(at.line as usize), at.column as usize, tabstop)
+        }
     }
-    size.saturating_sub(2) as u32
+}
+
+// The column of a line at which a vertical move arrives.
+fn landing_column(line: &[char], target: u32, tabstop: u32) -> usize
+    requires line { 0 < length line.now }
+    requires short { length line.now ≤ MAX_CHARS }
+    requires some { 1 ≤ tabstop }
+    requires few { tabstop ≤ MAX_TABSTOP }
+    ensures gives { result ≡ landing line.now target tabstop }
+    ensures inside { result < length line.now }
+{
+    match offset_at(line, target, tabstop) {
+        Some(column) => column,
+        None => line.len().saturating_sub(2),
+    }
 }
 
 // The character of a line at which a vertical move arrives, with the target.
-fn land(lines: &Lines, target: u32, line: u32) -> Sel
-    requires { line < line_count lines.now }
+fn land(lines: &Lines, target: u32, line: u32, tabstop: u32) -> Sel
+    requires there { line < line_count lines.now }
+    requires some { 1 ≤ tabstop }
+    requires few { tabstop ≤ MAX_TABSTOP }
     ensures inside { IsInside lines.now result }
-    ensures lands { range_of lines.now result ≡ landed lines.now target line }
+    ensures lands { range_of lines.now result ≡ landed lines.now target tabstop line }
 {
-    let column = landing_column(target, lines.line(line as usize).len());
+    let column = landing_column(lines.line(line as usize), target, tabstop) as u32;
     let place = Coord { line, column };
     Sel {
         low: place,
@@ -85,19 +111,22 @@ fn land(lines: &Lines, target: u32, line: u32) -> Sel
     }
 }
 
-/// The selection one line below the cursor, or above it: the character at the target's cell, which is the column of
-/// the cursor where the selection has no target. Beyond the line, it is the last character before the newline, or the
-/// newline of an empty line. None on the last line, or on the first one.
-pub fn vertical(lines: &Lines, sel: &Sel, down: bool) -> Option<Sel>
-    requires { IsInside lines.now sel.now }
-    ensures none { IsNone result → vertical lines.now (range_of lines.now sel.now) down ≡ None }
-    ensures some { IfSome result (λ s. vertical lines.now (range_of lines.now sel.now) down ≡ Some (range_of lines.now s)) }
+/// The selection `by` lines below the cursor, or above it for a number below 0; at most on the last or the first line,
+/// and for 0 on the cursor's own. It is the character that holds the target's cell, which is the selection's target or
+/// else the display column of the cursor, with a tab stop at each `tabstop` columns. Beyond the line, it is the last
+/// character before the newline, or the newline of an empty line. None from the last line down, and from the first line
+/// up.
+pub fn vertical(lines: &Lines, sel: &Sel, by: i64, tabstop: u32) -> Option<Sel>
+    requires inside { IsInside lines.now sel.now }
+    requires some { 1 ≤ tabstop }
+    requires few { tabstop ≤ MAX_TABSTOP }
+    ensures none { IsNone result → vertical lines.now (range_of lines.now sel.now) by tabstop ≡ None }
+    ensures some { IfSome result (λ s. vertical lines.now (range_of lines.now sel.now) by tabstop ≡ Some (range_of lines.now s)) }
     ensures inside { IfSome result (λ s. IsInside lines.now s) }
 {
-    let at = sel.cursor();
-    let target = sel.target.unwrap_or(at.column);
-    match beside(lines, at.line, down) {
+    let target = aim(lines, sel, tabstop);
+    match line_by(lines.line_count(), sel.cursor().line, by) {
         None => None,
-        Some(line) => Some(land(lines, target, line)),
+        Some(line) => Some(land(lines, target, line, tabstop)),
     }
 }

@@ -5,9 +5,10 @@ ghost use Rattle.text_model.specs.Texts.{offset, line_count, IsPlace};
 ghost use Rattle.list_model.specs.Ranges.{cursor};
 ghost use Rattle.selection_set.specs.Inside.{range_of, IsInside};
 ghost use Rattle.motion_keys.specs.Places.{OffsetsAre};
-ghost use Rattle.motion_keys.specs.Landmarks.{line_start, line_last, line_text, landmark};
+ghost use Rattle.motion_keys.specs.Jumps.{RangesAre};
+ghost use Rattle.motion_keys.specs.Landmarks.{line_start, line_last, line_text, landmark, line_part};
 
-use crate::landmarks::{Place, View};
+use crate::landmarks::{LinePart, Place, View};
 use kak_text::{Class, Coord, class};
 use line_buffer::Lines;
 use selection_set::{Pair, Sel};
@@ -89,4 +90,18 @@ pub fn place(lines: &Lines, sel: &Sel, view: &View, target: Place) -> Option<Pai
             cursor: found,
         }),
     }
+}
+
+/// From the cursor to its line's first character, or to the last one before the newline, where the line has one. The
+/// cursor moves even back to it, from the newline; so it always finds a place.
+pub fn line_part(lines: &Lines, sel: &Sel, part: LinePart) -> Option<Pair>
+    requires { IsInside lines.now sel.now }
+    ensures gives { RangesAre lines.now result (Some (line_part lines.now (range_of lines.now sel.now) part)) }
+{
+    let anchor = sel.cursor();
+    let cursor = match part {
+        LinePart::ToStart => find_start(lines, anchor.line as usize),
+        LinePart::ToEnd => find_end(lines, anchor.line),
+    };
+    Some(Pair { anchor, cursor })
 }

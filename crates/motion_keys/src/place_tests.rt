@@ -55,3 +55,29 @@ fn places_with_names(rt: HostRuntime) -> Result<(), Fail> {
     }
     Ok(())
 }
+
+#[test]
+fn parts_of_a_line(rt: HostRuntime) -> Result<(), Fail> {
+    let text = lines(rt.alloc(), "añb\n\nabé\n")?;
+    let rows = [
+        (1, LinePart::ToStart, 0),
+        (0, LinePart::ToStart, 0),
+        (3, LinePart::ToStart, 0),
+        (4, LinePart::ToStart, 4),
+        (8, LinePart::ToStart, 5),
+        (1, LinePart::ToEnd, 2),
+        (2, LinePart::ToEnd, 2),
+        (3, LinePart::ToEnd, 2),
+        (4, LinePart::ToEnd, 4),
+        (5, LinePart::ToEnd, 7),
+    ];
+    for (from, part, to) in &rows {
+        assert!(rt; *from < text.len());
+        assert!(rt; *to < text.len());
+        let anchor = text.coord_of(*from);
+        let cursor = text.coord_of(*to);
+        let found = line_part(&text, &Sel::only(anchor), *part);
+        assert_eq!(rt; found, Some(Pair { anchor, cursor }));
+    }
+    Ok(())
+}

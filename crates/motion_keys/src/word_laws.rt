@@ -1,17 +1,11 @@
 //! Worked examples of the motions by words, and their laws.
 
-ghost use Rattle.motion_keys.specs.Nearest.{NearestAreFound};
 ghost use Rattle.motion_keys.specs.WordExamples.{WordExamples};
 ghost use Rattle.motion_keys.specs.WordLaws.{EachBeginHasAnEnd};
 
 /// Worked examples of the motions by words.
 pub fn word_examples()
     ensures { WordExamples }
-{}
-
-/// The searches find the least and the greatest offset at which a test passes, and nothing where it passes at none.
-pub fn nearest_are_found()
-    ensures { NearestAreFound }
 {}
 
 /// In a text, a motion by words finds no place only where it has no begin.

@@ -1,1 +1,5 @@
 pub mod TurnedLemmas
+pub mod EachLemmas
+pub mod LedLemmas
+pub mod ShapeLemmas
+pub mod RunLemmas

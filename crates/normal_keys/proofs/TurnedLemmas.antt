@@ -10,7 +10,8 @@ use Rattle.text_model.proofs.PlaceLemmas.{is_at_most-offset}
 use Rattle.list_model.specs.Ranges.{Range}
 use Rattle.selection_set.specs.declared.sel.Sel.{Sel}
 use Rattle.selection_set.specs.Inside.{range_of, IsInside}
-use Rattle.normal_keys.specs.Rows.{at_its_start}
+use Rattle.normal_keys.specs.declared.actions.Shape.TheVariants.{AtStart}
+use Rattle.normal_keys.specs.Moving.{reshaped}
 
 not-leb : (a b : ℕ) → not (leb b a) ≡ ltb a b
 not-leb a b = elim (leb_tells b a) [ inl h ↦ rw (h.0, le-ltb a b (h.1)) refl | inr h ↦ rw (h.0, lt-ltb a b (h.1)) refl ]
@@ -20,5 +21,5 @@ pub turned-is : (text : List ℕ) (sel : Sel) → IsInside text sel → not (is_
 turned-is text sel h = ap not (is_at_most-offset text sel.high sel.low (inl h.high) (inl h.low)) ∙ not-leb (offset text sel.low) (offset text sel.high)
 
 pub turned-range : (text : List ℕ) (sel : Sel) (flag : Bool) → IsInside text sel → flag ≡ is_at_most sel.high sel.low
-    → range_of text (record { low = sel.low; high = sel.high; turned = not flag; target = sel.target }) ≡ at_its_start (range_of text sel)
+    → range_of text (record { low = sel.low; high = sel.high; turned = not flag; target = sel.target }) ≡ reshaped AtStart text (range_of text sel)
 turned-range text sel flag h e = ap (λ (t : Bool). let r : Range = record { low = offset text sel.low; high = offset text sel.high; turned = t; target = sel.target } in r) (ap not e ∙ turned-is text sel h)

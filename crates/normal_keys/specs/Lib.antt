@@ -1,2 +1,7 @@
+pub mod Actions
+pub mod Moving
+pub mod Led
+pub mod Listing
+pub mod Repeating
 pub mod Rows
 pub mod Examples

@@ -1,90 +1,43 @@
 //! The rows of normal mode.
 
-ghost use Rattle.std.specs.Prelude.{◌≡◌, true, unwrap_or, option_map};
-ghost use Rattle.list_model.specs.Ranges.{only};
-ghost use Rattle.selection_set.specs.Inside.{range_of, IsInside};
-ghost use Rattle.motion_keys.specs.Motions.{vertical as vertical_range, stepped};
-ghost use Rattle.kak_world.specs.Flat.{is_joined};
+ghost use Rattle.std.specs.Prelude.{◌≡◌, true, OnOk};
+ghost use Rattle.kak_world.specs.Flat.{is_joined, count_of, awaiting_of, cleared};
 ghost use Rattle.kak_world.specs.Rows.{Gives, does};
-ghost use Rattle.normal_keys.specs.Rows.{moved_by, insert_before, open_prompt, at_its_start, row_normal, row_character};
+ghost use Rattle.normal_keys.specs.Moving.{each_changed, moved};
+ghost use Rattle.normal_keys.specs.Rows.{with_digit, insert_before, open_prompt, go_to_line, acted, row_awaited, row_normal};
 
-use kak_world::{Ask, EditError, Mode, World};
-use key_names::{Base, Key};
-use line_buffer::Lines;
-use motion_keys::{step, vertical};
-use selection_set::Sel;
-use std::alloc::Global;
+use crate::actions::{Action, Motion, Shape, action_of};
+use crate::awaited::{character_of, place_of};
+use crate::each::{Each, change_each};
+use crate::lists::change_list;
+use crate::runs::{Repeated, run_often};
+use kak_world::{Ask, Awaiting, EditError, Mode, Reach, World};
+use key_names::Key;
+use motion_keys::Place;
+use std::alloc::{AllocError, Global};
 
-// The selection one line below or above, or the selection itself where there is no such line.
-fn beside(lines: &Lines, sel: Sel, down: bool) -> Sel
-    requires { IsInside lines.now sel }
-    ensures inside { IsInside lines.now result }
-    ensures moves { range_of lines.now result ≡ unwrap_or (vertical_range lines.now (range_of lines.now sel) down) (range_of lines.now sel) }
-{
-    match vertical(lines, &sel, down) {
-        Some(moved) => moved,
-        None => sel,
-    }
-}
+/// The greatest count.
+const MAX_COUNT: u32 = 999_999;
 
-// The character after the cursor, or before it, or the selection itself where there is no such character.
-fn beside_cursor(lines: &Lines, sel: Sel, forward: bool) -> Sel
-    requires { IsInside lines.now sel }
-    ensures inside { IsInside lines.now result }
-    ensures moves { range_of lines.now result ≡ unwrap_or (option_map only (stepped lines.now (range_of lines.now sel) forward)) (range_of lines.now sel) }
-{
-    match step(lines, &sel, forward) {
-        Some(pair) => Sel::only(pair.cursor),
-        None => sel,
-    }
-}
-
-// Moves a client's selection by one character.
-fn move_by_character(world: &mut World, who: u32, forward: bool)
+// Does something to each selection once.
+fn change(alloc: Global, world: &mut World, who: u32, change: Each) -> Result<Ask, EditError>
     requires { is_joined who world.old.flat ≡ true }
-    ensures does { world.new.flat ≡ moved_by (λ text r. option_map only (stepped text r forward)) who world.old.flat }
+    ensures row { Gives result world.new.flat (does (each_changed change who world.old.flat)) }
     ensures stays { is_joined who world.new.flat ≡ true }
 {
-    let sel = world.sel(who);
-    let moved = beside_cursor(world.lines(who), sel, forward);
-    world.set_sel(who, moved);
+    change_each(alloc, world, who, change)?;
+    Ok(Ask::Nothing)
 }
 
-// Moves a client's selection by one line.
-fn move_by_line(world: &mut World, who: u32, down: bool)
+// Goes to insert mode, before each selection.
+fn begin_insert(alloc: Global, world: &mut World, who: u32) -> Result<Ask, EditError>
     requires { is_joined who world.old.flat ≡ true }
-    ensures does { world.new.flat ≡ moved_by (λ text r. vertical_range text r down) who world.old.flat }
+    ensures row { Gives result world.new.flat (does (insert_before who world.old.flat)) }
     ensures stays { is_joined who world.new.flat ≡ true }
 {
-    let sel = world.sel(who);
-    let moved = beside(world.lines(who), sel, down);
-    world.set_sel(who, moved);
-}
-
-// The selection with its cursor at its first character.
-fn turned_to_start(lines: &Lines, sel: Sel) -> Sel
-    requires { IsInside lines.now sel }
-    ensures inside { IsInside lines.now result }
-    ensures turns { range_of lines.now result ≡ at_its_start (range_of lines.now sel) }
-{
-    Sel {
-        low: sel.low,
-        high: sel.high,
-        turned: !sel.high.is_at_most(sel.low),
-        target: sel.target,
-    }
-}
-
-// Goes to insert mode, before the selection.
-fn begin_insert(world: &mut World, who: u32)
-    requires { is_joined who world.old.flat ≡ true }
-    ensures does { world.new.flat ≡ insert_before who world.old.flat }
-    ensures stays { is_joined who world.new.flat ≡ true }
-{
-    let sel = world.sel(who);
-    let turned = turned_to_start(world.lines(who), sel);
-    world.set_sel(who, turned);
+    change_each(alloc, world, who, Each::Reshaped(Shape::AtStart))?;
     world.set_mode(who, Mode::Insert);
+    Ok(Ask::Nothing)
 }
 
 // Opens an empty prompt for commands.
@@ -97,38 +50,116 @@ fn begin_prompt(alloc: Global, world: &mut World, who: u32)
     world.set_mode(who, Mode::Prompt);
 }
 
-// The row of a character without modifiers.
-fn run_character(alloc: Global, world: &mut World, who: u32, c: char)
+// A count with one more digit.
+fn with_digit(count: u32, digit: u32) -> u32
+    ensures { result ≡ with_digit count digit }
+{
+    let longer = u64::from(count) * 10 + u64::from(digit);
+    longer.min(u64::from(MAX_COUNT)) as u32
+}
+
+// Goes to the line that a count says, or waits for the name of a place.
+fn go(
+    alloc: Global,
+    world: &mut World,
+    who: u32,
+    count: u32,
+    reach: Reach,
+) -> Result<Ask, EditError>
     requires { is_joined who world.old.flat ≡ true }
-    ensures row { row_character c who world.old.flat ≡ does world.new.flat }
+    ensures row { Gives result world.new.flat (does (go_to_line reach count who world.old.flat)) }
     ensures stays { is_joined who world.new.flat ≡ true }
 {
-    match c {
-        'h' => move_by_character(world, who, false),
-        'l' => move_by_character(world, who, true),
-        'j' => move_by_line(world, who, true),
-        'k' => move_by_line(world, who, false),
-        'i' => begin_insert(world, who),
-        ':' => begin_prompt(alloc, world, who),
-        _ => {}
+    if count == 0 {
+        world.set_awaiting(who, Awaiting::Place(reach));
+        return Ok(Ask::Nothing);
+    }
+    let line = Motion::To(Place::Line(count - 1));
+    change(alloc, world, who, Each::Moved(line, reach))
+}
+
+// Does what a key does, with the count before it.
+fn act(
+    alloc: Global,
+    world: &mut World,
+    who: u32,
+    count: u32,
+    action: Action,
+) -> Result<Ask, EditError>
+    requires { is_joined who world.old.flat ≡ true }
+    ensures row { Gives result world.new.flat (acted action count who world.old.flat) }
+    ensures stays { is_joined who world.new.flat ≡ true }
+{
+    match action {
+        Action::Nothing => Ok(Ask::Nothing),
+        Action::Digit(digit) => {
+            world.set_count(who, with_digit(count, digit));
+            Ok(Ask::Nothing)
+        }
+        Action::Moves(motion, reach) => {
+            run_often(alloc, world, who, count, Repeated::Moves(motion, reach))
+        }
+        Action::MovesOnce(motion, reach) => {
+            change(alloc, world, who, Each::Moved(motion, reach))
+        }
+        Action::Seeks(search, reach) => {
+            world.set_count(who, count);
+            world.set_awaiting(who, Awaiting::Character(search, reach));
+            Ok(Ask::Nothing)
+        }
+        Action::Goes(reach) => go(alloc, world, who, count, reach),
+        Action::Shapes(shape) => change(alloc, world, who, Each::Reshaped(shape)),
+        Action::Lists(change) => change_list(alloc, world, who, change),
+        Action::TurnsMain(forward) => {
+            run_often(alloc, world, who, count, Repeated::TurnsMain(forward))
+        }
+        Action::Inserts => begin_insert(alloc, world, who),
+        Action::Prompts => {
+            begin_prompt(alloc, world, who);
+            Ok(Ask::Nothing)
+        }
     }
 }
 
-/// Runs one key of normal mode. An `Err` comes only for want of memory.
+// A key, by what it is for; one that doesn't fit does nothing.
+fn run_awaited(
+    alloc: Global,
+    world: &mut World,
+    who: u32,
+    count: u32,
+    awaiting: Awaiting,
+    key: Key,
+) -> Result<Ask, EditError>
+    requires { is_joined who world.old.flat ≡ true }
+    ensures row { Gives result world.new.flat (row_awaited awaiting key count who world.old.flat) }
+    ensures stays { is_joined who world.new.flat ≡ true }
+{
+    match awaiting {
+        Awaiting::Nothing => act(alloc, world, who, count, action_of(key)),
+        Awaiting::Character(search, reach) => match character_of(key) {
+            Some(c) => {
+                let motion = Motion::Character(search, c);
+                run_often(alloc, world, who, count, Repeated::Moves(motion, reach))
+            }
+            None => Ok(Ask::Nothing),
+        },
+        Awaiting::Place(reach) => match place_of(key) {
+            Some(place) => change(alloc, world, who, Each::Moved(Motion::To(place), reach)),
+            None => Ok(Ask::Nothing),
+        },
+    }
+}
+
+/// Runs one key of normal mode, on each selection of a client. `NothingSelected` and `TooManySelections` leave the
+/// selections; `BudgetSpent` comes where a further run of the key was due and no unit was left.
 #[tactic(auto, unfolding(crate::specs::Rows::row_normal))]
 pub fn normal_key(alloc: Global, world: &mut World, who: u32, key: Key) -> Result<Ask, EditError>
     requires { is_joined who world.old.flat ≡ true }
     ensures row { Gives result world.new.flat (row_normal key who world.old.flat) }
     ensures stays { is_joined who world.new.flat ≡ true }
 {
-    if key.is_modified() {
-        return Ok(Ask::Nothing);
-    }
-    match key.base {
-        Base::Char(c) => {
-            run_character(alloc, world, who, c);
-            Ok(Ask::Nothing)
-        }
-        _ => Ok(Ask::Nothing),
-    }
+    let count = world.count(who);
+    let awaiting = world.awaiting(who);
+    world.clear_count(who);
+    run_awaited(alloc, world, who, count, awaiting, key)
 }

@@ -4,7 +4,7 @@ use Rattle.std.specs.Prelude.{decimal}
 use Rattle.std.proofs.lemmas.Fmt.{decimal_digit}
 use Rattle.unicode_width.proofs.Computing.{unicode_width}
 use Rattle.draw_model.specs.Drawings.{drawing_of}
-use Rattle.draw_model.specs.Examples.{CharExamples, LineExamples, PlaceExamples}
+use Rattle.draw_model.specs.Examples.{CharExamples, LineExamples, ListExamples, PlaceExamples}
 use Rattle.draw_model.proofs.laws.worked_examples.Goals as goal
 
 chars : CharExamples
@@ -13,6 +13,26 @@ chars = search
 cells : LineExamples
 unfolding unicode_width
 cells = search
+
+lists : ListExamples
+unfolding unicode_width
+lists =
+    let two : decimal 2 ≡ 50 ∷ [] = decimal_digit 2 (omega arith) in
+    let one : decimal 1 ≡ 49 ∷ [] = decimal_digit 1 (omega arith) in
+    let three : decimal 3 ≡ 51 ∷ [] = decimal_digit 3 (omega arith) in
+    record {
+      first_is_main = refl;
+      turned_other = refl;
+      turned_main = refl;
+      neighbours = refl;
+      cursors_that_touch = refl;
+      both_on_newlines = refl;
+      over_lines = refl;
+      over_a_whole_line = refl;
+      one_in_the_window = refl;
+      cut_by_the_window = refl;
+      mode_of_three = rw (two, one, three) refl;
+    }
 
 places : PlaceExamples
 unfolding unicode_width
@@ -27,6 +47,7 @@ returns c =
     record {
       chars = chars;
       cells = cells;
+      lists = lists;
       places = places;
       opened_world = rw (one, zero) refl;
       drawn_before = refl;

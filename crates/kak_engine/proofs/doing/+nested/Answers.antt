@@ -23,7 +23,7 @@ pub go_on-returns-in-Ok-clause-does : goal.go_on-returns-in-Ok-clause-does
 go_on-returns-in-Ok-clause-does t c = rw c.in-Ok.is (row-asks c.args.who c.in-Ok.ask c.do_ask.result _ _ c.do_ask.ensures.does)
 
 pub go_on-returns-in-Err-clause-does : goal.go_on-returns-in-Err-clause-does
-go_on-returns-in-Err-clause-does t c = rw c.in-Err.is (row-fails c.args.who c.in-Err.error c.failed.result _ c.failed.ensures.text c.failed.ensures.memory)
+go_on-returns-in-Err-clause-does t c = rw c.in-Err.is (row-fails c.args.who c.in-Err.error c.ending_of.result _ c.ending_of.ensures.ends c.ending_of.ensures.memory)
 
 pub run_commands-returns-clause-does : goal.run_commands-returns-clause-does
 run_commands-returns-clause-does t c =

@@ -1,0 +1,25 @@
+-- The main cursor, and the list that it is of.
+use Rattle.std.proofs.Common.{◌≡◌, ℕ, ◌<◌, List, length, get_or, sym, ap, subst, ◌∙◌}
+use Rattle.text_model.specs.declared.coords.Coord.{Coord}
+use Rattle.text_model.specs.Texts.{IsPlace, coord_at}
+use Rattle.list_model.specs.Ranges.{Range, Selected, cursor, only}
+use Rattle.selection_set.specs.declared.sel.Sel.{Sel}
+use Rattle.selection_set.specs.Inside.{cursor_at}
+use Rattle.selection_set.specs.Listing.{Listed}
+use Rattle.selection_set.proofs.CursorLemmas.{coord_at-cursor, cursor-place}
+use Rattle.kak_world.specs.Lists.{selected, IsHeld}
+use Rattle.draw_model.specs.Drawings.{main_cursor}
+use Rattle.draw_model.proofs.DrawnLemmas.{nth-inside, nth-range}
+
+-- the cursor of the main selection is the main cursor
+pub main-cursor : (text : List ℕ) (s : Listed) (sels : Selected) (at : Sel) (place : Coord) → sels ≡ selected text s → IsHeld text s → s.main < length s.list → ((d : Sel) → at ≡ get_or s.list s.main d) → place ≡ cursor_at at
+    → place ≡ main_cursor text sels
+main-cursor text s sels at place e h l g p =
+    p
+    ∙ sym (coord_at-cursor text at (nth-inside text s.list s.main at h.inside l g))
+    ∙ ap (λ (r : Range). coord_at text (cursor r)) (nth-range text s.list s.main at (only 0) l g)
+    ∙ ap (main_cursor text) (sym e)
+
+-- and a place
+pub main-place : (text : List ℕ) (s : Listed) (at : Sel) (place : Coord) → IsHeld text s → s.main < length s.list → ((d : Sel) → at ≡ get_or s.list s.main d) → place ≡ cursor_at at → IsPlace text place
+main-place text s at place h l g p = subst (IsPlace text) (sym p) (cursor-place text at (nth-inside text s.list s.main at h.inside l g))

@@ -1,0 +1,5 @@
+pub mod Cuts
+pub mod Copies
+pub mod Rows
+pub mod Making
+pub mod Examples

@@ -1,0 +1,28 @@
+//! Worked examples of the rows.
+
+ghost use Rattle.list_keys.specs.Examples.{WholeLineExamples, TrimExamples, PartExamples, CopyExamples, MainExamples};
+
+/// Worked examples of selections cut to whole lines.
+pub fn whole_line_examples()
+    ensures { WholeLineExamples }
+{}
+
+/// Worked examples of trimmed selections.
+pub fn trim_examples()
+    ensures { TrimExamples }
+{}
+
+/// Worked examples of selections that are split, and of their ends.
+pub fn part_examples()
+    ensures { PartExamples }
+{}
+
+/// Worked examples of copies.
+pub fn copy_examples()
+    ensures { CopyExamples }
+{}
+
+/// Worked examples of the rows that go by the main selection, and of the whole text.
+pub fn main_examples()
+    ensures { MainExamples }
+{}

@@ -1,0 +1,56 @@
+-- The selections of a list that go somewhere, one after another, and the settled list of where they went.
+use Rattle.std.proofs.Common.{◌≡◌, ℕ, ◌+◌, ◌<◌, ◌≤◌, zero, suc, List, [], ◌∷◌, ◌++◌, length, map, get_or, drop, sym, ap, subst₂, ◌∙◌, arith, append_assoc, append-nil, add-one}
+use Rattle.std.specs.List.{AllByRecursion}
+use Rattle.std.proofs.Math.Seq.{drop-cons}
+use Rattle.std.proofs.Math.ListN.{drop_of_length-le}
+use Rattle.std.proofs.lemmas.List.{length-map, map-append}
+use Rattle.list_model.specs.Ranges.{Range}
+use Rattle.list_model.specs.Settling.{settled, each_settled}
+use Rattle.selection_set.specs.declared.sel.Sel.{Sel}
+use Rattle.selection_set.specs.Inside.{range_of, IsInside}
+use Rattle.selection_set.specs.Listing.{Listed, AreInside, ranges_of, IsSettledIn}
+use Rattle.selection_set.proofs.SettleLemmas.{ranges-inside}
+use Rattle.kak_world.specs.Lists.{selected, IsHeld}
+use Rattle.kak_world.proofs.ListLemmas.{selected-is}
+
+-- what all elements have, the one at a place has
+pub all-at : {X : Type 0} (P : X → Type 0) (xs : List X) (n : ℕ) (d : X) → n < length xs → AllByRecursion P xs → P (get_or xs n d)
+all-at P [] n d h a = absurd (omega arith)
+all-at P (x ∷ xs) zero d h a = a.0
+all-at P (x ∷ xs) (suc n) d h a = all-at P xs n d (omega arith) a.1
+
+pub inside-more : (text : List ℕ) (list : List Sel) (x : Sel) → AreInside text list → IsInside text x → AreInside text (list ++ x ∷ [])
+inside-more text [] x h i = (i, tt)
+inside-more text (s ∷ ss) x h i = (h.0, inside-more text ss x h.1 i)
+
+-- one more went
+pub moved-more : (text : List ℕ) (f : Range → Range) (list all : List Sel) (x d : Sel) (n : ℕ) (whole : List Range) → n < length all → range_of text x ≡ f (range_of text (get_or all n d))
+    → ranges_of text list ++ map f (ranges_of text (drop n all)) ≡ whole → ranges_of text (list ++ x ∷ []) ++ map f (ranges_of text (drop (n + 1) all)) ≡ whole
+moved-more text f list all x d n whole h e k =
+    ap (λ l. l ++ map f (ranges_of text (drop (n + 1) all))) (map-append (range_of text) list (x ∷ []))
+    ∙ append_assoc (ranges_of text list) (range_of text x ∷ []) (map f (ranges_of text (drop (n + 1) all)))
+    ∙ ap (λ (r : Range). ranges_of text list ++ (r ∷ map f (ranges_of text (drop (n + 1) all)))) e
+    ∙ ap (λ l. ranges_of text list ++ map f (ranges_of text l)) (sym (drop-cons all n d h ∙ ap (λ j. get_or all n d ∷ drop j all) (sym (add-one n))))
+    ∙ k
+
+-- all went
+pub moved-all : (text : List ℕ) (f : Range → Range) (list all : List Sel) (n : ℕ) (whole : List Range) → length all ≤ n → ranges_of text list ++ map f (ranges_of text (drop n all)) ≡ whole → ranges_of text list ≡ whole
+moved-all text f list all n whole h k = sym (append-nil (ranges_of text list)) ∙ ap (λ l. ranges_of text list ++ map f (ranges_of text l)) (sym (drop_of_length-le all h)) ∙ k
+
+-- as many as before
+pub moved-length : (text : List ℕ) (f : Range → Range) (list all : List Sel) → ranges_of text list ≡ map f (ranges_of text all) → length list ≡ length all
+moved-length text f list all e = sym (length-map list (range_of text)) ∙ ap length e ∙ length-map (ranges_of text all) f ∙ length-map all (range_of text)
+
+-- what settles them is the list with each of them moved
+pub moved-settled : (text : List ℕ) (f : Range → Range) (sels s : Listed) (list : List Sel) → IsHeld text sels → AreInside text list → ranges_of text list ≡ map f (ranges_of text sels.list)
+    → IsSettledIn text (ranges_of text list) sels.main s → selected text s ≡ each_settled f (selected text sels)
+moved-settled text f sels s list h i e k =
+    selected-is text (record { list = ranges_of text list; main = sels.main }) s (ranges-inside text list i) (omega (arith, h.settled.main_is, length-map sels.list (range_of text), length-map list (range_of text), moved-length text f list sels.list e)) k
+    ∙ ap (λ l. settled (record { list = l; main = sels.main })) e
+
+-- the same, where what was settled is known by its parts
+pub settles-moved : (text : List ℕ) (f : Range → Range) (sels s : Listed) (list slice : List Sel) (main : ℕ) → slice ≡ list → main ≡ sels.main → IsHeld text sels → AreInside text list → ranges_of text list ≡ map f (ranges_of text sels.list)
+    → ((t : List ℕ) → AreInside t slice → IsSettledIn t (ranges_of t slice) main s) → selected text s ≡ each_settled f (selected text sels)
+settles-moved text f sels s list slice main same is_main h i e settles =
+    let P : List Sel → ℕ → Type 0 = λ l n. (t : List ℕ) → AreInside t l → IsSettledIn t (ranges_of t l) n s in
+    moved-settled text f sels s list h i e (subst₂ P same is_main settles text i)

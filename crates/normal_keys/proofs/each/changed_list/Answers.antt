@@ -1,0 +1,27 @@
+use Rattle.window_view.specs.Views.{view_of as window_seen}
+use Rattle.std.proofs.Common.{◌+◌, ◌≤◌, ◌∷◌, [], ◌++◌, length, map, drop, sym, ap, subst, ◌∙◌, arith, false, None, length-append}
+use Rattle.selection_set.specs.declared.sel.Sel.{Sel}
+use Rattle.selection_set.specs.Inside.{range_of, IsInside}
+use Rattle.selection_set.specs.Listing.{AreInside, ranges_of}
+use Rattle.normal_keys.specs.Moving.{each_range}
+use Rattle.normal_keys.proofs.EachLemmas.{all-at, inside-more, moved-more}
+use Rattle.normal_keys.proofs.each.changed_list.Goals as goal
+
+abbrev zero_sel : Sel
+zero_sel = record { low = record { line = 0; column = 0 }; high = record { line = 0; column = 0 }; turned = false; target = None }
+
+pub changed-requires : goal.changed-requires
+changed-requires c =
+    subst (IsInside c.args.lines.now) (sym (c.at.ensures zero_sel))
+    (all-at (IsInside c.args.lines.now) c.args.sels.now.list c.loop-n.n zero_sel (omega (arith, c.loop-n-test.true, c.len-n-end.ensures.value)) c.requires)
+
+pub loop-n-preserved : goal.loop-n-preserved
+loop-n-preserved c = record {
+  changes =
+      ap (λ l. ranges_of c.args.lines.now l ++ map (each_range c.args.change (window_seen c.args.window) c.args.lines.now) (ranges_of c.args.lines.now (drop (c.loop-n.n + 1) c.args.sels.now.list))) c.push_reserved.ensures.items
+      ∙ moved-more c.args.lines.now (each_range c.args.change (window_seen c.args.window) c.args.lines.now) c.loop-n.list.items c.args.sels.now.list c.changed.result zero_sel c.loop-n.n _ (omega (arith, c.loop-n-test.true, c.len-n-end.ensures.value))
+      (c.changed.ensures.changes ∙ ap (λ s. each_range c.args.change (window_seen c.args.window) c.args.lines.now (range_of c.args.lines.now s)) (c.at.ensures zero_sel)) c.loop-n.invariant.changes;
+  inside = subst (AreInside c.args.lines.now) (sym c.push_reserved.ensures.items) (inside-more c.args.lines.now c.loop-n.list.items c.changed.result c.loop-n.invariant.inside c.changed.ensures.inside);
+  count = ap length c.push_reserved.ensures.items ∙ length-append c.loop-n.list.items (c.changed.result ∷ []) ∙ ap (λ k. k + 1) c.loop-n.invariant.count;
+  room = subst (λ k. length c.args.sels.now.list ≤ k) (sym c.push_reserved.ensures.capacity) c.loop-n.invariant.room;
+}

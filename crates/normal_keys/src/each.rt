@@ -1,0 +1,107 @@
+//! What is done to each selection of a client by itself.
+
+ghost use Rattle.std.specs.Prelude.{◌≡◌, ◌≤◌, true, length, map, IfOk, IsOk, OnOk};
+ghost use Rattle.list_model.specs.Settling.{each_settled};
+ghost use Rattle.selection_set.specs.Inside.{range_of, IsInside};
+ghost use Rattle.selection_set.specs.Listing.{AreInside, ranges_of};
+ghost use Rattle.window_view.specs.Views.{view_of as window_seen};
+ghost use Rattle.kak_world.specs.Flat.{is_joined, sels_of};
+ghost use Rattle.kak_world.specs.Lists.{selected, IsHeld};
+ghost use Rattle.normal_keys.specs.Moving.{each_range, each_changed};
+
+use crate::actions::{Motion, Shape};
+use crate::moving::moved;
+use crate::shapes::reshape;
+use kak_world::{Reach, World};
+use line_buffer::Lines;
+use selection_set::{Sel, Sels, SelsError};
+use smallvec::SmallVec;
+use std::alloc::{AllocError, Global};
+use window_view::Window;
+
+/// What is done to a selection by itself.
+#[derive(Clone, Copy, PartialEq, Eq, Debug)]
+pub(crate) enum Each {
+    /// It goes where a motion leads.
+    Moved(Motion, Reach),
+    /// It changes its shape.
+    Reshaped(Shape),
+}
+
+// What becomes of a selection.
+fn changed(lines: &Lines, window: Window, sel: Sel, change: Each) -> Sel
+    requires { IsInside lines.now sel }
+    ensures inside { IsInside lines.now result }
+    ensures changes { range_of lines.now result ≡ each_range change (window_seen window) lines.now (range_of lines.now sel) }
+{
+    match change {
+        Each::Moved(motion, reach) => moved(lines, window, sel, motion, reach),
+        Each::Reshaped(shape) => reshape(lines, sel, shape),
+    }
+}
+
+// What becomes of the selections of a list, each by itself. Takes no memory for at most four.
+fn changed_list(
+    alloc: Global,
+    lines: &Lines,
+    window: Window,
+    sels: &Sels,
+    change: Each,
+) -> Result<SmallVec<Sel, 4>, AllocError>
+    requires { AreInside lines.now sels.now.list }
+    ensures inside { IfOk result (λ list. AreInside lines.now list.items) }
+    ensures changes { IfOk result (λ list. ranges_of lines.now list.items ≡ map (each_range change (window_seen window) lines.now) (ranges_of lines.now sels.now.list)) }
+    ensures few { length sels.now.list ≤ 4 → IsOk result }
+{
+    let mut list = SmallVec::with_capacity(alloc, sels.len())?;
+    for n in 0..sels.len() {
+        list.push_reserved(changed(lines, window, sels.at(n), change));
+    }
+    Ok(list)
+}
+
+// The settled list of what selections become. The main one is the one that holds what the former main one became. Takes
+// no memory for at most four.
+fn changed_sels(
+    alloc: Global,
+    lines: &Lines,
+    window: Window,
+    sels: &Sels,
+    change: Each,
+) -> Result<Sels, AllocError>
+    requires { IsHeld lines.now sels.now }
+    ensures held { IfOk result (λ s. IsHeld lines.now s) }
+    ensures changes { IfOk result (λ s. selected lines.now s ≡ each_settled (each_range change (window_seen window) lines.now) (selected lines.now sels.now)) }
+    ensures few { length sels.now.list ≤ 4 → IsOk result }
+{
+    let list = changed_list(alloc, lines, window, sels, change)?;
+    match Sels::of_sels(alloc, list.as_slice(), sels.main()) {
+        Ok(moved) => Ok(moved),
+        Err(SelsError::NoMemory) => Err(AllocError),
+        Err(SelsError::TooMany) => unreachable!(),
+    }
+}
+
+/// Does something to each selection of a client by itself, and settles the list. Takes no memory for at most four
+/// selections.
+pub(crate) fn change_each(
+    alloc: Global,
+    world: &mut World,
+    who: u32,
+    change: Each,
+) -> Result<(), AllocError>
+    requires { is_joined who world.old.flat ≡ true }
+    ensures does { OnOk result (world.new.flat ≡ each_changed change who world.old.flat) }
+    ensures few { length (sels_of who world.old.flat).list ≤ 4 → IsOk result }
+    ensures stays { is_joined who world.new.flat ≡ true }
+{
+    let changed = changed_sels(
+        alloc,
+        world.lines(who),
+        world.window(who),
+        world.sels(who),
+        change,
+    )?;
+    world.set_sels(who, changed);
+    Ok(())
+}

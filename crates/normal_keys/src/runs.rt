@@ -1,0 +1,73 @@
+//! Keys that are run as often as a count says.
+
+ghost use Rattle.std.specs.Prelude.{◌≡◌, true, OnOk};
+ghost use Rattle.kak_world.specs.Flat.{is_joined};
+ghost use Rattle.kak_world.specs.Rows.{Gives};
+ghost use Rattle.normal_keys.specs.Moving.{runs};
+ghost use Rattle.normal_keys.specs.Listing.{main_moved};
+ghost use Rattle.normal_keys.specs.Repeating.{once};
+
+use crate::actions::Motion;
+use crate::each::{Each, change_each};
+use kak_world::{Ask, EditError, Reach, World};
+use list_keys::main_beside;
+use std::alloc::{AllocError, Global};
+
+/// What is run as often as a count says.
+#[derive(Clone, Copy, PartialEq, Eq, Debug)]
+pub(crate) enum Repeated {
+    /// A motion of each selection.
+    Moves(Motion, Reach),
+    /// The selection behind the main one becomes the main one, or the one before it, round the ends.
+    TurnsMain(bool),
+}
+
+// Another selection becomes the main one.
+fn turn_main(world: &mut World, who: u32, forward: bool)
+    requires { is_joined who world.old.flat ≡ true }
+    ensures turns { world.new.flat ≡ main_moved forward who world.old.flat }
+    ensures stays { is_joined who world.new.flat ≡ true }
+{
+    let main = main_beside(world.sels(who), forward);
+    world.set_main(who, main);
+}
+
+// Runs a key once.
+fn run_once(alloc: Global, world: &mut World, who: u32, what: Repeated) -> Result<(), AllocError>
+    requires { is_joined who world.old.flat ≡ true }
+    ensures does { OnOk result (world.new.flat ≡ once what who world.old.flat) }
+    ensures stays { is_joined who world.new.flat ≡ true }
+{
+    match what {
+        Repeated::Moves(motion, reach) => {
+            change_each(alloc, world, who, Each::Moved(motion, reach))
+        }
+        Repeated::TurnsMain(forward) => {
+            turn_main(world, who, forward);
+            Ok(())
+        }
+    }
+}
+
+/// Runs a key of a client as often as a count says, and once without one. Each further run takes a unit. `BudgetSpent`
+/// comes where none is left for the next one.
+pub(crate) fn run_often(
+    alloc: Global,
+    world: &mut World,
+    who: u32,
+    count: u32,
+    what: Repeated,
+) -> Result<Ask, EditError>
+    requires { is_joined who world.old.flat ≡ true }
+    ensures row { Gives result world.new.flat (runs count (once what who) world.old.flat) }
+    ensures stays { is_joined who world.new.flat ≡ true }
+{
+    run_once(alloc, world, who, what)?;
+    for _ in 1..count {
+        if !world.take_unit() {
+            return Err(EditError::BudgetSpent);
+        }
+        run_once(alloc, world, who, what)?;
+    }
+    Ok(Ask::Nothing)
+}
