@@ -10,9 +10,10 @@ use Rattle.list_model.specs.Ranges.{Range}
 use Rattle.selection_set.specs.declared.sel.Sel.{Sel}
 use Rattle.selection_set.specs.Inside.{range_of, IsInside}
 use Rattle.selection_set.specs.Listing.{ranges_of}
+use Rattle.motion_keys.specs.Landmarks.{line_begin}
 use Rattle.list_keys.specs.Cuts.{ends_line, ends_part, parts_between, parts_of}
 use Rattle.list_keys.proofs.EachLemmas.{ranges-more}
-use Rattle.list_keys.proofs.LineLemmas.{at_column, start, line_size, next_start, inner_ends_not, last_ends}
+use Rattle.list_keys.proofs.LineLemmas.{at_column, line_size, next_start, inner_ends_not, last_ends}
 
 range-more : (from limit : ℕ) → from < limit → range_with_len from (limit - from) ≡ from ∷ range_with_len (from + 1) (limit - (from + 1))
 range-more from limit l = let e : limit - from ≡ suc (limit - (from + 1)) = omega arith in ap (range_with_len from) e
@@ -55,10 +56,10 @@ or-true false b e = e
 
 -- a line of the selection that isn't its last
 pub line-part : (text : List ℕ) (turned : Bool) (from end high : Coord) → IsText text → IsPlace text from → IsPlace text high → from.line < high.line → end.line ≡ from.line → end.column + 1 ≡ line_size text end.line
-    → parts_from text turned (offset text high) (offset text from) ≡ part_range turned (offset text from) (offset text end) ∷ parts_from text turned (offset text high) (start text (from.line + 1))
+    → parts_from text turned (offset text high) (offset text from) ≡ part_range turned (offset text from) (offset text end) ∷ parts_from text turned (offset text high) (line_begin text (from.line + 1))
 line-part text turned from end high t p q l s e =
-    let last : offset text end + 1 ≡ start text (from.line + 1) = omega (arith, next_start text from.line p.on_line, ap (start text) s, ap (line_size text) s) in
-    let behind : start text (from.line + 1) ≤ offset text high = start-le-offset text (from.line + 1) high (omega arith) in
+    let last : offset text end + 1 ≡ line_begin text (from.line + 1) = omega (arith, next_start text from.line p.on_line, ap (line_begin text) s, ap (line_size text) s) in
+    let behind : line_begin text (from.line + 1) ≤ offset text high = start-le-offset text (from.line + 1) high (omega arith) in
     first-part text turned (offset text high) (offset text from) (offset text end) (omega (arith, last, next_start text from.line p.on_line, p.in_line)) (omega (arith, last, behind))
     (λ k f b. inner-part text (offset text high) k (inner_ends_not text from.line k t p.on_line (omega arith) (omega (arith, last))) (omega (arith, last, behind)))
     (ap (λ b. b || eqb (offset text end) (offset text high)) (last_ends text from.line (offset text end) t p.on_line last))
@@ -68,7 +69,7 @@ line-part text turned from end high t p q l s e =
 pub last-part : (text : List ℕ) (turned : Bool) (from high : Coord) → IsText text → IsPlace text from → IsPlace text high → from.line ≡ high.line → offset text from ≤ offset text high
     → parts_from text turned (offset text high) (offset text from) ≡ part_range turned (offset text from) (offset text high) ∷ []
 last-part text turned from high t p q l o =
-    let same : start text from.line ≡ start text high.line = ap (start text) l in
+    let same : line_begin text from.line ≡ line_begin text high.line = ap (line_begin text) l in
     first-part text turned (offset text high) (offset text from) (offset text high) o (omega arith)
     (λ k f b. inner-part text (offset text high) k (inner_ends_not text high.line k t q.on_line (omega (arith, same)) (omega (arith, next_start text high.line q.on_line, q.in_line))) b)
     (or-true (ends_line text (offset text high)) (eqb (offset text high) (offset text high)) (eq-eqb (offset text high) (offset text high) refl))

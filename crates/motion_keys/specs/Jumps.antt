@@ -1,12 +1,12 @@
 -- Motions that search the text: to a character, and to the bracket that belongs to another one.
 use Rattle.std.specs.Prelude.{◌≡◌, ℕ, ◌+◌, ◌-◌, ◌==◌, Bool, true, false, if◌then◌else◌, List, length, slice_index, slice_range, count_by, None, Some, is_some, option_map, option_and_then}
 use Rattle.std.specs.declared.option.Option.{Option}
-use Rattle.text_model.specs.Texts.{offset, coord_at}
 use Rattle.list_model.specs.Ranges.{Range, cursor}
 use Rattle.selection_set.specs.declared.sel.Pair.{Pair}
 use Rattle.selection_set.specs.Listing.{range_between, range_of_pair, IsPairInside}
 use Rattle.motion_keys.specs.declared.bracket_kinds.Bracket.{Bracket}
 use Rattle.motion_keys.specs.Extremes.{least_between, greatest_below}
+use Rattle.motion_keys.specs.Landmarks.{line_begin, line_of}
 
 -- whether a character stands at an offset
 abbrev pub holds : List ℕ → ℕ → ℕ → Bool
@@ -46,7 +46,7 @@ has_bracket text o = is_some (bracket_of (slice_index text o))
 
 -- the offset behind the line of an offset
 abbrev pub line_end : List ℕ → ℕ → ℕ
-line_end text o = offset text (record { line = (coord_at text o).line + 1; column = 0 })
+line_end text o = line_begin text (line_of text o + 1)
 
 -- the first bracket from an offset to the end of its line
 abbrev pub first_bracket : List ℕ → ℕ → Option ℕ

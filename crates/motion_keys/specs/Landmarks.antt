@@ -13,9 +13,13 @@ use Rattle.motion_keys.specs.declared.landmarks.LinePart.{LinePart}
 use Rattle.motion_keys.specs.declared.landmarks.LinePart.TheVariants.{ToStart, ToEnd}
 use Rattle.motion_keys.specs.Extremes.{least_between}
 
+-- the offset at which a line begins, by its number; behind the last line, the offset behind the text
+abbrev pub line_begin : List ℕ → ℕ → ℕ
+line_begin text n = offset text (record { line = n; column = 0 })
+
 -- the first offset of a line, by its number; for a number beyond the last line, the last line's
 abbrev pub line_start : List ℕ → ℕ → ℕ
-line_start text n = offset text (record { line = min n (line_count text - 1); column = 0 })
+line_start text n = line_begin text (min n (line_count text - 1))
 
 -- the number of the line that an offset is on
 abbrev pub line_of : List ℕ → ℕ → ℕ
@@ -31,7 +35,7 @@ is_no_blank text o = not (is_same (class_of (slice_index text o)) Blank)
 
 -- the least offset of a line whose character is no blank
 abbrev pub line_text : List ℕ → ℕ → Option ℕ
-line_text text n = least_between (is_no_blank text) (offset text (record { line = n; column = 0 })) (offset text (record { line = n + 1; column = 0 }))
+line_text text n = least_between (is_no_blank text) (line_begin text n) (line_begin text (n + 1))
 
 -- the offset of a place with a name, for a cursor and a window
 abbrev pub landmark : List ℕ → ℕ → View → Place → Option ℕ

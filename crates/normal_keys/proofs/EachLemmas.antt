@@ -1,27 +1,16 @@
 -- The selections of a list that go somewhere, one after another, and the settled list of where they went.
-use Rattle.std.proofs.Common.{◌≡◌, ℕ, ◌+◌, ◌<◌, ◌≤◌, zero, suc, List, [], ◌∷◌, ◌++◌, length, map, get_or, drop, sym, ap, subst₂, ◌∙◌, arith, append_assoc, append-nil, add-one}
-use Rattle.std.specs.List.{AllByRecursion}
+use Rattle.std.proofs.Common.{◌≡◌, ℕ, ◌+◌, ◌<◌, ◌≤◌, List, [], ◌∷◌, ◌++◌, length, map, get_or, drop, sym, ap, subst₂, ◌∙◌, arith, append_assoc, append-nil, add-one}
 use Rattle.std.proofs.Math.Seq.{drop-cons}
 use Rattle.std.proofs.Math.ListN.{drop_of_length-le}
 use Rattle.std.proofs.lemmas.List.{length-map, map-append}
 use Rattle.list_model.specs.Ranges.{Range}
 use Rattle.list_model.specs.Settling.{settled, each_settled}
 use Rattle.selection_set.specs.declared.sel.Sel.{Sel}
-use Rattle.selection_set.specs.Inside.{range_of, IsInside}
+use Rattle.selection_set.specs.Inside.{range_of}
 use Rattle.selection_set.specs.Listing.{Listed, AreInside, ranges_of, IsSettledIn}
 use Rattle.selection_set.proofs.SettleLemmas.{ranges-inside}
 use Rattle.kak_world.specs.Lists.{selected, IsHeld}
 use Rattle.kak_world.proofs.ListLemmas.{selected-is}
-
--- what all elements have, the one at a place has
-pub all-at : {X : Type 0} (P : X → Type 0) (xs : List X) (n : ℕ) (d : X) → n < length xs → AllByRecursion P xs → P (get_or xs n d)
-all-at P [] n d h a = absurd (omega arith)
-all-at P (x ∷ xs) zero d h a = a.0
-all-at P (x ∷ xs) (suc n) d h a = all-at P xs n d (omega arith) a.1
-
-pub inside-more : (text : List ℕ) (list : List Sel) (x : Sel) → AreInside text list → IsInside text x → AreInside text (list ++ x ∷ [])
-inside-more text [] x h i = (i, tt)
-inside-more text (s ∷ ss) x h i = (h.0, inside-more text ss x h.1 i)
 
 -- one more went
 pub moved-more : (text : List ℕ) (f : Range → Range) (list all : List Sel) (x d : Sel) (n : ℕ) (whole : List Range) → n < length all → range_of text x ≡ f (range_of text (get_or all n d))

@@ -1,19 +1,18 @@
 -- Selections that a motion leads to, by coordinates and by offsets.
-use Rattle.std.proofs.Common.{◌≡◌, ℕ, Bool, true, false, cond, List, [], ◌∷◌, get_or, Option, None, Some, refl, sym, ap, ap₂, subst, ◌∙◌}
+use Rattle.std.proofs.Common.{◌≡◌, ℕ, Bool, true, false, List, [], ◌∷◌, get_or, Option, Some, sym, ap, ap₂, subst, ◌∙◌}
 use Rattle.std.specs.Prelude.{if◌then◌else◌, option_map}
 use Rattle.text_model.specs.declared.coords.Coord.{Coord}
 use Rattle.text_model.specs.Texts.{offset, IsPlace}
-use Rattle.text_model.specs.Coords.{is_at_most}
 use Rattle.list_model.specs.Ranges.{Range, only, anchor, cursor}
 use Rattle.selection_set.specs.declared.sel.Sel.{Sel}
 use Rattle.selection_set.specs.declared.sel.Pair.{Pair}
 use Rattle.selection_set.specs.Inside.{range_of, IsInside, cursor_at, anchor_at}
-use Rattle.selection_set.specs.Listing.{AreInside, ranges_of, range_between, range_of_pair, IsPairInside, sel_of_pair}
+use Rattle.selection_set.specs.Listing.{range_between, range_of_pair, IsPairInside, sel_of_pair}
 use Rattle.selection_set.proofs.PairLemmas.{pairs-inside, pairs-ranges}
 use Rattle.selection_set.proofs.CursorLemmas.{cursor-range_of, cursor-place}
 use Rattle.motion_keys.specs.Words.{Ends, EndsAre}
 use Rattle.motion_keys.specs.Jumps.{RangesAre}
-use Rattle.normal_keys.specs.Moving.{between_ends, reached}
+use Rattle.normal_keys.specs.Moving.{between_ends}
 use Rattle.normal_keys.specs.Led.{IsLed}
 
 pub pair-inside : (text : List ℕ) (pair : Pair) → IsPairInside text pair → IsInside text (sel_of_pair pair)
@@ -31,16 +30,16 @@ ends-led text pair found h =
     let inside : IsPairInside text pair = record { anchor = h.0; cursor = h.1 } in
     (pair-inside text pair inside, ap (option_map between_ends) h.2 ∙ ap Some (sym (pair-range text pair inside)))
 
-offset_of_anchor : (text : List ℕ) (t : Bool) (a b : Coord) → (if t then offset text a else offset text b) ≡ offset text (if t then a else b)
-offset_of_anchor text true a b = refl
-offset_of_anchor text false a b = refl
+-- with the ends changed over, the anchor is the cursor
+abbrev swapped : Sel → Sel
+swapped sel = record sel { low = sel.high; high = sel.low }
 
 place_of_anchor : (text : List ℕ) (t : Bool) (a b : Coord) → IsPlace text a → IsPlace text b → IsPlace text (if t then a else b)
 place_of_anchor text true a b p q = p
 place_of_anchor text false a b p q = q
 
 pub anchor-range_of : (text : List ℕ) (sel : Sel) → anchor (range_of text sel) ≡ offset text (anchor_at sel)
-anchor-range_of text sel = offset_of_anchor text sel.turned sel.high sel.low
+anchor-range_of text sel = cursor-range_of text (swapped sel)
 
 pub anchor-place : (text : List ℕ) (sel : Sel) → IsInside text sel → IsPlace text (anchor_at sel)
 anchor-place text sel h = place_of_anchor text sel.turned sel.high sel.low h.high h.low

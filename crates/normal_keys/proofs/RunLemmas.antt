@@ -1,5 +1,5 @@
 -- Runs of a key, one after another.
-use Rattle.std.proofs.Common.{◌≡◌, ℕ, zero, suc, ◌+◌, ◌-◌, ◌<◌, sym, ap, ◌∙◌, arith}
+use Rattle.std.proofs.Common.{◌≡◌, ℕ, suc, ◌+◌, ◌-◌, ◌<◌, sym, ap, ◌∙◌, arith}
 use Rattle.kak_world.specs.Flat.{Flat, with_units}
 use Rattle.kak_world.specs.Rows.{RowEnd, GivesUp}
 use Rattle.normal_keys.specs.Moving.{after_unit, further_runs}

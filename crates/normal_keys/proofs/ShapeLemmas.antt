@@ -7,7 +7,8 @@ use Rattle.list_model.specs.Ranges.{Range}
 use Rattle.selection_set.specs.declared.sel.Sel.{Sel}
 use Rattle.selection_set.specs.Inside.{range_of, IsInside}
 use Rattle.normal_keys.specs.declared.actions.Shape.TheVariants.{Lines}
-use Rattle.normal_keys.specs.Moving.{line_begin, reshaped}
+use Rattle.motion_keys.specs.Landmarks.{line_begin}
+use Rattle.normal_keys.specs.Moving.{reshaped}
 
 -- from the first character of its first line to the newline of its last one
 pub whole_lines-range : (text : List ℕ) (sel : Sel) (line : List ℕ) → IsInside text sel → line ≡ nth_line text sel.high.line

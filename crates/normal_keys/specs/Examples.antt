@@ -2,13 +2,13 @@
 use Rattle.std.specs.Prelude.{◌≡◌, ℕ, true, false, None, Some, List, [], ◌∷◌, map, codes}
 use Rattle.key_names.specs.declared.key.Key.{Key}
 use Rattle.key_names.specs.declared.key.Base.{Base}
-use Rattle.key_names.specs.declared.key.Base.TheVariants.{Char, Ret, Esc, Left, Right, Down, Home, PageDown}
+use Rattle.key_names.specs.declared.key.Base.TheVariants.{Char, Ret, Esc, Right, Home, PageDown}
 use Rattle.list_model.specs.Ranges.{Range, Selected, only}
-use Rattle.kak_world.specs.declared.ask.EditError.TheVariants.{NothingSelected, TooManySelections}
+use Rattle.kak_world.specs.declared.ask.EditError.TheVariants.{NothingSelected}
 use Rattle.kak_world.specs.declared.state.Mode.{Mode}
 use Rattle.kak_world.specs.declared.state.Mode.TheVariants.{Insert, Prompt}
 use Rattle.kak_world.specs.Flat.{Flat, newcomer, sels_of, mode_of, count_of}
-use Rattle.kak_world.specs.Rows.{Row, Asks, Fails, GivesUp, error_text}
+use Rattle.kak_world.specs.Rows.{Fails, GivesUp, error_text}
 use Rattle.normal_keys.specs.Rows.{row_normal}
 
 -- keys: a character or a key with a name, plain, with alt, with control, with shift

@@ -1,7 +1,6 @@
 -- Where each selection goes, and how often.
 use Rattle.std.specs.Prelude.{ℕ, zero, suc, ◌+◌, ◌-◌, not, nat_lt, true, false, List, pos, negsuc, neg_ℤ, unwrap_or, option_map, Some, None}
 use Rattle.std.specs.declared.option.Option.{Option}
-use Rattle.text_model.specs.Texts.{offset}
 use Rattle.list_model.specs.Ranges.{Range, only, cursor, anchor}
 use Rattle.list_model.specs.Settling.{each_settled}
 use Rattle.selection_set.specs.Listing.{range_between}
@@ -10,7 +9,7 @@ use Rattle.motion_keys.specs.declared.landmarks.View.{View as WindowLines}
 use Rattle.motion_keys.specs.Motions.{stepped, vertical}
 use Rattle.motion_keys.specs.Words.{Ends, word_ends}
 use Rattle.motion_keys.specs.Jumps.{to_char, bracket}
-use Rattle.motion_keys.specs.Landmarks.{landmark, line_of, line_part}
+use Rattle.motion_keys.specs.Landmarks.{line_begin, landmark, line_of, line_part}
 use Rattle.kak_world.specs.declared.state.TheConstants.{TABSTOP}
 use Rattle.kak_world.specs.declared.state.Reach.{Reach}
 use Rattle.kak_world.specs.declared.state.Reach.TheVariants.{Select, Extend}
@@ -55,10 +54,6 @@ reached Extend r led = record (range_between (anchor r) (cursor led)) { target =
 -- where a selection goes; where its motion finds no place, it stays
 abbrev pub moved_range : Motion → Reach → View → List ℕ → Range → Range
 moved_range motion reach view text r = unwrap_or (option_map (reached reach r) (led motion view text r)) r
-
--- the offset at which a line begins, by its number
-abbrev pub line_begin : List ℕ → ℕ → ℕ
-line_begin text n = offset text (record { line = n; column = 0 })
 
 -- a selection in another shape: all of its lines; its cursor's character; with its ends changed over; with its cursor at
 -- its last character; or with its cursor at its first one, where one of one character is straight

@@ -6,16 +6,17 @@ use Rattle.line_buffer.proofs.FlatLemmas.{start-le-offset}
 use Rattle.list_model.specs.Ranges.{Range}
 use Rattle.selection_set.specs.Inside.{range_of, IsInside}
 use Rattle.selection_set.specs.Listing.{AreInside, ranges_of}
+use Rattle.motion_keys.specs.Landmarks.{line_begin}
 use Rattle.list_keys.specs.Cuts.{parts_of}
 use Rattle.list_keys.proofs.CopyLemmas.{spans}
 use Rattle.list_keys.proofs.EachLemmas.{inside-more}
-use Rattle.list_keys.proofs.LineLemmas.{start, line_size}
+use Rattle.list_keys.proofs.LineLemmas.{line_size}
 use Rattle.list_keys.proofs.PartLemmas.{parts_from, line-part, last-part, part-pushed, part-room}
 use Rattle.list_keys.proofs.parts.push_line_parts.Goals as goal
 
 -- the end of a line is behind each place of it
 last_behind : (text : List ℕ) (at end : Coord) → IsPlace text at → end.line ≡ at.line → end.column + 1 ≡ line_size text at.line → offset text at ≤ offset text end
-last_behind text at end p l e = omega (arith, p.in_line, ap (start text) l)
+last_behind text at end p l e = omega (arith, p.in_line, ap (line_begin text) l)
 
 pub loop-from-init : goal.loop-from-init
 loop-from-init c = record {
@@ -44,7 +45,7 @@ loop-from-preserved c =
       ordered = start-le-offset c.args.lines.now (c.loop-from.from.line + 1) c.args.sel.high (omega (arith, c.loop-from-test.true));
       upto = omega (arith, c.loop-from-test.true);
       parts =
-          ap (λ l. ranges_of c.args.lines.now l ++ parts_from c.args.lines.now c.args.sel.turned (offset c.args.lines.now c.args.sel.high) (start c.args.lines.now (c.loop-from.from.line + 1))) c.push_reserved.ensures.items
+          ap (λ l. ranges_of c.args.lines.now l ++ parts_from c.args.lines.now c.args.sel.turned (offset c.args.lines.now c.args.sel.high) (line_begin c.args.lines.now (c.loop-from.from.line + 1))) c.push_reserved.ensures.items
           ∙ part-pushed c.args.lines.now c.loop-from.list.items c.part.result _ _ _ (ap (range_of c.args.lines.now) c.part.ensures) (ap (λ (l : List Range). ranges_of c.args.lines.now c.loop-from.list.items ++ l) (sym next) ∙ c.loop-from.invariant.parts);
       inside =
           subst (AreInside c.args.lines.now) (sym c.push_reserved.ensures.items)

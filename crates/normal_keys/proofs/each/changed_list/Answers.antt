@@ -4,7 +4,8 @@ use Rattle.selection_set.specs.declared.sel.Sel.{Sel}
 use Rattle.selection_set.specs.Inside.{range_of, IsInside}
 use Rattle.selection_set.specs.Listing.{AreInside, ranges_of}
 use Rattle.normal_keys.specs.Moving.{each_range}
-use Rattle.normal_keys.proofs.EachLemmas.{all-at, inside-more, moved-more}
+use Rattle.list_keys.proofs.EachLemmas.{all-at, inside-more}
+use Rattle.normal_keys.proofs.EachLemmas.{moved-more}
 use Rattle.normal_keys.proofs.each.changed_list.Goals as goal
 
 abbrev zero_sel : Sel
