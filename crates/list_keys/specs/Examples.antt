@@ -1,6 +1,7 @@
 -- Worked examples of the rows, which hold by computation.
 use Rattle.std.specs.Prelude.{◌≡◌, ℕ, true, false, None, Some, [], ◌∷◌, List, codes}
 use Rattle.list_model.specs.Ranges.{Range, Selected, only}
+use Rattle.list_keys.specs.declared.direction.Direction.TheVariants.{Forward, Backward}
 use Rattle.list_keys.specs.Cuts.{whole_lines_in, trimmed_range, parts_of, ends_of}
 use Rattle.list_keys.specs.Copies.{copy_of}
 use Rattle.list_keys.specs.Rows.{left_of_each, parts_of_each, copied_each, main_alone, without_main, main_turned, whole_text}
@@ -51,19 +52,19 @@ pub record PartExamples : Type 0 where
 
 -- `C` and `<a-C>`
 pub record CopyExamples : Type 0 where
-  pub on_the_next_line : copy_of true (codes "abc\nabc\n") (aimed 0 1) ≡ Some (turned 4 5)
-  pub onto_a_newline : copy_of true (codes "ab\nc\n") (only 1) ≡ Some (only 4)
-  pub over_a_short_line : copy_of true (codes "abc\n\nabc\n") (straight 1 2) ≡ Some (straight 6 7)
-  pub no_place_below : copy_of true (codes "abc\na\n") (only 2) ≡ None
-  pub behind_its_own_lines : copy_of true (codes "ab\nab\nab\nab\n") (straight 1 3) ≡ Some (straight 7 9)
-  pub no_place_behind_its_own_lines : copy_of true (codes "ab\nab\nab\n") (straight 1 3) ≡ None
-  pub on_the_line_before : copy_of false (codes "abc\nabc\n") (straight 5 6) ≡ Some (straight 1 2)
-  pub above_a_short_line : copy_of false (codes "abc\n\nabc\n") (only 6) ≡ Some (only 1)
-  pub no_place_above : copy_of false (codes "a\nabc\n") (only 4) ≡ None
-  pub copies_are_settled : copied_each (copy_of true (codes "abc\nabc\nabc\n")) (listed (turned 0 1 ∷ straight 4 6 ∷ []) 0) ≡ listed (turned 0 1 ∷ straight 4 6 ∷ straight 8 10 ∷ []) 1
-  pub copy_is_main : copied_each (copy_of true (codes "ab\nc\n")) (listed (only 1 ∷ []) 0) ≡ listed (only 1 ∷ only 4 ∷ []) 1
-  pub main_without_a_copy_stays_main : copied_each (copy_of true (codes "ab\nc\n")) (listed (only 1 ∷ aimed 2 2 ∷ []) 1) ≡ listed (only 1 ∷ aimed 2 2 ∷ only 4 ∷ []) 1
-  pub copies_above : copied_each (copy_of false (codes "ab\ncd\n")) (listed (aimed 3 4 ∷ []) 0) ≡ listed (turned 0 1 ∷ aimed 3 4 ∷ []) 0
+  pub on_the_next_line : copy_of Forward (codes "abc\nabc\n") (aimed 0 1) ≡ Some (turned 4 5)
+  pub onto_a_newline : copy_of Forward (codes "ab\nc\n") (only 1) ≡ Some (only 4)
+  pub over_a_short_line : copy_of Forward (codes "abc\n\nabc\n") (straight 1 2) ≡ Some (straight 6 7)
+  pub no_place_below : copy_of Forward (codes "abc\na\n") (only 2) ≡ None
+  pub behind_its_own_lines : copy_of Forward (codes "ab\nab\nab\nab\n") (straight 1 3) ≡ Some (straight 7 9)
+  pub no_place_behind_its_own_lines : copy_of Forward (codes "ab\nab\nab\n") (straight 1 3) ≡ None
+  pub on_the_line_before : copy_of Backward (codes "abc\nabc\n") (straight 5 6) ≡ Some (straight 1 2)
+  pub above_a_short_line : copy_of Backward (codes "abc\n\nabc\n") (only 6) ≡ Some (only 1)
+  pub no_place_above : copy_of Backward (codes "a\nabc\n") (only 4) ≡ None
+  pub copies_are_settled : copied_each (copy_of Forward (codes "abc\nabc\nabc\n")) (listed (turned 0 1 ∷ straight 4 6 ∷ []) 0) ≡ listed (turned 0 1 ∷ straight 4 6 ∷ straight 8 10 ∷ []) 1
+  pub copy_is_main : copied_each (copy_of Forward (codes "ab\nc\n")) (listed (only 1 ∷ []) 0) ≡ listed (only 1 ∷ only 4 ∷ []) 1
+  pub main_without_a_copy_stays_main : copied_each (copy_of Forward (codes "ab\nc\n")) (listed (only 1 ∷ aimed 2 2 ∷ []) 1) ≡ listed (only 1 ∷ aimed 2 2 ∷ only 4 ∷ []) 1
+  pub copies_above : copied_each (copy_of Backward (codes "ab\ncd\n")) (listed (aimed 3 4 ∷ []) 0) ≡ listed (turned 0 1 ∷ aimed 3 4 ∷ []) 0
 
 -- `,` and `<a-,>`, `(` and `)`, `%`
 pub record MainExamples : Type 0 where
@@ -71,8 +72,8 @@ pub record MainExamples : Type 0 where
   pub one_before_is_main : without_main (listed (only 0 ∷ aimed 2 3 ∷ only 5 ∷ []) 2) ≡ Some (listed (only 0 ∷ aimed 2 3 ∷ []) 1)
   pub last_is_main : without_main (listed (only 0 ∷ aimed 2 3 ∷ only 5 ∷ []) 0) ≡ Some (listed (aimed 2 3 ∷ only 5 ∷ []) 1)
   pub only_one_stays : without_main (listed (only 0 ∷ []) 0) ≡ None
-  pub on : main_turned true (listed (only 0 ∷ only 2 ∷ []) 0) ≡ listed (only 0 ∷ only 2 ∷ []) 1
-  pub on_round_the_end : main_turned true (listed (only 0 ∷ only 2 ∷ []) 1) ≡ listed (only 0 ∷ only 2 ∷ []) 0
-  pub back : main_turned false (listed (only 0 ∷ only 2 ∷ []) 1) ≡ listed (only 0 ∷ only 2 ∷ []) 0
-  pub back_round_the_end : main_turned false (listed (only 0 ∷ only 2 ∷ only 4 ∷ []) 0) ≡ listed (only 0 ∷ only 2 ∷ only 4 ∷ []) 2
+  pub on : main_turned Forward (listed (only 0 ∷ only 2 ∷ []) 0) ≡ listed (only 0 ∷ only 2 ∷ []) 1
+  pub on_round_the_end : main_turned Forward (listed (only 0 ∷ only 2 ∷ []) 1) ≡ listed (only 0 ∷ only 2 ∷ []) 0
+  pub back : main_turned Backward (listed (only 0 ∷ only 2 ∷ []) 1) ≡ listed (only 0 ∷ only 2 ∷ []) 0
+  pub back_round_the_end : main_turned Backward (listed (only 0 ∷ only 2 ∷ only 4 ∷ []) 0) ≡ listed (only 0 ∷ only 2 ∷ only 4 ∷ []) 2
   pub all : whole_text (codes "ab\nc\n") ≡ listed (straight 0 4 ∷ []) 0

@@ -13,7 +13,7 @@ use Rattle.list_keys.specs.Copies.{copy_of}
 abbrev pub made_by : Making → List ℕ → Range → Option Range
 made_by WholeLines text r = whole_lines_in text r
 made_by Trimmed text r = trimmed_range text r
-made_by (Copied below) text r = copy_of below text r
+made_by (Copied direction) text r = copy_of direction text r
 
 -- the parts that one selection is cut into
 abbrev pub parts_by : Division → List ℕ → Range → List Range

@@ -1,9 +1,11 @@
 -- The rows of the keys that change a list of selections as a whole.
-use Rattle.std.specs.Prelude.{ℕ, ◌+◌, ◌-◌, Bool, true, false, ◌==◌, if◌then◌else◌, List, [], ◌∷◌, ◌++◌, length, take, drop, filter_map, flat_map, is_some, slice_index_or, None, Some}
+use Rattle.std.specs.Prelude.{ℕ, ◌+◌, ◌-◌, false, ◌==◌, if◌then◌else◌, List, [], ◌∷◌, ◌++◌, length, take, drop, filter_map, flat_map, is_some, slice_index_or, None, Some}
 use Rattle.std.specs.declared.option.Option.{Option}
 use Rattle.text_model.specs.Texts.{last_place}
 use Rattle.list_model.specs.Ranges.{Range, Selected, only}
 use Rattle.list_model.specs.Settling.{settled}
+use Rattle.list_keys.specs.declared.direction.Direction.{Direction}
+use Rattle.list_keys.specs.declared.direction.Direction.TheVariants.{Forward, Backward}
 
 -- the main selection
 abbrev pub main_of : Selected → Range
@@ -48,13 +50,13 @@ abbrev pub without_main : Selected → Option Selected
 without_main s = settled_some (take s.main s.list ++ drop (s.main + 1) s.list) (if s.main == 0 then length s.list - 2 else s.main - 1)
 
 -- the place behind a place among so many, or before it, round the ends
-abbrev pub place_beside : Bool → ℕ → ℕ → ℕ
-place_beside true count n = if n + 1 == count then 0 else n + 1
-place_beside false count n = if n == 0 then count - 1 else n - 1
+abbrev pub place_beside : Direction → ℕ → ℕ → ℕ
+place_beside Forward count n = if n + 1 == count then 0 else n + 1
+place_beside Backward count n = if n == 0 then count - 1 else n - 1
 
 -- the selection behind the main one, or before it, becomes the main one
-abbrev pub main_turned : Bool → Selected → Selected
-main_turned forward s = record { list = s.list; main = place_beside forward (length s.list) s.main }
+abbrev pub main_turned : Direction → Selected → Selected
+main_turned direction s = record { list = s.list; main = place_beside direction (length s.list) s.main }
 
 -- one straight selection of the whole text
 abbrev pub whole_text : List ℕ → Selected

@@ -1,25 +1,31 @@
 //! The copy of one selection on lines lower or higher.
 
-ghost use Rattle.std.specs.Prelude.{◌≡◌, ◌+◌, ◌-◌, ◌<◌, ◌≤◌, ◌^◌, true, false, if◌then◌else◌, nat_lt, length, IfSome, option_map};
+ghost use Rattle.std.specs.Prelude.{◌≡◌, ◌+◌, ◌-◌, ◌<◌, ◌≤◌, ◌^◌, nat_lt, length, IfSome, option_map};
 ghost use Rattle.text_model.specs.declared.TheConstants.{MAX_CHARS};
 ghost use Rattle.text_model.specs.Texts.{nth_line, line_count};
 ghost use Rattle.selection_set.specs.Inside.{range_of, IsInside};
 ghost use Rattle.list_keys.specs.Copies.{away, copy_of};
 
+use crate::direction::Direction;
 use kak_text::Coord;
 use line_buffer::Lines;
 use selection_set::Sel;
 
 // The coordinate so many lines lower, or higher, in the same column.
-fn away(at: Coord, by: u32, below: bool) -> Coord
-    requires fits { below ≡ true → at.line + by < 2 ^ 32 }
-    requires reaches { below ≡ false → by ≤ at.line }
-    ensures { result ≡ away below by at }
+fn away(at: Coord, by: u32, direction: Direction) -> Coord
+    requires fits { direction ≡ Direction.Forward → at.line + by < 2 ^ 32 }
+    requires reaches { direction ≡ Direction.Backward → by ≤ at.line }
+    ensures { result ≡ away direction by at }
 {
-    let line = if below { at.line + by } else { at.line - by };
-    Coord {
-        line,
-        column: at.column,
+    match direction {
+        Direction::Forward => Coord {
+            line: at.line + by,
+            column: at.column,
+        },
+        Direction::Backward => Coord {
+            line: at.line - by,
+            column: at.column,
+        },
     }
 }
 
@@ -32,29 +38,30 @@ fn has_place(lines: &Lines, at: Coord) -> bool
 }
 
 // How many lines there are from a selection's last line on, or up to its first.
-fn lines_beside(lines: &Lines, sel: Sel, below: bool) -> u32
+fn lines_beside(lines: &Lines, sel: Sel, direction: Direction) -> u32
     requires { IsInside lines.now sel }
-    ensures value { result ≡ (if below then line_count lines.now - sel.high.line else sel.low.line + 1) }
+    ensures ahead { direction ≡ Direction.Forward → result ≡ line_count lines.now - sel.high.line }
+    ensures behind { direction ≡ Direction.Backward → result ≡ sel.low.line + 1 }
     ensures few { line_count lines.now ≤ MAX_CHARS }
 {
     let count = lines.line_count() as u32;
-    if below {
-        return count - sel.high.line;
+    match direction {
+        Direction::Forward => count - sel.high.line,
+        Direction::Backward => sel.low.line + 1,
     }
-    sel.low.line + 1
 }
 
 /// The copy of a selection the least number of lines lower, or higher, at which it has both its places; none where it
 /// has them nowhere. It costs the lines that it passes over.
-pub(crate) fn copy(lines: &Lines, sel: Sel, below: bool) -> Option<Sel>
+pub(crate) fn copy(lines: &Lines, sel: Sel, direction: Direction) -> Option<Sel>
     requires { IsInside lines.now sel }
     ensures inside { IfSome result (λ s. IsInside lines.now s) }
-    ensures copies { option_map (range_of lines.now) result ≡ copy_of below lines.now (range_of lines.now sel) }
+    ensures copies { option_map (range_of lines.now) result ≡ copy_of direction lines.now (range_of lines.now sel) }
 {
-    let limit = lines_beside(lines, sel, below);
+    let limit = lines_beside(lines, sel, direction);
     for by in sel.high.line - sel.low.line + 1..limit {
-        let low = away(sel.low, by, below);
-        let high = away(sel.high, by, below);
+        let low = away(sel.low, by, direction);
+        let high = away(sel.high, by, direction);
         if has_place(lines, low) && has_place(lines, high) {
             return Some(Sel {
                 low,

@@ -9,6 +9,7 @@ ghost use Rattle.list_keys.specs.Copies.{copy_of};
 ghost use Rattle.list_keys.specs.Rows.{left_of_each, main_left, with_copies, main_copied, copied_each};
 ghost use Rattle.list_keys.specs.Making.{made_by};
 
+use crate::direction::Direction;
 use crate::making::{Making, gives, made_count, push_between, push_made};
 use line_buffer::Lines;
 use selection_set::{Sel, Sels, SelsError};
@@ -127,14 +128,19 @@ fn copies_list(
 /// that have these columns; one without such lines has no copy. The copy of the main one, if it has one, is the main
 /// one. `TooMany` comes exactly where these are more than `MAX_SELECTIONS` before they are settled. At most four take no
 /// memory, and the answer is Ok.
-pub fn copied(alloc: Global, lines: &Lines, sels: &Sels, below: bool) -> Result<Sels, SelsError>
+pub fn copied(
+    alloc: Global,
+    lines: &Lines,
+    sels: &Sels,
+    direction: Direction,
+) -> Result<Sels, SelsError>
     requires { IsHeld lines.now sels.now }
     ensures held { IfOk result (λ s. IsHeld lines.now s) }
-    ensures copies { IfOk result (λ s. selected lines.now s ≡ copied_each (copy_of below lines.now) (selected lines.now sels.now)) }
-    ensures too_many { IsErrOf result SelsError.TooMany ↔ (MAX_SELECTIONS < length (with_copies (copy_of below lines.now) (selected lines.now sels.now))) }
-    ensures few { length (with_copies (copy_of below lines.now) (selected lines.now sels.now)) ≤ 4 → IsOk result }
+    ensures copies { IfOk result (λ s. selected lines.now s ≡ copied_each (copy_of direction lines.now) (selected lines.now sels.now)) }
+    ensures too_many { IsErrOf result SelsError.TooMany ↔ (MAX_SELECTIONS < length (with_copies (copy_of direction lines.now) (selected lines.now sels.now))) }
+    ensures few { length (with_copies (copy_of direction lines.now) (selected lines.now sels.now)) ≤ 4 → IsOk result }
 {
-    let how = Making::Copied(below);
+    let how = Making::Copied(direction);
     let count = sels.len() + made_count(lines, sels, how, sels.len());
     if count > MAX_SELECTIONS {
         return Err(SelsError::TooMany);

@@ -4,6 +4,7 @@ ghost use Rattle.std.specs.Prelude.{◌≡◌, ℕ, ◌+◌, ◌-◌, ◌==◌, 
 ghost use Rattle.kak_world.specs.Lists.{selected, IsHeld};
 ghost use Rattle.list_keys.specs.Rows.{main_alone, without_main, place_beside, whole_text};
 
+use crate::direction::Direction;
 use crate::making::push_between;
 use line_buffer::Lines;
 use selection_set::{Sel, Sels, SelsError};
@@ -65,23 +66,23 @@ pub fn without_main(alloc: Global, sels: &Sels) -> Result<Option<Sels>, AllocErr
 }
 
 // The place behind a place among so many, or before it, round the ends.
-fn place_beside(count: usize, place: usize, forward: bool) -> usize
+fn place_beside(count: usize, place: usize, direction: Direction) -> usize
     requires { place < count }
-    ensures value { result ≡ place_beside forward count place }
+    ensures value { result ≡ place_beside direction count place }
     ensures below { result < count }
 {
-    if forward {
-        return if place + 1 == count { 0 } else { place + 1 };
+    match direction {
+        Direction::Forward => if place + 1 == count { 0 } else { place + 1 },
+        Direction::Backward => if place == 0 { count - 1 } else { place - 1 },
     }
-    if place == 0 { count - 1 } else { place - 1 }
 }
 
 /// The place of the selection behind the main one, or before it, round the ends.
-pub fn main_beside(sels: &Sels, forward: bool) -> usize
-    ensures value { result ≡ place_beside forward (length sels.now.list) sels.now.main }
+pub fn main_beside(sels: &Sels, direction: Direction) -> usize
+    ensures value { result ≡ place_beside direction (length sels.now.list) sels.now.main }
     ensures below { result < length sels.now.list }
 {
-    place_beside(sels.len(), sels.main(), forward)
+    place_beside(sels.len(), sels.main(), direction)
 }
 
 /// One straight selection of the whole text. Takes no memory.

@@ -7,6 +7,7 @@ ghost use Rattle.list_keys.specs.Making.{made_by};
 
 use crate::copies::copy;
 use crate::cuts::{lines_inside, trimmed_sel};
+use crate::direction::Direction;
 use line_buffer::Lines;
 use selection_set::{Sel, Sels};
 use smallvec::SmallVec;
@@ -19,7 +20,7 @@ pub(crate) enum Making {
     /// What is left without blanks and newlines at its ends.
     Trimmed,
     /// Its copy on lines below, or above.
-    Copied(bool),
+    Copied(Direction),
 }
 
 /// What is made of one selection, if anything.
@@ -31,7 +32,7 @@ pub(crate) fn made(lines: &Lines, sel: Sel, how: Making) -> Option<Sel>
     match how {
         Making::WholeLines => lines_inside(lines, sel),
         Making::Trimmed => trimmed_sel(lines, sel),
-        Making::Copied(below) => copy(lines, sel, below),
+        Making::Copied(direction) => copy(lines, sel, direction),
     }
 }
 

@@ -168,7 +168,7 @@ fn copies_lie_below(rt: HostRuntime) -> Result<(), Fail> {
     let text = lines(rt.alloc(), "abc\nabc\nabc\n")?;
     let pairs = [pair(&rt, &text, 1, 0), pair(&rt, &text, 4, 6)];
     let sels = listed(&rt, rt.alloc(), &text, pairs.as_slice(), 0)?;
-    let below = copied(rt.alloc(), &text, &sels, true)?;
+    let below = copied(rt.alloc(), &text, &sels, Direction::Forward)?;
     let expected = [
         sel((0, 0), (0, 1), true),
         sel((1, 0), (1, 2), false),
@@ -183,7 +183,7 @@ fn copies_lie_above(rt: HostRuntime) -> Result<(), Fail> {
     let text = lines(rt.alloc(), "abc\n\nab\nabc\n")?;
     let pairs = [pair(&rt, &text, 3, 2), pair(&rt, &text, 11, 11)];
     let sels = listed(&rt, rt.alloc(), &text, pairs.as_slice(), 1)?;
-    let above = copied(rt.alloc(), &text, &sels, false)?;
+    let above = copied(rt.alloc(), &text, &sels, Direction::Backward)?;
     let expected = [sel((0, 2), (0, 3), true), sel((3, 3), (3, 3), false)];
     assert_list(&rt, &above, expected.as_slice(), 0);
     Ok(())
@@ -194,7 +194,7 @@ fn copies_pass_over_short_lines(rt: HostRuntime) -> Result<(), Fail> {
     let text = lines(rt.alloc(), "abc\nabc\n\nab\nabc\nabc\n")?;
     let pairs = [pair(&rt, &text, 6, 2)];
     let sels = listed(&rt, rt.alloc(), &text, pairs.as_slice(), 0)?;
-    let below = copied(rt.alloc(), &text, &sels, true)?;
+    let below = copied(rt.alloc(), &text, &sels, Direction::Forward)?;
     let expected = [sel((0, 2), (1, 2), true), sel((3, 2), (4, 2), true)];
     assert_list(&rt, &below, expected.as_slice(), 1);
     Ok(())
@@ -231,11 +231,11 @@ fn main_one_goes_round_the_ends(rt: HostRuntime) -> Result<(), Fail> {
     let text = lines(rt.alloc(), "abc\n")?;
     let pairs = [pair(&rt, &text, 0, 0), pair(&rt, &text, 2, 2)];
     let on_first = listed(&rt, rt.alloc(), &text, pairs.as_slice(), 0)?;
-    assert_eq!(rt; main_beside(&on_first, true), 1);
-    assert_eq!(rt; main_beside(&on_first, false), 1);
+    assert_eq!(rt; main_beside(&on_first, Direction::Forward), 1);
+    assert_eq!(rt; main_beside(&on_first, Direction::Backward), 1);
     let on_last = listed(&rt, rt.alloc(), &text, pairs.as_slice(), 1)?;
-    assert_eq!(rt; main_beside(&on_last, true), 0);
-    assert_eq!(rt; main_beside(&on_last, false), 0);
+    assert_eq!(rt; main_beside(&on_last, Direction::Forward), 0);
+    assert_eq!(rt; main_beside(&on_last, Direction::Backward), 0);
     Ok(())
 }
 
@@ -264,7 +264,7 @@ fn too_many_ends_and_copies_are_refused(rt: HostRuntime) -> Result<(), Fail> {
     assert_eq!(rt; parts.len(), MAX_SELECTIONS);
     let refused = ends(rt.alloc(), &text, &parts);
     assert!(rt; matches!(refused, Err(SelsError::TooMany)));
-    let refused = copied(rt.alloc(), &text, &parts, true);
+    let refused = copied(rt.alloc(), &text, &parts, Direction::Forward);
     assert!(rt; matches!(refused, Err(SelsError::TooMany)));
     Ok(())
 }

@@ -6,6 +6,7 @@ use Rattle.key_names.specs.declared.key.Base.{Base}
 use Rattle.key_names.specs.declared.key.Base.TheVariants as base
 use Rattle.motion_keys.specs.declared.words.WordMove.TheVariants as word
 use Rattle.motion_keys.specs.declared.landmarks.LinePart.TheVariants as part
+use Rattle.list_keys.specs.declared.direction.Direction.TheVariants.{Forward, Backward}
 use Rattle.kak_world.specs.declared.state.Reach.{Reach}
 use Rattle.kak_world.specs.declared.state.Reach.TheVariants.{Select, Extend}
 use Rattle.normal_keys.specs.declared.actions.Motion.TheVariants as motion
@@ -54,9 +55,9 @@ sign_action c =
     else (if c == 37 then action.Lists list.WholeText  -- %
     else (if c == 44 then action.Lists list.MainAlone  -- ,
     else (if c == 95 then action.Lists list.Trimmed  -- _
-    else (if c == 67 then action.Lists list.CopiedBelow  -- C
-    else (if c == 40 then action.TurnsMain false  -- (
-    else (if c == 41 then action.TurnsMain true  -- )
+    else (if c == 67 then action.Lists (list.Copied Forward)  -- C
+    else (if c == 40 then action.TurnsMain Backward  -- (
+    else (if c == 41 then action.TurnsMain Forward  -- )
     else (if c == 105 then action.Inserts  -- i
     else (if c == 58 then action.Prompts  -- :
     else action.Nothing))))))))))
@@ -68,7 +69,7 @@ alt_sign_action c =
     else (if c == 59 then action.Shapes shape.Turned  -- ;
     else (if c == 58 then action.Shapes shape.Straight  -- :
     else (if c == 44 then action.Lists list.WithoutMain  -- ,
-    else (if c == 67 then action.Lists list.CopiedAbove  -- C
+    else (if c == 67 then action.Lists (list.Copied Backward)  -- C
     else (if c == 115 then action.Lists list.SplitLines  -- s
     else (if c == 83 then action.Lists list.Ends  -- S
     else action.Nothing))))))

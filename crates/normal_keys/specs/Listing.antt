@@ -1,8 +1,9 @@
 -- The keys that change a client's list of selections as a whole.
-use Rattle.std.specs.Prelude.{ℕ, Bool, true, false, nat_lt, if◌then◌else◌, List, length, flat_map, None, Some}
+use Rattle.std.specs.Prelude.{ℕ, nat_lt, if◌then◌else◌, List, length, flat_map, None, Some}
 use Rattle.std.specs.declared.option.Option.{Option}
 use Rattle.text_model.specs.declared.TheConstants.{MAX_SELECTIONS}
 use Rattle.list_model.specs.Ranges.{Range, Selected}
+use Rattle.list_keys.specs.declared.direction.Direction.{Direction}
 use Rattle.list_keys.specs.Cuts.{whole_lines_in, trimmed_range, parts_of, ends_of}
 use Rattle.list_keys.specs.Copies.{copy_of}
 use Rattle.list_keys.specs.Rows.{left_of_each, parts_of_each, with_copies, copied_each, main_alone, without_main, main_turned, whole_text}
@@ -10,7 +11,7 @@ use Rattle.kak_world.specs.declared.ask.EditError.TheVariants.{NothingSelected, 
 use Rattle.kak_world.specs.Flat.{Flat, text_of, sels_of, with_sels}
 use Rattle.kak_world.specs.Rows.{RowEnd, does, fails}
 use Rattle.normal_keys.specs.declared.actions.ListChange.{ListChange}
-use Rattle.normal_keys.specs.declared.actions.ListChange.TheVariants.{WholeText, MainAlone, WithoutMain, Trimmed, WholeLines, SplitLines, Ends, CopiedBelow, CopiedAbove}
+use Rattle.normal_keys.specs.declared.actions.ListChange.TheVariants.{WholeText, MainAlone, WithoutMain, Trimmed, WholeLines, SplitLines, Ends, Copied}
 
 -- a list becomes a client's own; where there is none, the key fails and the selections stay
 abbrev pub taken_if_any : Option Selected → ℕ → Flat → RowEnd
@@ -42,9 +43,8 @@ list_changed Trimmed who flat = taken_if_any (left_of_each (trimmed_range (text_
 list_changed WholeLines who flat = taken_if_any (left_of_each (whole_lines_in (text_of who flat)) (sels_of who flat)) who flat
 list_changed SplitLines who flat = split_up (parts_of (text_of who flat)) who flat
 list_changed Ends who flat = split_up ends_of who flat
-list_changed CopiedBelow who flat = copied_beside (copy_of true (text_of who flat)) who flat
-list_changed CopiedAbove who flat = copied_beside (copy_of false (text_of who flat)) who flat
+list_changed (Copied direction) who flat = copied_beside (copy_of direction (text_of who flat)) who flat
 
 -- another selection of a client becomes its main one: that behind the main one, or that before it, round the ends
-abbrev pub main_moved : Bool → ℕ → Flat → Flat
-main_moved forward who flat = with_sels who (main_turned forward (sels_of who flat)) flat
+abbrev pub main_moved : Direction → ℕ → Flat → Flat
+main_moved direction who flat = with_sels who (main_turned direction (sels_of who flat)) flat

@@ -9,4 +9,4 @@ use Rattle.normal_keys.specs.Listing.{main_moved}
 -- the world after one run
 abbrev pub once : Repeated → ℕ → Flat → Flat
 once (Moves motion reach) = moved motion reach
-once (TurnsMain forward) = main_moved forward
+once (TurnsMain direction) = main_moved direction

@@ -51,7 +51,7 @@ acted (action.Seeks search reach) count who flat = does (with_awaiting who (awai
 acted (action.Goes reach) count who flat = does (go_to_line reach count who flat)
 acted (action.Shapes shape) count who flat = does (each_changed (each.Reshaped shape) who flat)
 acted (action.Lists change) count who flat = list_changed change who flat
-acted (action.TurnsMain forward) count who flat = runs count (main_moved forward who) flat
+acted (action.TurnsMain direction) count who flat = runs count (main_moved direction who) flat
 acted action.Inserts count who flat = does (insert_before who flat)
 acted action.Prompts count who flat = does (open_prompt who flat)
 

@@ -5,6 +5,7 @@ ghost use Rattle.normal_keys.specs.Actions.{sought, letter_action, alt_letter_ac
 
 use kak_world::{Reach, Search};
 use key_names::{Base, Key};
+use list_keys::Direction;
 use motion_keys::{LinePart, Place, WordMove};
 
 /// Where a motion leads from a selection.
@@ -68,10 +69,8 @@ pub enum ListChange {
     SplitLines,
     /// Of each its first and its last character.
     Ends,
-    /// A copy of each further down.
-    CopiedBelow,
-    /// A copy of each further up.
-    CopiedAbove,
+    /// A copy of each on other lines.
+    Copied(Direction),
 }
 
 /// What a key does.
@@ -94,7 +93,7 @@ pub enum Action {
     /// It changes the list.
     Lists(ListChange),
     /// The selection behind the main one becomes main, or the one before it, as often as the count says.
-    TurnsMain(bool),
+    TurnsMain(Direction),
     /// Insert mode before each selection.
     Inserts,
     /// An empty prompt for commands.
@@ -154,9 +153,9 @@ fn sign_action(c: char) -> Action
         '%' => Action::Lists(ListChange::WholeText),
         ',' => Action::Lists(ListChange::MainAlone),
         '_' => Action::Lists(ListChange::Trimmed),
-        'C' => Action::Lists(ListChange::CopiedBelow),
-        '(' => Action::TurnsMain(false),
-        ')' => Action::TurnsMain(true),
+        'C' => Action::Lists(ListChange::Copied(Direction::Forward)),
+        '(' => Action::TurnsMain(Direction::Backward),
+        ')' => Action::TurnsMain(Direction::Forward),
         'i' => Action::Inserts,
         ':' => Action::Prompts,
         _ => Action::Nothing,
@@ -172,7 +171,7 @@ fn alt_sign_action(c: char) -> Action
         ';' => Action::Shapes(Shape::Turned),
         ':' => Action::Shapes(Shape::Straight),
         ',' => Action::Lists(ListChange::WithoutMain),
-        'C' => Action::Lists(ListChange::CopiedAbove),
+        'C' => Action::Lists(ListChange::Copied(Direction::Backward)),
         's' => Action::Lists(ListChange::SplitLines),
         'S' => Action::Lists(ListChange::Ends),
         _ => Action::Nothing,

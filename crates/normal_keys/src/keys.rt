@@ -110,8 +110,8 @@ fn act(
         Action::Goes(reach) => go(alloc, world, who, count, reach),
         Action::Shapes(shape) => change(alloc, world, who, Each::Reshaped(shape)),
         Action::Lists(change) => change_list(alloc, world, who, change),
-        Action::TurnsMain(forward) => {
-            run_often(alloc, world, who, count, Repeated::TurnsMain(forward))
+        Action::TurnsMain(direction) => {
+            run_often(alloc, world, who, count, Repeated::TurnsMain(direction))
         }
         Action::Inserts => begin_insert(alloc, world, who),
         Action::Prompts => {

@@ -87,7 +87,8 @@ pub(crate) fn change_list(
         ListChange::WholeLines => take_if_any(whole_lines(alloc, lines, sels), world, who),
         ListChange::SplitLines => take_if_few(split_lines(alloc, lines, sels), world, who),
         ListChange::Ends => take_if_few(ends(alloc, lines, sels), world, who),
-        ListChange::CopiedBelow => take_if_few(copied(alloc, lines, sels, true), world, who),
-        ListChange::CopiedAbove => take_if_few(copied(alloc, lines, sels, false), world, who),
+        ListChange::Copied(direction) => {
+            take_if_few(copied(alloc, lines, sels, direction), world, who)
+        }
     }
 }

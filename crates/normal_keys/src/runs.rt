@@ -10,7 +10,7 @@ ghost use Rattle.normal_keys.specs.Repeating.{once};
 use crate::actions::Motion;
 use crate::each::{Each, change_each};
 use kak_world::{Ask, EditError, Reach, World};
-use list_keys::main_beside;
+use list_keys::{Direction, main_beside};
 use std::alloc::{AllocError, Global};
 
 /// What is run as often as a count says.
@@ -19,16 +19,16 @@ pub(crate) enum Repeated {
     /// A motion of each selection.
     Moves(Motion, Reach),
     /// The selection behind the main one becomes the main one, or the one before it, round the ends.
-    TurnsMain(bool),
+    TurnsMain(Direction),
 }
 
 // Another selection becomes the main one.
-fn turn_main(world: &mut World, who: u32, forward: bool)
+fn turn_main(world: &mut World, who: u32, direction: Direction)
     requires { is_joined who world.old.flat ≡ true }
-    ensures turns { world.new.flat ≡ main_moved forward who world.old.flat }
+    ensures turns { world.new.flat ≡ main_moved direction who world.old.flat }
     ensures stays { is_joined who world.new.flat ≡ true }
 {
-    let main = main_beside(world.sels(who), forward);
+    let main = main_beside(world.sels(who), direction);
     world.set_main(who, main);
 }
 
@@ -42,8 +42,8 @@ fn run_once(alloc: Global, world: &mut World, who: u32, what: Repeated) -> Resul
         Repeated::Moves(motion, reach) => {
             change_each(alloc, world, who, Each::Moved(motion, reach))
         }
-        Repeated::TurnsMain(forward) => {
-            turn_main(world, who, forward);
+        Repeated::TurnsMain(direction) => {
+            turn_main(world, who, direction);
             Ok(())
         }
     }

@@ -6,4 +6,4 @@ use Rattle.list_keys.proofs.CopyLemmas.{copy_from}
 use Rattle.list_keys.proofs.copies.copy.Given as goal
 
 abbrev pub invariant-loop-by : goal.invariant-loop-by
-invariant-loop-by l = copy_of l.below l.lines (range_of l.lines l.sel) ≡ copy_from l.below l.lines l.sel.low l.sel.high l.sel.turned l.by
+invariant-loop-by l = copy_of l.direction l.lines (range_of l.lines l.sel) ≡ copy_from l.direction l.lines l.sel.low l.sel.high l.sel.turned l.by

@@ -11,9 +11,9 @@ use Rattle.list_keys.proofs.made_rows.copied.Goals as goal
 pub returns-clause-copies : goal.returns-clause-copies
 returns-clause-copies c =
     ok-weaker c.of_sels.result (λ s. (t : List ℕ) → AreInside t c.as_slice.result.now → IsSettledIn t (ranges_of t c.as_slice.result.now) c.copy_place.result s)
-    (λ s. selected c.args.lines.now s ≡ copied_each (copy_of c.args.below c.args.lines.now) (selected c.args.lines.now c.args.sels.now))
+    (λ s. selected c.args.lines.now s ≡ copied_each (copy_of c.args.direction c.args.lines.now) (selected c.args.lines.now c.args.sels.now))
     (λ s settles. given-selected c.args.lines.now c.as_slice.result.now c.in_ok-list.list.items c.copy_place.result
-    (record { list = with_copies (copy_of c.args.below c.args.lines.now) (selected c.args.lines.now c.args.sels.now); main = main_copied (copy_of c.args.below c.args.lines.now) (selected c.args.lines.now c.args.sels.now) }) s
+    (record { list = with_copies (copy_of c.args.direction c.args.lines.now) (selected c.args.lines.now c.args.sels.now); main = main_copied (copy_of c.args.direction c.args.lines.now) (selected c.args.lines.now c.args.sels.now) }) s
     c.as_slice.ensures c.in_ok-list.ensures.inside c.in_ok-list.ensures.ranges c.copy_place.ensures.value
     (omega (arith, c.copy_place.ensures.below, ap length c.as_slice.ensures, ap length c.in_ok-list.ensures.ranges, length-map c.in_ok-list.list.items (range_of c.args.lines.now))) settles)
     c.of_sels.ensures.settles
