@@ -9,11 +9,17 @@ use Rattle.motion_keys.specs.declared.landmarks.LinePart.TheVariants as part
 use Rattle.list_keys.specs.declared.direction.Direction.TheVariants.{Forward, Backward}
 use Rattle.kak_world.specs.declared.state.Reach.{Reach}
 use Rattle.kak_world.specs.declared.state.Reach.TheVariants.{Select, Extend}
+use Rattle.normal_keys.specs.declared.actions.Motion.{Motion}
 use Rattle.normal_keys.specs.declared.actions.Motion.TheVariants as motion
 use Rattle.normal_keys.specs.declared.actions.Shape.TheVariants as shape
 use Rattle.normal_keys.specs.declared.actions.ListChange.TheVariants as list
+use Rattle.normal_keys.specs.declared.actions.Repeated.TheVariants as repeated
 use Rattle.normal_keys.specs.declared.actions.Action.{Action}
 use Rattle.normal_keys.specs.declared.actions.Action.TheVariants as action
+
+-- a motion of each selection, as often as the count says
+abbrev pub moves : Motion → Reach → Action
+moves how reach = action.Repeats (repeated.Moves how reach)
 
 -- looking for a character, behind the cursor or before it, up to it or on the way
 abbrev pub sought : Bool → Bool → Reach → Action
@@ -22,13 +28,13 @@ sought forward onto reach = action.Seeks (record { forward = forward; onto = ont
 -- what a small letter does; its capital does the same and extends
 abbrev pub letter_action : ℕ → Reach → Action
 letter_action c reach =
-    if c == 104 then action.Moves motion.Back reach  -- h
-    else (if c == 106 then action.Moves motion.Down reach  -- j
-    else (if c == 107 then action.Moves motion.Up reach  -- k
-    else (if c == 108 then action.Moves motion.On reach  -- l
-    else (if c == 119 then action.Moves (motion.Word word.Next) reach  -- w
-    else (if c == 101 then action.Moves (motion.Word word.End) reach  -- e
-    else (if c == 98 then action.Moves (motion.Word word.Back) reach  -- b
+    if c == 104 then moves motion.Back reach  -- h
+    else (if c == 106 then moves motion.Down reach  -- j
+    else (if c == 107 then moves motion.Up reach  -- k
+    else (if c == 108 then moves motion.On reach  -- l
+    else (if c == 119 then moves (motion.Word word.Next) reach  -- w
+    else (if c == 101 then moves (motion.Word word.End) reach  -- e
+    else (if c == 98 then moves (motion.Word word.Back) reach  -- b
     else (if c == 102 then sought true true reach  -- f
     else (if c == 116 then sought true false reach  -- t
     else (if c == 103 then action.Goes reach  -- g
@@ -37,9 +43,9 @@ letter_action c reach =
 -- the same for letters with alt
 abbrev pub alt_letter_action : ℕ → Reach → Action
 alt_letter_action c reach =
-    if c == 119 then action.Moves (motion.BigWord word.Next) reach  -- w
-    else (if c == 101 then action.Moves (motion.BigWord word.End) reach  -- e
-    else (if c == 98 then action.Moves (motion.BigWord word.Back) reach  -- b
+    if c == 119 then moves (motion.BigWord word.Next) reach  -- w
+    else (if c == 101 then moves (motion.BigWord word.End) reach  -- e
+    else (if c == 98 then moves (motion.BigWord word.Back) reach  -- b
     else (if c == 102 then sought false true reach  -- f
     else (if c == 116 then sought false false reach  -- t
     else (if c == 104 then action.MovesOnce (motion.Along part.ToStart) reach  -- h
@@ -56,8 +62,8 @@ sign_action c =
     else (if c == 44 then action.Lists list.MainAlone  -- ,
     else (if c == 95 then action.Lists list.Trimmed  -- _
     else (if c == 67 then action.Lists (list.Copied Forward)  -- C
-    else (if c == 40 then action.TurnsMain Backward  -- (
-    else (if c == 41 then action.TurnsMain Forward  -- )
+    else (if c == 40 then action.Repeats (repeated.TurnsMain Backward)  -- (
+    else (if c == 41 then action.Repeats (repeated.TurnsMain Forward)  -- )
     else (if c == 105 then action.Inserts  -- i
     else (if c == 58 then action.Prompts  -- :
     else action.Nothing))))))))))
@@ -91,10 +97,10 @@ character_action c =
 
 -- the keys that go along the text do as letters do
 abbrev pub arrow_action : Base → Reach → Action
-arrow_action base.Left reach = action.Moves motion.Back reach
-arrow_action base.Right reach = action.Moves motion.On reach
-arrow_action base.Down reach = action.Moves motion.Down reach
-arrow_action base.Up reach = action.Moves motion.Up reach
+arrow_action base.Left reach = moves motion.Back reach
+arrow_action base.Right reach = moves motion.On reach
+arrow_action base.Down reach = moves motion.Down reach
+arrow_action base.Up reach = moves motion.Up reach
 arrow_action base.Home reach = action.MovesOnce (motion.Along part.ToStart) reach
 arrow_action base.End reach = action.MovesOnce (motion.Along part.ToEnd) reach
 arrow_action _ reach = action.Nothing

@@ -1,8 +1,8 @@
--- What the code runs as often as a count says, by the rows.
+-- What is done as often as a count says.
 use Rattle.std.specs.Prelude.{ℕ}
 use Rattle.kak_world.specs.Flat.{Flat}
-use Rattle.normal_keys.specs.declared.runs.Repeated.{Repeated}
-use Rattle.normal_keys.specs.declared.runs.Repeated.TheVariants.{Moves, TurnsMain}
+use Rattle.normal_keys.specs.declared.actions.Repeated.{Repeated}
+use Rattle.normal_keys.specs.declared.actions.Repeated.TheVariants.{Moves, TurnsMain}
 use Rattle.normal_keys.specs.Moving.{moved}
 use Rattle.normal_keys.specs.Listing.{main_moved}
 

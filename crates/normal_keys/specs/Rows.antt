@@ -21,7 +21,8 @@ use Rattle.normal_keys.specs.Actions.{action_of}
 use Rattle.normal_keys.specs.declared.actions.Shape.TheVariants as shape
 use Rattle.normal_keys.specs.declared.each.Each.TheVariants as each
 use Rattle.normal_keys.specs.Moving.{each_changed, moved, runs}
-use Rattle.normal_keys.specs.Listing.{list_changed, main_moved}
+use Rattle.normal_keys.specs.Listing.{list_changed}
+use Rattle.normal_keys.specs.Repeating.{once}
 
 -- a count with one more digit, at most 999,999
 abbrev pub with_digit : ℕ → ℕ → ℕ
@@ -45,13 +46,12 @@ go_to_line reach count who flat =
 abbrev pub acted : Action → ℕ → ℕ → Flat → RowEnd
 acted action.Nothing count who flat = does flat
 acted (action.Digit digit) count who flat = does (with_count who (with_digit count digit) flat)
-acted (action.Moves motion reach) count who flat = runs count (moved motion reach who) flat
+acted (action.Repeats what) count who flat = runs count (once what who) flat
 acted (action.MovesOnce motion reach) count who flat = does (moved motion reach who flat)
 acted (action.Seeks search reach) count who flat = does (with_awaiting who (awaits.Character search reach) (with_count who count flat))
 acted (action.Goes reach) count who flat = does (go_to_line reach count who flat)
 acted (action.Shapes shape) count who flat = does (each_changed (each.Reshaped shape) who flat)
 acted (action.Lists change) count who flat = list_changed change who flat
-acted (action.TurnsMain direction) count who flat = runs count (main_moved direction who) flat
 acted action.Inserts count who flat = does (insert_before who flat)
 acted action.Prompts count who flat = does (open_prompt who flat)
 

@@ -1,7 +1,7 @@
 //! The table of normal mode: what each key does.
 
 ghost use Rattle.std.specs.Prelude.{◌≡◌};
-ghost use Rattle.normal_keys.specs.Actions.{sought, letter_action, alt_letter_action, sign_action, alt_sign_action, otherwise, reach_of, character_action, arrow_action, plain_action, control_action, alt_action, action_of};
+ghost use Rattle.normal_keys.specs.Actions.{moves, sought, letter_action, alt_letter_action, sign_action, alt_sign_action, otherwise, reach_of, character_action, arrow_action, plain_action, control_action, alt_action, action_of};
 
 use kak_world::{Reach, Search};
 use key_names::{Base, Key};
@@ -73,6 +73,15 @@ pub enum ListChange {
     Copied(Direction),
 }
 
+/// What is done as often as the count says.
+#[derive(Clone, Copy, PartialEq, Eq, Debug)]
+pub enum Repeated {
+    /// A motion of each selection.
+    Moves(Motion, Reach),
+    /// The selection behind the main one becomes the main one, or the one before it, round the ends.
+    TurnsMain(Direction),
+}
+
 /// What a key does.
 #[derive(Clone, Copy, PartialEq, Eq, Debug)]
 pub enum Action {
@@ -80,8 +89,8 @@ pub enum Action {
     Nothing,
     /// It goes on with the count.
     Digit(u32),
-    /// A motion of each selection, as often as the count says.
-    Moves(Motion, Reach),
+    /// It does something as often as the count says.
+    Repeats(Repeated),
     /// A motion of each selection, once.
     MovesOnce(Motion, Reach),
     /// It waits for a character to go to.
@@ -92,12 +101,17 @@ pub enum Action {
     Shapes(Shape),
     /// It changes the list.
     Lists(ListChange),
-    /// The selection behind the main one becomes main, or the one before it, as often as the count says.
-    TurnsMain(Direction),
     /// Insert mode before each selection.
     Inserts,
     /// An empty prompt for commands.
     Prompts,
+}
+
+// A motion of each selection, as often as the count says.
+fn moves(motion: Motion, reach: Reach) -> Action
+    ensures { result ≡ moves motion reach }
+{
+    Action::Repeats(Repeated::Moves(motion, reach))
 }
 
 // Looking for a character, on its way or up to it.
@@ -112,13 +126,13 @@ fn letter_action(c: char, reach: Reach) -> Action
     ensures { result ≡ letter_action c reach }
 {
     match c {
-        'h' => Action::Moves(Motion::Back, reach),
-        'j' => Action::Moves(Motion::Down, reach),
-        'k' => Action::Moves(Motion::Up, reach),
-        'l' => Action::Moves(Motion::On, reach),
-        'w' => Action::Moves(Motion::Word(WordMove::Next), reach),
-        'e' => Action::Moves(Motion::Word(WordMove::End), reach),
-        'b' => Action::Moves(Motion::Word(WordMove::Back), reach),
+        'h' => moves(Motion::Back, reach),
+        'j' => moves(Motion::Down, reach),
+        'k' => moves(Motion::Up, reach),
+        'l' => moves(Motion::On, reach),
+        'w' => moves(Motion::Word(WordMove::Next), reach),
+        'e' => moves(Motion::Word(WordMove::End), reach),
+        'b' => moves(Motion::Word(WordMove::Back), reach),
         'f' => sought(true, true, reach),
         't' => sought(true, false, reach),
         'g' => Action::Goes(reach),
@@ -131,9 +145,9 @@ fn alt_letter_action(c: char, reach: Reach) -> Action
     ensures { result ≡ alt_letter_action c reach }
 {
     match c {
-        'w' => Action::Moves(Motion::BigWord(WordMove::Next), reach),
-        'e' => Action::Moves(Motion::BigWord(WordMove::End), reach),
-        'b' => Action::Moves(Motion::BigWord(WordMove::Back), reach),
+        'w' => moves(Motion::BigWord(WordMove::Next), reach),
+        'e' => moves(Motion::BigWord(WordMove::End), reach),
+        'b' => moves(Motion::BigWord(WordMove::Back), reach),
         'f' => sought(false, true, reach),
         't' => sought(false, false, reach),
         'h' => Action::MovesOnce(Motion::Along(LinePart::ToStart), reach),
@@ -154,8 +168,8 @@ fn sign_action(c: char) -> Action
         ',' => Action::Lists(ListChange::MainAlone),
         '_' => Action::Lists(ListChange::Trimmed),
         'C' => Action::Lists(ListChange::Copied(Direction::Forward)),
-        '(' => Action::TurnsMain(Direction::Backward),
-        ')' => Action::TurnsMain(Direction::Forward),
+        '(' => Action::Repeats(Repeated::TurnsMain(Direction::Backward)),
+        ')' => Action::Repeats(Repeated::TurnsMain(Direction::Forward)),
         'i' => Action::Inserts,
         ':' => Action::Prompts,
         _ => Action::Nothing,
@@ -217,10 +231,10 @@ fn arrow_action(base: Base, reach: Reach) -> Action
     ensures { result ≡ arrow_action base reach }
 {
     match base {
-        Base::Left => Action::Moves(Motion::Back, reach),
-        Base::Right => Action::Moves(Motion::On, reach),
-        Base::Down => Action::Moves(Motion::Down, reach),
-        Base::Up => Action::Moves(Motion::Up, reach),
+        Base::Left => moves(Motion::Back, reach),
+        Base::Right => moves(Motion::On, reach),
+        Base::Down => moves(Motion::Down, reach),
+        Base::Up => moves(Motion::Up, reach),
         Base::Home => Action::MovesOnce(Motion::Along(LinePart::ToStart), reach),
         Base::End => Action::MovesOnce(Motion::Along(LinePart::ToEnd), reach),
         _ => Action::Nothing,

@@ -6,11 +6,11 @@ ghost use Rattle.kak_world.specs.Rows.{Gives, does};
 ghost use Rattle.normal_keys.specs.Moving.{each_changed, moved};
 ghost use Rattle.normal_keys.specs.Rows.{with_digit, insert_before, open_prompt, go_to_line, acted, row_awaited, row_normal};
 
-use crate::actions::{Action, Motion, Shape, action_of};
+use crate::actions::{Action, Motion, Repeated, Shape, action_of};
 use crate::awaited::{character_of, place_of};
 use crate::each::{Each, change_each};
 use crate::lists::change_list;
-use crate::runs::{Repeated, run_often};
+use crate::runs::run_often;
 use kak_world::{Ask, Awaiting, EditError, Mode, Reach, World};
 use key_names::Key;
 use motion_keys::Place;
@@ -96,9 +96,7 @@ fn act(
             world.set_count(who, with_digit(count, digit));
             Ok(Ask::Nothing)
         }
-        Action::Moves(motion, reach) => {
-            run_often(alloc, world, who, count, Repeated::Moves(motion, reach))
-        }
+        Action::Repeats(what) => run_often(alloc, world, who, count, what),
         Action::MovesOnce(motion, reach) => {
             change(alloc, world, who, Each::Moved(motion, reach))
         }
@@ -110,9 +108,6 @@ fn act(
         Action::Goes(reach) => go(alloc, world, who, count, reach),
         Action::Shapes(shape) => change(alloc, world, who, Each::Reshaped(shape)),
         Action::Lists(change) => change_list(alloc, world, who, change),
-        Action::TurnsMain(direction) => {
-            run_often(alloc, world, who, count, Repeated::TurnsMain(direction))
-        }
         Action::Inserts => begin_insert(alloc, world, who),
         Action::Prompts => {
             begin_prompt(alloc, world, who);

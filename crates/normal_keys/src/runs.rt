@@ -7,20 +7,11 @@ ghost use Rattle.normal_keys.specs.Moving.{runs};
 ghost use Rattle.normal_keys.specs.Listing.{main_moved};
 ghost use Rattle.normal_keys.specs.Repeating.{once};
 
-use crate::actions::Motion;
+use crate::actions::Repeated;
 use crate::each::{Each, change_each};
-use kak_world::{Ask, EditError, Reach, World};
+use kak_world::{Ask, EditError, World};
 use list_keys::{Direction, main_beside};
 use std::alloc::{AllocError, Global};
-
-/// What is run as often as a count says.
-#[derive(Clone, Copy, PartialEq, Eq, Debug)]
-pub(crate) enum Repeated {
-    /// A motion of each selection.
-    Moves(Motion, Reach),
-    /// The selection behind the main one becomes the main one, or the one before it, round the ends.
-    TurnsMain(Direction),
-}
 
 // Another selection becomes the main one.
 fn turn_main(world: &mut World, who: u32, direction: Direction)
