@@ -3,3 +3,4 @@ pub mod EachLemmas
 pub mod LedLemmas
 pub mod ShapeLemmas
 pub mod RunLemmas
+pub mod FewLemmas

@@ -4,4 +4,5 @@ pub mod Led
 pub mod Listing
 pub mod Repeating
 pub mod Rows
+pub mod Adding
 pub mod Examples

@@ -1,10 +1,11 @@
 //! The rows of normal mode.
 
-ghost use Rattle.std.specs.Prelude.{◌≡◌, true, OnOk};
-ghost use Rattle.kak_world.specs.Flat.{is_joined, count_of, awaiting_of, cleared};
+ghost use Rattle.std.specs.Prelude.{◌≡◌, ◌≤◌, true, length, OnOk, IsErrOf};
+ghost use Rattle.kak_world.specs.Flat.{is_joined, sels_of, count_of, awaiting_of, cleared};
 ghost use Rattle.kak_world.specs.Rows.{Gives, does};
 ghost use Rattle.normal_keys.specs.Moving.{each_changed, moved};
 ghost use Rattle.normal_keys.specs.Rows.{with_digit, insert_before, open_prompt, go_to_line, acted, row_awaited, row_normal};
+ghost use Rattle.normal_keys.specs.Adding.{action_adds, key_adds};
 
 use crate::actions::{Action, Motion, Repeated, Shape, action_of};
 use crate::awaited::{character_of, place_of};
@@ -23,6 +24,7 @@ const MAX_COUNT: u32 = 999_999;
 fn change(alloc: Global, world: &mut World, who: u32, change: Each) -> Result<Ask, EditError>
     requires { is_joined who world.old.flat ≡ true }
     ensures row { Gives result world.new.flat (does (each_changed change who world.old.flat)) }
+    ensures few { length (sels_of who world.old.flat).list ≤ 4 → ¬ IsErrOf result EditError.NoMemory }
     ensures stays { is_joined who world.new.flat ≡ true }
 {
     change_each(alloc, world, who, change)?;
@@ -33,6 +35,7 @@ fn change(alloc: Global, world: &mut World, who: u32, change: Each) -> Result<As
 fn begin_insert(alloc: Global, world: &mut World, who: u32) -> Result<Ask, EditError>
     requires { is_joined who world.old.flat ≡ true }
     ensures row { Gives result world.new.flat (does (insert_before who world.old.flat)) }
+    ensures few { length (sels_of who world.old.flat).list ≤ 4 → ¬ IsErrOf result EditError.NoMemory }
     ensures stays { is_joined who world.new.flat ≡ true }
 {
     change_each(alloc, world, who, Each::Reshaped(Shape::AtStart))?;
@@ -68,6 +71,7 @@ fn go(
 ) -> Result<Ask, EditError>
     requires { is_joined who world.old.flat ≡ true }
     ensures row { Gives result world.new.flat (does (go_to_line reach count who world.old.flat)) }
+    ensures few { length (sels_of who world.old.flat).list ≤ 4 → ¬ IsErrOf result EditError.NoMemory }
     ensures stays { is_joined who world.new.flat ≡ true }
 {
     if count == 0 {
@@ -88,6 +92,7 @@ fn act(
 ) -> Result<Ask, EditError>
     requires { is_joined who world.old.flat ≡ true }
     ensures row { Gives result world.new.flat (acted action count who world.old.flat) }
+    ensures few { length (sels_of who world.old.flat).list ≤ 4 → IsErrOf result EditError.NoMemory → action_adds action ≡ true }
     ensures stays { is_joined who world.new.flat ≡ true }
 {
     match action {
@@ -127,6 +132,7 @@ fn run_awaited(
 ) -> Result<Ask, EditError>
     requires { is_joined who world.old.flat ≡ true }
     ensures row { Gives result world.new.flat (row_awaited awaiting key count who world.old.flat) }
+    ensures few { length (sels_of who world.old.flat).list ≤ 4 → IsErrOf result EditError.NoMemory → key_adds awaiting key ≡ true }
     ensures stays { is_joined who world.new.flat ≡ true }
 {
     match awaiting {
@@ -146,11 +152,13 @@ fn run_awaited(
 }
 
 /// Runs one key of normal mode, on each selection of a client. `NothingSelected` and `TooManySelections` leave the
-/// selections; `BudgetSpent` comes where a further run of the key was due and no unit was left.
+/// selections; `BudgetSpent` comes where a further run of the key was due and no unit was left. For at most four
+/// selections, only a key that can add some takes memory.
 #[tactic(auto, unfolding(crate::specs::Rows::row_normal))]
 pub fn normal_key(alloc: Global, world: &mut World, who: u32, key: Key) -> Result<Ask, EditError>
     requires { is_joined who world.old.flat ≡ true }
     ensures row { Gives result world.new.flat (row_normal key who world.old.flat) }
+    ensures few { length (sels_of who world.old.flat).list ≤ 4 → IsErrOf result EditError.NoMemory → key_adds (awaiting_of who world.old.flat) key ≡ true }
     ensures stays { is_joined who world.new.flat ≡ true }
 {
     let count = world.count(who);

@@ -1,12 +1,13 @@
 //! Keys that change a client's list of selections as a whole.
 
-ghost use Rattle.std.specs.Prelude.{◌≡◌, ◌<◌, ℕ, true, length, IfOk, IfSome, IsErrOf, option_map, ◌↔◌};
+ghost use Rattle.std.specs.Prelude.{◌≡◌, ◌<◌, ◌≤◌, ℕ, true, length, IfOk, IfSome, IsOk, IsErrOf, option_map, ◌↔◌};
 ghost use Rattle.text_model.specs.declared.TheConstants.{MAX_SELECTIONS};
 ghost use Rattle.list_model.specs.Ranges.{Selected};
-ghost use Rattle.kak_world.specs.Flat.{is_joined, text_of, with_sels};
+ghost use Rattle.kak_world.specs.Flat.{is_joined, text_of, sels_of, with_sels};
 ghost use Rattle.kak_world.specs.Lists.{selected, IsHeld};
 ghost use Rattle.kak_world.specs.Rows.{Gives, does};
 ghost use Rattle.normal_keys.specs.Listing.{taken_if_any, taken_if_few, list_changed};
+ghost use Rattle.normal_keys.specs.Adding.{change_adds};
 ghost use Rattle.std.specs.declared.option.Option.{Option};
 
 use crate::actions::ListChange;
@@ -25,6 +26,7 @@ fn take_if_any(
 ) -> Result<Ask, EditError>
     requires joined { is_joined who world.old.flat ≡ true }
     requires held { IfOk found (λ f. IfSome f (λ s. IsHeld (text_of who world.old.flat) s)) }
+    ensures few { IsOk found → ¬ IsErrOf result EditError.NoMemory }
     ensures row { (list : Option Selected) → IfOk found (λ f. option_map (selected (text_of who world.old.flat)) f ≡ list) → Gives result world.new.flat (taken_if_any list who world.old.flat) }
     ensures stays { is_joined who world.new.flat ≡ true }
 {
@@ -58,6 +60,7 @@ fn take_if_few(made: Result<Sels, SelsError>, world: &mut World, who: u32) -> Re
 fn take(sels: Sels, world: &mut World, who: u32) -> Result<Ask, EditError>
     requires joined { is_joined who world.old.flat ≡ true }
     requires held { IsHeld (text_of who world.old.flat) sels }
+    ensures ok { IsOk result }
     ensures row { Gives result world.new.flat (does (with_sels who (selected (text_of who world.old.flat) sels) world.old.flat)) }
     ensures stays { is_joined who world.new.flat ≡ true }
 {
@@ -66,7 +69,8 @@ fn take(sels: Sels, world: &mut World, who: u32) -> Result<Ask, EditError>
 }
 
 /// Changes a client's list. `NothingSelected` comes where no selection would be left, `TooManySelections` where there
-/// would be more than a list may have; they leave the world.
+/// would be more than a list may have; they leave the world. For at most four selections, only a change that can add
+/// some takes memory.
 pub(crate) fn change_list(
     alloc: Global,
     world: &mut World,
@@ -75,6 +79,7 @@ pub(crate) fn change_list(
 ) -> Result<Ask, EditError>
     requires { is_joined who world.old.flat ≡ true }
     ensures row { Gives result world.new.flat (list_changed change who world.old.flat) }
+    ensures few { length (sels_of who world.old.flat).list ≤ 4 → IsErrOf result EditError.NoMemory → change_adds change ≡ true }
     ensures stays { is_joined who world.new.flat ≡ true }
 {
     let lines = world.lines(who);

@@ -1,7 +1,7 @@
 //! Keys that are run as often as a count says.
 
-ghost use Rattle.std.specs.Prelude.{◌≡◌, true, OnOk};
-ghost use Rattle.kak_world.specs.Flat.{is_joined};
+ghost use Rattle.std.specs.Prelude.{◌≡◌, ◌≤◌, true, length, OnOk, IsOk, IsErrOf};
+ghost use Rattle.kak_world.specs.Flat.{is_joined, sels_of};
 ghost use Rattle.kak_world.specs.Rows.{Gives};
 ghost use Rattle.normal_keys.specs.Moving.{runs};
 ghost use Rattle.normal_keys.specs.Listing.{main_moved};
@@ -27,6 +27,7 @@ fn turn_main(world: &mut World, who: u32, direction: Direction)
 fn run_once(alloc: Global, world: &mut World, who: u32, what: Repeated) -> Result<(), AllocError>
     requires { is_joined who world.old.flat ≡ true }
     ensures does { OnOk result (world.new.flat ≡ once what who world.old.flat) }
+    ensures few { length (sels_of who world.old.flat).list ≤ 4 → IsOk result }
     ensures stays { is_joined who world.new.flat ≡ true }
 {
     match what {
@@ -41,7 +42,7 @@ fn run_once(alloc: Global, world: &mut World, who: u32, what: Repeated) -> Resul
 }
 
 /// Runs a key of a client as often as a count says, and once without one. Each further run takes a unit. `BudgetSpent`
-/// comes where none is left for the next one.
+/// comes where none is left for the next one. Takes no memory for at most four selections.
 pub(crate) fn run_often(
     alloc: Global,
     world: &mut World,
@@ -51,6 +52,7 @@ pub(crate) fn run_often(
 ) -> Result<Ask, EditError>
     requires { is_joined who world.old.flat ≡ true }
     ensures row { Gives result world.new.flat (runs count (once what who) world.old.flat) }
+    ensures few { length (sels_of who world.old.flat).list ≤ 4 → ¬ IsErrOf result EditError.NoMemory }
     ensures stays { is_joined who world.new.flat ≡ true }
 {
     run_once(alloc, world, who, what)?;
