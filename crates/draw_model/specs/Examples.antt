@@ -14,7 +14,7 @@ use Rattle.kak_world.specs.Flat.{Flat, opening, joined_by, with_sels, with_drawn
 use Rattle.draw_model.specs.Atoms.{atoms_of}
 use Rattle.draw_model.specs.Cells.{char_drawn}
 use Rattle.draw_model.specs.Drawings.{drawn_lines, status_line, cursor_drawn, main_column, main_cells, main_cursor, mode_text, after_following, drawing_of}
-use Rattle.draw_model.specs.Painting.{one}
+use Rattle.draw_model.specs.Painting.{alone}
 
 -- an atom of ASCII characters in two colours
 abbrev pub atom : List ℕ → NamedColour → NamedColour → Atom
@@ -78,24 +78,24 @@ pub record CharExamples : Type 0 where
 
 -- of lines, with a tab stop at each eighth column
 pub record LineExamples : Type 0 where
-  pub tab : drawn_lines (codes "a\tb\n") (one (only 0)) whole ≡ line (under_cursor (codes "a") ∷ bare (codes "       b\n") ∷ []) ∷ []
-  pub cursor_on_a_tab : drawn_lines (codes "a\tb\n") (one (only 1)) whole ≡ line (bare (codes "a") ∷ under_cursor (codes "       ") ∷ bare (codes "b\n") ∷ []) ∷ []
+  pub tab : drawn_lines (codes "a\tb\n") (alone true (only 0)) whole ≡ line (under_cursor (codes "a") ∷ bare (codes "       b\n") ∷ []) ∷ []
+  pub cursor_on_a_tab : drawn_lines (codes "a\tb\n") (alone true (only 1)) whole ≡ line (bare (codes "a") ∷ under_cursor (codes "       ") ∷ bare (codes "b\n") ∷ []) ∷ []
   -- the cursor, on the tab, reaches into the window from the left
-  pub tab_cut_at_the_left : drawn_lines (codes "a\tbc\n") (one (only 1)) (narrow 0 6) ≡ line (under_cursor (codes "  ") ∷ bare (codes "b") ∷ []) ∷ []
-  pub tab_cut_at_the_right : drawn_lines (codes "a\tb\n") (one (only 1)) (narrow 0 0) ≡ line (bare (codes "a") ∷ under_cursor (codes "  ") ∷ []) ∷ []
-  pub newline_behind_a_tab : drawn_lines (codes "\t\n") (one (only 1)) whole ≡ line (bare (codes "        ") ∷ atom (codes "\n") named.Black named.Cyan ∷ []) ∷ []
-  pub wide : drawn_lines (0x6F22 ∷ 0x61 ∷ 10 ∷ []) (one (only 1)) (narrow 0 0) ≡ line (bare (0x6F22 ∷ []) ∷ under_cursor (codes "a") ∷ []) ∷ []
-  pub wide_cut_at_the_left : drawn_lines (0x6F22 ∷ 0x61 ∷ 10 ∷ []) (one (only 0)) (narrow 0 1) ≡ line (under_cursor (codes " ") ∷ bare (codes "a\n") ∷ []) ∷ []
-  pub wide_cut_at_the_right : drawn_lines (0x61 ∷ 0x62 ∷ 0x6F22 ∷ 10 ∷ []) (one (between 1 2)) (narrow 0 0)
+  pub tab_cut_at_the_left : drawn_lines (codes "a\tbc\n") (alone true (only 1)) (narrow 0 6) ≡ line (under_cursor (codes "  ") ∷ bare (codes "b") ∷ []) ∷ []
+  pub tab_cut_at_the_right : drawn_lines (codes "a\tb\n") (alone true (only 1)) (narrow 0 0) ≡ line (bare (codes "a") ∷ under_cursor (codes "  ") ∷ []) ∷ []
+  pub newline_behind_a_tab : drawn_lines (codes "\t\n") (alone true (only 1)) whole ≡ line (bare (codes "        ") ∷ atom (codes "\n") named.Black named.Cyan ∷ []) ∷ []
+  pub wide : drawn_lines (0x6F22 ∷ 0x61 ∷ 10 ∷ []) (alone true (only 1)) (narrow 0 0) ≡ line (bare (0x6F22 ∷ []) ∷ under_cursor (codes "a") ∷ []) ∷ []
+  pub wide_cut_at_the_left : drawn_lines (0x6F22 ∷ 0x61 ∷ 10 ∷ []) (alone true (only 0)) (narrow 0 1) ≡ line (under_cursor (codes " ") ∷ bare (codes "a\n") ∷ []) ∷ []
+  pub wide_cut_at_the_right : drawn_lines (0x61 ∷ 0x62 ∷ 0x6F22 ∷ 10 ∷ []) (alone true (between 1 2)) (narrow 0 0)
       ≡ line (bare (codes "a") ∷ atom (codes "b") named.White named.Blue ∷ under_cursor (codes " ") ∷ []) ∷ []
-  pub cursor_on_a_mark : drawn_lines (0x65 ∷ 0x0301 ∷ 0x61 ∷ 10 ∷ []) (one (only 1)) (narrow 0 0)
+  pub cursor_on_a_mark : drawn_lines (0x65 ∷ 0x0301 ∷ 0x61 ∷ 10 ∷ []) (alone true (only 1)) (narrow 0 0)
       ≡ line (bare (0x65 ∷ []) ∷ under_cursor (0x0301 ∷ []) ∷ bare (0x61 ∷ 10 ∷ []) ∷ []) ∷ []
   -- the mark begins at the window's first display column, and its letter left of it
-  pub mark_at_the_left : drawn_lines (0x65 ∷ 0x0301 ∷ 0x61 ∷ 10 ∷ []) (one (only 2)) (narrow 0 1)
+  pub mark_at_the_left : drawn_lines (0x65 ∷ 0x0301 ∷ 0x61 ∷ 10 ∷ []) (alone true (only 2)) (narrow 0 1)
       ≡ line (bare (0x0301 ∷ []) ∷ under_cursor (0x61 ∷ []) ∷ bare (10 ∷ []) ∷ []) ∷ []
   -- the last letter fills the window, and its mark begins right behind it
-  pub mark_at_the_right : drawn_lines (0x61 ∷ 0x62 ∷ 0x65 ∷ 0x0301 ∷ 10 ∷ []) (one (only 0)) (narrow 0 0) ≡ line (under_cursor (codes "a") ∷ bare (codes "be") ∷ []) ∷ []
-  pub control : drawn_lines (0x61 ∷ 0x1B ∷ 0x62 ∷ 10 ∷ []) (one (only 0)) whole ≡ line (under_cursor (codes "a") ∷ bare (0xFFFD ∷ 0x62 ∷ 10 ∷ []) ∷ []) ∷ []
+  pub mark_at_the_right : drawn_lines (0x61 ∷ 0x62 ∷ 0x65 ∷ 0x0301 ∷ 10 ∷ []) (alone true (only 0)) (narrow 0 0) ≡ line (under_cursor (codes "a") ∷ bare (codes "be") ∷ []) ∷ []
+  pub control : drawn_lines (0x61 ∷ 0x1B ∷ 0x62 ∷ 10 ∷ []) (alone true (only 0)) whole ≡ line (under_cursor (codes "a") ∷ bare (0xFFFD ∷ 0x62 ∷ 10 ∷ []) ∷ []) ∷ []
 
 -- a turned selection
 abbrev pub turned_between : ℕ → ℕ → Range
@@ -150,18 +150,18 @@ pub record ListExamples : Type 0 where
 
 -- of where the main cursor stands
 pub record PlaceExamples : Type 0 where
-  pub column_behind_a_tab : main_column (codes "x\na\tb\n") (one (only 4)) ≡ 8
-  pub column_behind_wide : main_column (0x6F22 ∷ 0x61 ∷ 10 ∷ []) (one (only 1)) ≡ 2
-  pub column_of_a_mark : main_column (0x65 ∷ 0x0301 ∷ 10 ∷ []) (one (only 1)) ≡ 1
-  pub cells_of_a_tab : main_cells (codes "x\na\tb\n") (one (only 3)) ≡ 7
-  pub cells_of_wide : main_cells (0x6F22 ∷ 0x61 ∷ 10 ∷ []) (one (only 0)) ≡ 2
-  pub cells_of_a_mark : main_cells (0x65 ∷ 0x0301 ∷ 10 ∷ []) (one (only 1)) ≡ 0
+  pub column_behind_a_tab : main_column (codes "x\na\tb\n") (alone true (only 4)) ≡ 8
+  pub column_behind_wide : main_column (0x6F22 ∷ 0x61 ∷ 10 ∷ []) (alone true (only 1)) ≡ 2
+  pub column_of_a_mark : main_column (0x65 ∷ 0x0301 ∷ 10 ∷ []) (alone true (only 1)) ≡ 1
+  pub cells_of_a_tab : main_cells (codes "x\na\tb\n") (alone true (only 3)) ≡ 7
+  pub cells_of_wide : main_cells (0x6F22 ∷ 0x61 ∷ 10 ∷ []) (alone true (only 0)) ≡ 2
+  pub cells_of_a_mark : main_cells (0x65 ∷ 0x0301 ∷ 10 ∷ []) (alone true (only 1)) ≡ 0
   pub prompt_with_a_tab : cursor_drawn Prompt 0 1 whole (codes "a\tb") ≡ record { prompt = true; line = 0; column = 9 }
   pub prompt_with_wide : cursor_drawn Prompt 0 1 whole (0x6F22 ∷ []) ≡ record { prompt = true; line = 0; column = 3 }
   pub prompt_with_a_mark : cursor_drawn Prompt 0 1 whole (0x65 ∷ 0x0301 ∷ []) ≡ record { prompt = true; line = 0; column = 2 }
   -- ten tabs fill the window; the cursor on the tenth is whole in it, and one on the eleventh brings in all its cells
-  pub whole_tab_is_followed : view_of 0 (after_following 0 (with_sels 0 (one (only 9)) (holding (codes "\t\t\t\t\t\t\t\t\t\t\t\n")))) ≡ whole
-  pub next_tab_is_followed : view_of 0 (after_following 0 (with_sels 0 (one (only 10)) (holding (codes "\t\t\t\t\t\t\t\t\t\t\t\n"))))
+  pub whole_tab_is_followed : view_of 0 (after_following 0 (with_sels 0 (alone true (only 9)) (holding (codes "\t\t\t\t\t\t\t\t\t\t\t\n")))) ≡ whole
+  pub next_tab_is_followed : view_of 0 (after_following 0 (with_sels 0 (alone true (only 10)) (holding (codes "\t\t\t\t\t\t\t\t\t\t\t\n"))))
       ≡ record { top = 0; left = 8; rows = 24; columns = 80 }
 
 pub record Examples : Type 0 where
@@ -181,21 +181,21 @@ pub record Examples : Type 0 where
     info = Keep;
   }
   pub drawn_before : (drawing_of 0 (with_drawn 0 opened)).first ≡ false
-  pub cursor_in_the_middle : drawn_lines (codes "abc\n") (one (only 1)) whole
+  pub cursor_in_the_middle : drawn_lines (codes "abc\n") (alone true (only 1)) whole
       ≡ line (bare (codes "a") ∷ under_cursor (codes "b") ∷ bare (codes "c\n") ∷ []) ∷ []
   -- a selection over two lines, with its cursor at its begin
-  pub turned_selection : drawn_lines (codes "ab\ncd\n") (one (record (between 1 3) { turned = true })) whole
+  pub turned_selection : drawn_lines (codes "ab\ncd\n") (alone true (record (between 1 3) { turned = true })) whole
       ≡ line (bare (codes "a") ∷ under_cursor (codes "b") ∷ atom (codes "\n") named.White named.Blue ∷ [])
       ∷ line (atom (codes "c") named.White named.Blue ∷ bare (codes "d\n") ∷ []) ∷ []
   -- the second selection is the main one
   pub two_selections : drawn_lines (codes "abcdef\n") (record { list = between 0 1 ∷ between 3 4 ∷ []; main = 1 }) whole
       ≡ line (atom (codes "a") named.Black named.Blue ∷ under_cursor (codes "b") ∷ bare (codes "c")
       ∷ atom (codes "d") named.White named.Blue ∷ under_cursor (codes "e") ∷ bare (codes "f\n") ∷ []) ∷ []
-  pub cut_at_both_sides : drawn_lines (codes "abcdefg\n") (one (only 3)) (narrow 0 2)
+  pub cut_at_both_sides : drawn_lines (codes "abcdefg\n") (alone true (only 3)) (narrow 0 2)
       ≡ line (bare (codes "c") ∷ under_cursor (codes "d") ∷ bare (codes "e") ∷ []) ∷ []
-  pub cut_whole : drawn_lines (codes "ab\ncdefg\n") (one (only 6)) (narrow 0 3) ≡ line [] ∷ line (under_cursor (codes "f") ∷ bare (codes "g\n") ∷ []) ∷ []
-  pub from_the_top : drawn_lines (codes "a\nb\nc\nd\n") (one (only 4)) (narrow 1 0) ≡ line (bare (codes "b\n") ∷ []) ∷ line (under_cursor (codes "c") ∷ bare (codes "\n") ∷ []) ∷ []
-  pub below_the_end : drawn_lines (codes "a\n") (one (only 0)) (narrow 1 0) ≡ []
+  pub cut_whole : drawn_lines (codes "ab\ncdefg\n") (alone true (only 6)) (narrow 0 3) ≡ line [] ∷ line (under_cursor (codes "f") ∷ bare (codes "g\n") ∷ []) ∷ []
+  pub from_the_top : drawn_lines (codes "a\nb\nc\nd\n") (alone true (only 4)) (narrow 1 0) ≡ line (bare (codes "b\n") ∷ []) ∷ line (under_cursor (codes "c") ∷ bare (codes "\n") ∷ []) ∷ []
+  pub below_the_end : drawn_lines (codes "a\n") (alone true (only 0)) (narrow 1 0) ≡ []
   pub nothing_said : atoms_of (status_line Normal Quiet []) ≡ []
   pub said : atoms_of (status_line Insert (Said (codes "hi")) []) ≡ atom (codes "hi") named.Cyan named.Default ∷ []
   pub refused : atoms_of (status_line Normal (Refused (codes "no")) []) ≡ atom (codes "no") named.Black named.Red ∷ []
@@ -206,5 +206,5 @@ pub record Examples : Type 0 where
   pub cursor_in_window : cursor_drawn Insert 1 3 (narrow 1 2) [] ≡ record { prompt = false; line = 0; column = 1 }
   pub mode_of_second : mode_text (main_cursor (codes "a\nbc\n") (record { list = only 0 ∷ only 3 ∷ []; main = 1 })) Insert (record { list = only 0 ∷ only 3 ∷ []; main = 1 }) 2
       ≡ codes "*scratch* 2:2 insert 2/2 - client2"
-  pub followed_world : view_of 0 (after_following 0 (with_sels 0 (one (only 82)) (holding (codes "----------------------------------------------------------------------------------\n"))))
+  pub followed_world : view_of 0 (after_following 0 (with_sels 0 (alone true (only 82)) (holding (codes "----------------------------------------------------------------------------------\n"))))
       ≡ record { top = 0; left = 3; rows = 24; columns = 80 }

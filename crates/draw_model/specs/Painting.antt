@@ -21,10 +21,6 @@ use Rattle.draw_model.specs.Atoms.{with_all_shown}
 use Rattle.draw_model.specs.Cells.{right_of, char_drawn}
 use Rattle.draw_model.specs.Drawings.{shown_from}
 
--- the list of one selection
-abbrev pub one : Range → Selected
-one r = record { list = r ∷ []; main = 0 }
-
 -- the list of one selection, which is the main one or another
 abbrev pub alone : Bool → Range → Selected
 alone main r = record { list = r ∷ []; main = if main then 0 else 1 }
