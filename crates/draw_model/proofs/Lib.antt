@@ -3,9 +3,11 @@ pub mod CellLemmas
 pub mod CursorLemmas
 pub mod DrawnLemmas
 pub mod FaceLemmas
+pub mod HolderLemmas
 pub mod LawLemmas
 pub mod LineLemmas
 pub mod ListLemmas
+pub mod MarkLemmas
 pub mod ModeLemmas
 pub mod PaintedLemmas
 pub mod PartLemmas

@@ -14,6 +14,7 @@ use Rattle.kak_world.specs.Flat.{Flat, opening, joined_by, with_sels, with_drawn
 use Rattle.draw_model.specs.Atoms.{atoms_of}
 use Rattle.draw_model.specs.Cells.{char_drawn}
 use Rattle.draw_model.specs.Drawings.{drawn_lines, status_line, cursor_drawn, main_column, main_cells, main_cursor, mode_text, after_following, drawing_of}
+use Rattle.draw_model.specs.Laws.{seen_of}
 use Rattle.draw_model.specs.Painting.{alone}
 
 -- an atom of ASCII characters in two colours
@@ -97,6 +98,24 @@ pub record LineExamples : Type 0 where
   pub mark_at_the_right : drawn_lines (0x61 ∷ 0x62 ∷ 0x65 ∷ 0x0301 ∷ 10 ∷ []) (alone true (only 0)) (narrow 0 0) ≡ line (under_cursor (codes "a") ∷ bare (codes "be") ∷ []) ∷ []
   pub control : drawn_lines (0x61 ∷ 0x1B ∷ 0x62 ∷ 10 ∷ []) (alone true (only 0)) whole ≡ line (under_cursor (codes "a") ∷ bare (0xFFFD ∷ 0x62 ∷ 10 ∷ []) ∷ []) ∷ []
 
+-- what a window of 3 columns whose first is that display column shows in each cell of the n-th character of a line
+abbrev pub seen_in_narrow : ℕ → List ℕ → ℕ → ℕ
+seen_in_narrow left line n = (seen_of (alone true (only 0)) (narrow 0 left) 0 line n).char
+
+-- of the cells of the characters of lines
+pub record SeenExamples : Type 0 where
+  pub letter : seen_in_narrow 0 (codes "abc\n") 1 ≡ 0x62
+  pub whole_tab : seen_in_narrow 7 (codes "1234567\tb\n") 7 ≡ 32
+  pub tab_cut_at_the_left : seen_in_narrow 6 (codes "a\tb\n") 1 ≡ 32
+  pub letter_behind_a_cut_tab : seen_in_narrow 6 (codes "a\tb\n") 2 ≡ 0x62
+  pub wide_inside : seen_in_narrow 0 (0x61 ∷ 0x6F22 ∷ 10 ∷ []) 1 ≡ 0x6F22
+  pub wide_cut_at_the_right : seen_in_narrow 0 (0x61 ∷ 0x62 ∷ 0x6F22 ∷ 10 ∷ []) 2 ≡ 32
+  -- the mark takes no cell, so the character behind it ends where the window does
+  pub wide_behind_a_mark : seen_in_narrow 0 (0x65 ∷ 0x0301 ∷ 0x6F22 ∷ 10 ∷ []) 2 ≡ 0x6F22
+  pub control : seen_in_narrow 0 (0x61 ∷ 0x1B ∷ 10 ∷ []) 1 ≡ 0xFFFD
+  pub newline : seen_in_narrow 0 (codes "ab\n") 2 ≡ 10
+  pub face_of_the_cursor : seen_of (alone true (only 1)) (narrow 0 0) 0 (codes "abc\n") 1 ≡ record { char = 0x62; face = plain_face named.Black named.White }
+
 -- a turned selection
 abbrev pub turned_between : ℕ → ℕ → Range
 turned_between a b = record (between a b) { turned = true }
@@ -167,6 +186,7 @@ pub record PlaceExamples : Type 0 where
 pub record Examples : Type 0 where
   pub chars : CharExamples
   pub cells : LineExamples
+  pub seen : SeenExamples
   pub lists : ListExamples
   pub places : PlaceExamples
   pub opened_world : drawing_of 0 opened ≡ record {

@@ -1,14 +1,16 @@
 -- Laws of atoms and of lines, each proved as the contract of a function of `laws`.
-use Rattle.std.specs.Prelude.{◌≡◌, ℕ, ◌+◌, ◌<◌, ◌≤◌, false, List, [], ◌∷◌, ◌++◌, length, take, drop}
-use Rattle.std.specs.List.{AllByRecursion}
+use Rattle.std.specs.Prelude.{◌≡◌, ℕ, ◌+◌, ◌-◌, ◌<◌, ◌≤◌, Bool, true, false, ◌==◌, ◌&&◌, nat_le, if◌then◌else◌, List, [], ◌∷◌, ◌++◌, length, map, filter, take, drop, slice_index, slice_get, Some}
+use Rattle.std.specs.Char.{is_control}
+use Rattle.std.specs.List.{AllByRecursion, range_with_len}
 use Rattle.list_model.specs.Ranges.{Selected}
-use Rattle.kak_text.specs.Cells.{cells_of}
+use Rattle.kak_text.specs.Cells.{cells_of, column_behind, display_column}
 use Rattle.window_view.specs.View.{View, text_columns}
+use Rattle.window_view.specs.Holding.{HoldsCell}
 use Rattle.kak_faces.specs.Same.{same_face}
 use Rattle.json_ui.specs.declared.drawing.Atom.{Atom}
 use Rattle.kak_world.specs.declared.state.TheConstants.{TABSTOP}
 use Rattle.draw_model.specs.Atoms.{Shown, shown_in}
-use Rattle.draw_model.specs.Cells.{whole_drawn}
+use Rattle.draw_model.specs.Cells.{right_of, is_inside, cells_inside, whole_drawn}
 use Rattle.draw_model.specs.Drawings.{face_at, shown_from}
 
 -- the characters of atoms, each in its face
@@ -41,3 +43,65 @@ PlainLinesAreCut = (sels : Selected) (view : View) (o : ℕ) (line : List ℕ) �
 pub record AsciiIsPlain : Type 0 where
   pub printable : (c : ℕ) → 0x20 ≤ c → c < 0x7F → IsPlain c
   pub newline : IsPlain 10
+
+-- the characters that are shown, without their faces
+abbrev pub chars_of : List Shown → List ℕ
+chars_of shown = map (λ s. s.char) shown
+
+-- a character in its face that holds a cell of what is shown
+pub record ShowsInCell (shown : List Shown) (cell : ℕ) (s : Shown) : Type 0 where
+  pub place : ℕ
+  pub holds : HoldsCell (chars_of shown) TABSTOP place cell
+  pub is : slice_get shown place ≡ Some s
+
+-- a character in its face that begins at a column of what is shown
+pub record ShowsAtColumn (shown : List Shown) (column : ℕ) (s : Shown) : Type 0 where
+  pub place : ℕ
+  pub begins : display_column (chars_of shown) place TABSTOP ≡ column
+  pub is : slice_get shown place ≡ Some s
+
+-- what stands in each cell of a character: for a tab (9) a space (32), for a newline (10) itself, for another control
+-- character the replacement character, and for all else itself
+abbrev pub look_of : ℕ → ℕ
+look_of c = if c == 9 then 32 else (if c == 10 then c else (if is_control c then 0xFFFD else c))
+
+-- what a window shows in the cells of a character that begins and ends at these display columns: what stands there, or a
+-- space where an edge of the window cuts it
+abbrev pub seen_as : View → ℕ → ℕ → ℕ → ℕ
+seen_as view begin behind c = if nat_le view.left begin && nat_le behind (right_of view) then look_of c else 32
+
+-- a character in the face of the n-th one of a line that begins at an offset
+abbrev pub in_face_of : Selected → ℕ → List ℕ → ℕ → ℕ → Shown
+in_face_of sels o line n c = record { char = c; face = face_at sels (o + n) (slice_index line n) }
+
+-- what a window shows in the cells of the n-th character of a line that begins at an offset
+abbrev pub seen_of : Selected → View → ℕ → List ℕ → ℕ → Shown
+seen_of sels view o line n =
+    in_face_of sels o line n (seen_as view (display_column line n TABSTOP) (display_column line (n + 1) TABSTOP) (slice_index line n))
+
+-- the n-th character of a line that begins at an offset, as itself
+abbrev pub itself_of : Selected → ℕ → List ℕ → ℕ → Shown
+itself_of sels o line n = in_face_of sels o line n (slice_index line n)
+
+-- whether a character has no cells
+abbrev pub is_mark : ℕ → Bool
+is_mark c = cells_of c 0 TABSTOP == 0
+
+-- whether the n-th character of a line has none, and begins in a window
+abbrev pub is_mark_inside : View → List ℕ → ℕ → Bool
+is_mark_inside view line n = is_mark (slice_index line n) && is_inside view (display_column line n TABSTOP)
+
+-- what a window shows of a line, cell by cell
+pub record WindowsShowCells : Type 0 where
+  -- each cell of the window shows the character of the line that holds it
+  pub holder : (sels : Selected) (view : View) (o : ℕ) (line : List ℕ) (n cell : ℕ) → HoldsCell line TABSTOP n cell → view.left ≤ cell → cell < right_of view
+      → ShowsInCell (shown_from sels view o 0 line) (cell - view.left) (seen_of sels view o line n)
+  -- there are as many cells as of the line's cells lie in the window
+  pub width : (sels : Selected) (view : View) (o : ℕ) (line : List ℕ)
+      → column_behind TABSTOP 0 (chars_of (shown_from sels view o 0 line)) ≡ cells_inside view 0 (column_behind TABSTOP 0 line)
+  -- the characters without cells are those of the line that begin in the window, in their order
+  pub marks : (sels : Selected) (view : View) (o : ℕ) (line : List ℕ)
+      → filter (λ s. is_mark s.char) (shown_from sels view o 0 line) ≡ map (itself_of sels o line) (filter (is_mark_inside view line) (range_with_len 0 (length line)))
+  -- and each of them is shown where it begins
+  pub mark : (sels : Selected) (view : View) (o : ℕ) (line : List ℕ) (n : ℕ) → n < length line → is_mark_inside view line n ≡ true
+      → ShowsAtColumn (shown_from sels view o 0 line) (display_column line n TABSTOP - view.left) (itself_of sels o line n)

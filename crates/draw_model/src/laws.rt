@@ -2,7 +2,7 @@
 
 ghost use Rattle.std.specs.Prelude.{◌≡◌, List};
 ghost use Rattle.draw_model.specs.Atoms.{Shown, atoms_of};
-ghost use Rattle.draw_model.specs.Laws.{spelled, AreRuns, PlainLinesAreCut, AsciiIsPlain};
+ghost use Rattle.draw_model.specs.Laws.{spelled, AreRuns, PlainLinesAreCut, AsciiIsPlain, WindowsShowCells};
 ghost use Rattle.draw_model.specs.Examples.{Examples};
 
 /// The atoms of characters, spelled out again, are these characters; no atom is empty, and neighbours have different
@@ -18,6 +18,13 @@ pub fn atoms_are_runs()
 pub fn plain_lines_are_cut()
     ensures cut { PlainLinesAreCut }
     ensures ascii { AsciiIsPlain }
+{}
+
+/// Of any line, each cell of a window shows the character that holds it, in its face, or a space where an edge of the
+/// window cuts that character, and there are no more cells; the characters without cells that begin in the window are
+/// shown there, in their order, and no others. The function does nothing; its clause is the law.
+pub fn windows_show_cells()
+    ensures { WindowsShowCells }
 {}
 
 /// Drawings of given worlds. The function does nothing; its clause is the table.

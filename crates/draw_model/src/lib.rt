@@ -14,7 +14,7 @@ mod window_lines;
 
 pub use atoms::{push_run, push_shown};
 pub use drawing::{draw, follow_cursor};
-pub use laws::{atoms_are_runs, plain_lines_are_cut, worked_examples};
+pub use laws::{atoms_are_runs, plain_lines_are_cut, windows_show_cells, worked_examples};
 
 #[cfg(test)]
 mod tests;

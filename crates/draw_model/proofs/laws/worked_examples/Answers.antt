@@ -4,7 +4,7 @@ use Rattle.std.specs.Prelude.{decimal}
 use Rattle.std.proofs.lemmas.Fmt.{decimal_digit}
 use Rattle.unicode_width.proofs.Computing.{unicode_width}
 use Rattle.draw_model.specs.Drawings.{drawing_of}
-use Rattle.draw_model.specs.Examples.{CharExamples, LineExamples, ListExamples, PlaceExamples}
+use Rattle.draw_model.specs.Examples.{CharExamples, LineExamples, SeenExamples, ListExamples, PlaceExamples}
 use Rattle.draw_model.proofs.laws.worked_examples.Goals as goal
 
 chars : CharExamples
@@ -13,6 +13,10 @@ chars = search
 cells : LineExamples
 unfolding unicode_width
 cells = search
+
+seen : SeenExamples
+unfolding unicode_width
+seen = search
 
 lists : ListExamples
 unfolding unicode_width
@@ -47,6 +51,7 @@ returns c =
     record {
       chars = chars;
       cells = cells;
+      seen = seen;
       lists = lists;
       places = places;
       opened_world = rw (one, zero) refl;
