@@ -1,37 +1,92 @@
-use crate::{Engine, Event, Output, StepFault};
+use crate::{Engine, Entry, Event, Output, StepFault};
+use StepFault::{Full, HistoryFull, Joined, NoClient};
+use Told::{Drew, MayLeave, Ran, Refused};
 use key_names::{Base, Key, read_keys};
 use std::alloc::Global;
 use std::test::Fail;
 
-const A_KEY: Event = Event::Key(Key {
-    control: false,
-    alt: false,
-    shift: false,
-    base: Base::Char('i'),
-});
+// The client strikes a key without modifiers.
+fn struck(base: Base) -> Event {
+    Event::Key(Key {
+        control: false,
+        alt: false,
+        shift: false,
+        base,
+    })
+}
 
-// Whether a step was refused, and for this reason.
-fn is_refused(step: Result<Output, StepFault>, fault: StepFault) -> bool {
+// The client strikes a letter.
+fn letter(char: char) -> Event {
+    struck(Base::Char(char))
+}
+
+// What a step told.
+#[derive(Clone, Copy, PartialEq, Eq, Debug)]
+enum Told {
+    // It ran; nothing was drawn.
+    Ran,
+    // It drew the client.
+    Drew,
+    // The client may leave by it.
+    MayLeave,
+    // It was refused, and for this reason.
+    Refused(StepFault),
+}
+
+// What a step told, by its result.
+fn told_by(step: Result<Output, StepFault>) -> Told {
     match step {
-        Ok(_) => false,
-        Err(found) => found == fault,
+        Ok(output) if output.leaving => MayLeave,
+        Ok(output) if output.drawing.is_some() => Drew,
+        Ok(_) => Ran,
+        Err(fault) => Refused(fault),
     }
 }
 
-// Lets a client strike the keys of a key text. Gives for each key whether the client was granted to leave by it.
-fn type_keys(engine: &mut Engine, alloc: Global, who: u32, text: &str) -> Result<Vec<bool>, Fail> {
-    let keys = read_keys(alloc, text)?;
-    let mut granted = Vec::new(alloc);
-    for key in keys.as_slice() {
-        granted.push(engine.step(alloc, who, Event::Key(*key))?.leaving)?;
+// A new engine takes events of clients. Each row has what its step is to tell and how many entries are to stand then.
+// Gives the first row where it was otherwise, and what came.
+fn first_wrong(
+    alloc: Global,
+    limit: u64,
+    rows: &[(u32, Event, Told, u64)],
+) -> Result<Option<(usize, Told, u64)>, Fail> {
+    let mut engine = Engine::new(alloc, limit)?;
+    for (number, &(who, event, wanted, entries)) in rows.iter().enumerate() {
+        let told = told_by(engine.step(alloc, who, event));
+        if told != wanted || engine.count() != entries {
+            return Ok(Some((number, told, engine.count())));
+        }
     }
-    Ok(granted)
+    Ok(None)
+}
+
+// What a client was told at its keys, and what its engine had then.
+#[derive(Drop)]
+struct Typed {
+    answers: Vec<Told>,
+    entries: u64,
+    keys: usize,
+}
+
+// A client joins a new engine and strikes the keys of a key text.
+fn type_keys(alloc: Global, who: u32, text: &str) -> Result<Typed, Fail> {
+    let mut engine = Engine::new(alloc, 100)?;
+    engine.step(alloc, who, Event::Join)?;
+    let keys = read_keys(alloc, text)?;
+    let mut answers = Vec::new(alloc);
+    for key in keys.as_slice() {
+        answers.push(told_by(engine.step(alloc, who, Event::Key(*key))))?;
+    }
+    Ok(Typed {
+        answers,
+        entries: engine.count(),
+        keys: count_keys(engine.history(), who),
+    })
 }
 
 // How many entries of a history are a key of the client.
-fn count_keys(engine: &Engine, who: u32) -> usize {
-    engine
-        .history()
+fn count_keys(history: &[Entry], who: u32) -> usize {
+    history
         .iter()
         .filter(|entry| entry.who == who && matches!(entry.event, Event::Key(_)))
         .count()
@@ -39,126 +94,109 @@ fn count_keys(engine: &Engine, who: u32) -> usize {
 
 #[test]
 fn a_client_that_never_joined_is_refused(rt: HostRuntime) -> Result<(), Fail> {
-    let alloc = rt.alloc();
-    let mut engine = Engine::new(alloc, 10)?;
-    assert!(rt; is_refused(engine.step(alloc, 0, A_KEY), StepFault::NoClient(0)));
-    assert!(rt; is_refused(engine.step(alloc, 7, Event::Leave), StepFault::NoClient(7)));
-    assert!(rt;
-        is_refused(
-            engine.step(alloc, 0, Event::Refresh(true)),
-            StepFault::NoClient(0)
-        )
-    );
-    assert_eq!(rt; engine.count(), 0);
-    engine.step(alloc, 0, Event::Join)?;
-    assert!(rt; is_refused(engine.step(alloc, 1, A_KEY), StepFault::NoClient(1)));
-    assert_eq!(rt; engine.count(), 1);
+    let rows = [
+        (0, letter('i'), Refused(NoClient(0)), 0),
+        (7, Event::Leave, Refused(NoClient(7)), 0),
+        (0, Event::Refresh(true), Refused(NoClient(0)), 0),
+        (0, Event::Join, Ran, 1),
+        (1, letter('i'), Refused(NoClient(1)), 1),
+    ];
+    assert_eq!(rt; first_wrong(rt.alloc(), 10, &rows)?, None);
     Ok(())
 }
 
 #[test]
 fn a_client_joins_once(rt: HostRuntime) -> Result<(), Fail> {
-    let alloc = rt.alloc();
-    let mut engine = Engine::new(alloc, 10)?;
-    assert!(rt; engine.step(alloc, 0, Event::Join)?.drawing.is_none());
-    assert!(rt; is_refused(engine.step(alloc, 0, Event::Join), StepFault::Joined(0)));
-    engine.step(alloc, 0, Event::Leave)?;
-    assert!(rt; is_refused(engine.step(alloc, 0, Event::Leave), StepFault::NoClient(0)));
-    assert!(rt; is_refused(engine.step(alloc, 0, Event::Join), StepFault::Joined(0)));
-    assert_eq!(rt; engine.count(), 2);
+    let rows = [
+        (0, Event::Join, Ran, 1),
+        (0, Event::Join, Refused(Joined(0)), 1),
+        (0, Event::Leave, Ran, 2),
+        (0, Event::Leave, Refused(NoClient(0)), 2),
+        (0, Event::Join, Refused(Joined(0)), 2),
+    ];
+    assert_eq!(rt; first_wrong(rt.alloc(), 10, &rows)?, None);
     Ok(())
 }
 
 #[test]
 fn another_client_may_join_once_the_first_has_left(rt: HostRuntime) -> Result<(), Fail> {
-    let alloc = rt.alloc();
-    let mut engine = Engine::new(alloc, 10)?;
-    engine.step(alloc, 0, Event::Join)?;
-    assert!(rt; is_refused(engine.step(alloc, 1, Event::Join), StepFault::Full));
-    engine.step(alloc, 0, Event::Leave)?;
-    engine.step(alloc, 1, Event::Join)?;
-    assert!(rt; is_refused(engine.step(alloc, 0, A_KEY), StepFault::NoClient(0)));
-    assert!(rt; engine.step(alloc, 1, A_KEY).is_ok());
-    assert_eq!(rt; engine.count(), 4);
+    let rows = [
+        (0, Event::Join, Ran, 1),
+        (1, Event::Join, Refused(Full), 1),
+        (0, Event::Leave, Ran, 2),
+        (1, Event::Join, Ran, 3),
+        (0, letter('i'), Refused(NoClient(0)), 3),
+        (1, letter('i'), Ran, 4),
+    ];
+    assert_eq!(rt; first_wrong(rt.alloc(), 10, &rows)?, None);
     Ok(())
 }
 
 #[test]
 fn a_full_history_takes_no_more_than_a_leave(rt: HostRuntime) -> Result<(), Fail> {
-    let alloc = rt.alloc();
-    let mut engine = Engine::new(alloc, 2)?;
-    engine.step(alloc, 0, Event::Join)?;
-    engine.step(alloc, 0, A_KEY)?;
-    assert!(rt; is_refused(engine.step(alloc, 0, A_KEY), StepFault::HistoryFull));
-    assert!(rt;
-        is_refused(
-            engine.step(alloc, 0, Event::Refresh(false)),
-            StepFault::HistoryFull
-        )
-    );
-    assert!(rt; is_refused(engine.step(alloc, 1, Event::Join), StepFault::HistoryFull));
-    assert_eq!(rt; engine.count(), 2);
-    engine.step(alloc, 0, Event::Leave)?;
-    assert_eq!(rt; engine.count(), 3);
+    let rows = [
+        (0, Event::Join, Ran, 1),
+        (0, letter('i'), Ran, 2),
+        (0, letter('i'), Refused(HistoryFull), 2),
+        (0, Event::Refresh(false), Refused(HistoryFull), 2),
+        (1, Event::Join, Refused(HistoryFull), 2),
+        (0, Event::Leave, Ran, 3),
+    ];
+    assert_eq!(rt; first_wrong(rt.alloc(), 2, &rows)?, None);
     Ok(())
 }
 
 #[test]
 fn the_first_reason_is_told(rt: HostRuntime) -> Result<(), Fail> {
-    let alloc = rt.alloc();
-    let mut engine = Engine::new(alloc, 1)?;
-    engine.step(alloc, 0, Event::Join)?;
-    assert!(rt; is_refused(engine.step(alloc, 0, Event::Join), StepFault::Joined(0)));
-    assert!(rt; is_refused(engine.step(alloc, 1, A_KEY), StepFault::NoClient(1)));
-    assert!(rt; is_refused(engine.step(alloc, 1, Event::Join), StepFault::HistoryFull));
-    let mut none = Engine::new(alloc, 0)?;
-    assert!(rt; is_refused(none.step(alloc, 0, A_KEY), StepFault::NoClient(0)));
-    assert!(rt; is_refused(none.step(alloc, 0, Event::Join), StepFault::HistoryFull));
+    let one_entry = [
+        (0, Event::Join, Ran, 1),
+        (0, Event::Join, Refused(Joined(0)), 1),
+        (1, letter('i'), Refused(NoClient(1)), 1),
+        (1, Event::Join, Refused(HistoryFull), 1),
+    ];
+    assert_eq!(rt; first_wrong(rt.alloc(), 1, &one_entry)?, None);
+    let no_entry = [
+        (0, letter('i'), Refused(NoClient(0)), 0),
+        (0, Event::Join, Refused(HistoryFull), 0),
+    ];
+    assert_eq!(rt; first_wrong(rt.alloc(), 0, &no_entry)?, None);
     Ok(())
 }
 
 #[test]
 fn each_key_is_an_entry(rt: HostRuntime) -> Result<(), Fail> {
-    let alloc = rt.alloc();
-    let mut engine = Engine::new(alloc, 100)?;
-    engine.step(alloc, 3, Event::Join)?;
-    let granted = type_keys(&mut engine, alloc, 3, "ihello<ret>there<esc>hjkl")?;
-    assert_eq!(rt; granted.len(), 17);
-    assert!(rt; !granted.as_slice().iter().any(|leaving| *leaving));
-    assert_eq!(rt; engine.count(), 18);
-    assert_eq!(rt; count_keys(&engine, 3), 17);
+    let typed = type_keys(rt.alloc(), 3, "ihello<ret>there<esc>hjkl")?;
+    assert!(rt; typed.answers.as_slice() == [Ran; 17].as_slice());
+    assert_eq!(rt; (typed.entries, typed.keys), (18, 17));
     Ok(())
 }
 
 #[test]
 fn quitting_is_granted_once(rt: HostRuntime) -> Result<(), Fail> {
-    let alloc = rt.alloc();
-    let mut engine = Engine::new(alloc, 100)?;
-    engine.step(alloc, 0, Event::Join)?;
-    let granted = type_keys(&mut engine, alloc, 0, ":q<ret>")?;
-    assert!(rt; granted.as_slice() == [false, false, true].as_slice());
-    let later = type_keys(&mut engine, alloc, 0, "ix<esc>:q<ret>")?;
-    assert_eq!(rt; later.len(), 6);
-    assert!(rt; !later.as_slice().iter().any(|leaving| *leaving));
-    assert_eq!(rt; engine.count(), 10);
-    engine.step(alloc, 0, Event::Leave)?;
-    assert!(rt; is_refused(engine.step(alloc, 0, A_KEY), StepFault::NoClient(0)));
+    let rows = [
+        (0, Event::Join, Ran, 1),
+        (0, letter(':'), Ran, 2),
+        (0, letter('q'), Ran, 3),
+        (0, struck(Base::Ret), MayLeave, 4),
+        (0, letter('i'), Ran, 5),
+        (0, letter('x'), Ran, 6),
+        (0, struck(Base::Esc), Ran, 7),
+        (0, letter(':'), Ran, 8),
+        (0, letter('q'), Ran, 9),
+        (0, struck(Base::Ret), Ran, 10),
+        (0, Event::Refresh(true), Drew, 11),
+        (0, Event::Leave, Ran, 12),
+        (0, letter('i'), Refused(NoClient(0)), 12),
+    ];
+    assert_eq!(rt; first_wrong(rt.alloc(), 100, &rows)?, None);
     Ok(())
 }
 
 #[test]
 fn other_commands_and_typed_text_grant_no_leave(rt: HostRuntime) -> Result<(), Fail> {
-    let alloc = rt.alloc();
-    let mut engine = Engine::new(alloc, 100)?;
-    engine.step(alloc, 0, Event::Join)?;
-    let granted = type_keys(
-        &mut engine,
-        alloc,
-        0,
-        ":nope<ret>:<ret>:q<esc>i:q<ret><esc>",
-    )?;
-    assert!(rt; !granted.as_slice().iter().any(|leaving| *leaving));
-    let last = type_keys(&mut engine, alloc, 0, ":q<ret>")?;
-    assert!(rt; last.as_slice() == [false, false, true].as_slice());
+    let typed = type_keys(rt.alloc(), 0, ":nope<ret>:<ret>:q<esc>i:q<ret><esc>:q<ret>")?;
+    let mut wanted = [Ran; 19];
+    wanted[18] = MayLeave;
+    assert!(rt; typed.answers.as_slice() == wanted.as_slice());
     Ok(())
 }
