@@ -1,5 +1,5 @@
 -- What a run of the program did: the promise of `kak`.
-use Rattle.std.specs.Prelude.{ℕ, ◌⊎◌, List, [], ◌∷◌, codes, Ok, Err}
+use Rattle.std.specs.Prelude.{ℕ, ◌≤◌, ◌⊎◌, List, [], ◌∷◌, length, codes, ⊤, Ok, Err, IfErr, OnOk}
 use Rattle.std.specs.declared.option.Option.{Option}
 use Rattle.std.specs.declared.result.Result.{Result}
 use Rattle.std.specs.Io.KnownBytes.{Keeps}
@@ -10,7 +10,7 @@ use Rattle.session_lines.specs.declared.playing.Stop.TheVariants as stop
 use Rattle.session_lines.specs.declared.reading.InputEnd.{InputEnd}
 use Rattle.session_lines.specs.declared.reading.InputEnd.TheVariants as ending
 use Rattle.session_lines.specs.Session.{AreOf}
-use Rattle.session_lines.specs.Stops.{Causes}
+use Rattle.session_lines.specs.Stops.{Stopped}
 use Rattle.session_lines.specs.Connections.{WasServed}
 use Rattle.kak_app.specs.declared.program.TheConstants.{MAX_ENTRIES}
 use Rattle.kak_app.specs.declared.program.Status.{Status}
@@ -32,14 +32,13 @@ ui_json = codes "-ui" ∷ codes "json" ∷ []
 
 -- Client 0 was served: there is a history, with no entry of anybody else, and what was read, what stands in that
 -- history and what was written belong together as they do at the end of a connection. A full history has as many
--- entries as it may have, a broken session has its mark, and a failed write was counted by the output.
+-- entries as it may have, and the output counted a write that failed; where all went well, its count didn't fall.
 pub record Ran (result : Result InputEnd Stop) (left rest before now : Option (List ℕ)) (faults_before faults_now : ℕ) : Type 0 where
   pub history : List Entry
   pub alone : AreOf 0 history
   pub served : WasServed 0 history before now left rest result
-  -- how many entries stood when the session broke, if it broke
-  pub mark : Option ℕ
-  pub cause : Causes result MAX_ENTRIES mark history faults_before faults_now
+  pub cause : IfErr result (λ why. Stopped why (MAX_ENTRIES ≤ length history) (λ at. ⊤) (Rose faults_before faults_now))
+  pub counted : OnOk result (faults_before ≤ faults_now)
 
 -- what each status says of the bytes of the input and of the output, and of the counts of their faults
 abbrev pub Answers : Status → Option (List ℕ) → Option (List ℕ) → Option (List ℕ) → Option (List ℕ) → ℕ → ℕ → ℕ → ℕ → Type 0

@@ -1,10 +1,11 @@
 -- From what was played of a connection to what stands when it has ended.
-use Rattle.std.proofs.Common.{◌≡◌, ℕ, ◌+◌, ◌⊎◌, inl, inr, Bool, true, false, List, [], ◌∷◌, ◌++◌, length, map, Ok, Err, refl, sym, ap, ◌∙◌, subst, arith, append-nil, length-append}
+use Rattle.std.proofs.Common.{◌≡◌, ℕ, ◌+◌, ◌≤◌, ◌⊎◌, inl, inr, Bool, true, false, List, [], ◌∷◌, ◌++◌, length, map, Ok, Err, refl, sym, ap, ◌∙◌, subst, arith, append-nil, length-append}
 use Rattle.std.specs.Prelude.{Some, IfSome}
 use Rattle.std.specs.declared.option.Option.{Option}
 use Rattle.std.specs.declared.result.Result.{Result}
 use Rattle.std.proofs.lemmas.Bool.{eq-eqb}
 use Rattle.std.proofs.KnownBytes.{Consumes-nil}
+use Rattle.kak_ports.specs.Ports.{Rose}
 use Rattle.session_turns.specs.Lines.{whole_lines, last_part, as_line, lines_of_input}
 use Rattle.session_turns.specs.Histories.{Answer, own, answers}
 use Rattle.session_turns.specs.Turns.{Opens, Line, lines_among}
@@ -21,10 +22,11 @@ use Rattle.session_lines.specs.declared.playing.Stop.TheVariants as stop
 use Rattle.session_lines.specs.declared.reading.InputEnd.{InputEnd}
 use Rattle.session_lines.specs.declared.reading.InputEnd.TheVariants.{Left, Ended, ReadFault, Full}
 use Rattle.session_lines.specs.Session.{Sees, rules, protocol}
-use Rattle.session_lines.specs.Stops.{IsLoss, Caused, Causes}
+use Rattle.session_lines.specs.Stops.{IsLoss, Stopped, Causes}
 use Rattle.session_lines.specs.Serving.{Serves, HasGone, how_of, how_opened}
 use Rattle.session_lines.specs.Reading.{Reads, how_read}
 use Rattle.session_lines.specs.Connections.{end_of, Plays, WasServed}
+use Rattle.session_lines.proofs.StayingLemmas.{stopped-as}
 use Rattle.session_lines.proofs.LineLemmas.{turns-append}
 use Rattle.session_lines.proofs.ServingLemmas.{serves-append, serves-over}
 
@@ -254,15 +256,16 @@ all-left (Err stop.WriteFault) who n mid new a b left rest same p g = lost-behin
 -- why a connection ended, behind its leaving: the history is still full, a mark still set, and a fault still counted
 pub causes-later : (r : Result InputEnd Stop) (limit who : ℕ) (marked mark : Option ℕ) (mid new : List Entry) (a b : ℕ) → HasGone who mid new → IfSome marked (λ at. mark ≡ Some at) → Causes r limit marked mid a b → Causes r limit mark new a b
 causes-later (Ok ending) limit who marked mark mid new a b g m c = c
-causes-later (Err stop.HistoryFull) limit who marked mark mid new a b g m c =
-    let n : length new ≡ length (mid ++ g.between) + 1 = ap length g.stands ∙ length-append (mid ++ g.between) (entry_of who Leave ∷ []) in
-    omega (arith, n, length-append mid g.between, c)
-causes-later (Err (stop.Broken at)) limit who marked mark mid new a b g m c = subst (λ q. IfSome q (λ at. mark ≡ Some at)) c m
-causes-later (Err stop.NoMemory) limit who marked mark mid new a b g m c = tt
-causes-later (Err stop.WriteFault) limit who marked mark mid new a b g m c = c
+causes-later (Err why) limit who marked mark mid new a b g m c =
+    stopped-as why (limit ≤ length mid) (limit ≤ length new) (λ at. marked ≡ Some at) (λ at. mark ≡ Some at) (Rose a b) (Rose a b)
+    longer (λ at e. subst (λ q. IfSome q (λ n. mark ≡ Some n)) e m) (λ r. r) c
+  where
+    longer : limit ≤ length mid → limit ≤ length new
+    longer l =
+        let n : length new ≡ length (mid ++ g.between) + 1 = ap length g.stands ∙ length-append (mid ++ g.between) (entry_of who Leave ∷ []) in
+        omega (arith, n, length-append mid g.between, l)
 
-pub loss-caused : (why : Stop) (limit : ℕ) (mark : Option ℕ) (seen : List Entry) (a b : ℕ) → IsLoss why mark → Caused why limit mark seen a b
-loss-caused stop.HistoryFull limit mark seen a b l = absurd l
-loss-caused (stop.Broken at) limit mark seen a b l = l
-loss-caused stop.NoMemory limit mark seen a b l = tt
-loss-caused stop.WriteFault limit mark seen a b l = absurd l
+pub loss-caused : (why : Stop) (limit : ℕ) (mark : Option ℕ) (seen : List Entry) (a b : ℕ) → IsLoss why mark
+    → Stopped why (limit ≤ length seen) (λ at. mark ≡ Some at) (Rose a b)
+loss-caused why limit mark seen a b l =
+    stopped-as why ⊥ (limit ≤ length seen) (λ at. mark ≡ Some at) (λ at. mark ≡ Some at) ⊥ (Rose a b) (λ n. absurd n) (λ at m. m) (λ n. absurd n) l

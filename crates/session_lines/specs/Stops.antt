@@ -19,31 +19,24 @@ pub record Stays (who bound who_now bound_now : ℕ) (seen : List Entry) : Type 
   pub limit : bound_now ≡ bound
   pub joined : IsIn who seen
 
--- why events are stopped: the history is full, the session is broken, or memory was wanting; nothing is written here
-abbrev pub Stopped : Stop → ℕ → Option ℕ → List Entry → Type 0
-Stopped HistoryFull limit mark seen = limit ≤ length seen
-Stopped (Broken at) limit mark seen = mark ≡ Some at
-Stopped NoMemory limit mark seen = ⊤
-Stopped WriteFault limit mark seen = ⊥
+-- why playing stops, where what a full history, a broken session and a failed write mean is handed in; of memory
+-- nothing is said
+abbrev pub Stopped : Stop → Type 0 → (ℕ → Type 0) → Type 0 → Type 0
+Stopped HistoryFull full broken unwritten = full
+Stopped (Broken at) full broken unwritten = broken at
+Stopped NoMemory full broken unwritten = ⊤
+Stopped WriteFault full broken unwritten = unwritten
 
+-- why events are stopped: the history is full, the session is broken, or memory was wanting; nothing is written here
 abbrev pub Stops : {A : Type 0} → Result A Stop → ℕ → Option ℕ → List Entry → Type 0
 Stops (Ok _) limit mark seen = ⊤
-Stops (Err why) limit mark seen = Stopped why limit mark seen
+Stops (Err why) limit mark seen = Stopped why (limit ≤ length seen) (λ at. mark ≡ Some at) ⊥
 
 -- why turns are stopped: as events are, or by a write that failed, which the sink counted
-abbrev pub Caused : Stop → ℕ → Option ℕ → List Entry → ℕ → ℕ → Type 0
-Caused HistoryFull limit mark seen before now = limit ≤ length seen
-Caused (Broken at) limit mark seen before now = mark ≡ Some at
-Caused NoMemory limit mark seen before now = ⊤
-Caused WriteFault limit mark seen before now = Rose before now
-
 abbrev pub Causes : {A : Type 0} → Result A Stop → ℕ → Option ℕ → List Entry → ℕ → ℕ → Type 0
 Causes (Ok _) limit mark seen before now = before ≤ now
-Causes (Err why) limit mark seen before now = Caused why limit mark seen before now
+Causes (Err why) limit mark seen before now = Stopped why (limit ≤ length seen) (λ at. mark ≡ Some at) (Rose before now)
 
 -- why a leaving fails: the session is broken, or memory was wanting
 abbrev pub IsLoss : Stop → Option ℕ → Type 0
-IsLoss HistoryFull mark = ⊥
-IsLoss (Broken at) mark = mark ≡ Some at
-IsLoss NoMemory mark = ⊤
-IsLoss WriteFault mark = ⊥
+IsLoss why mark = Stopped why ⊥ (λ at. mark ≡ Some at) ⊥
