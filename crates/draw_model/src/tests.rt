@@ -6,8 +6,9 @@ ghost use Rattle.kak_world.specs.Flat.{is_joined, text_of};
 use super::*;
 use crate::paint::Paint;
 use crate::window_lines::draw_lines;
-use json_ui::DrawnLine;
+use json_ui::{Drawing, DrawnLine};
 use kak_faces::{Face, StandardFace};
+use kak_text::Chars;
 use kak_world::{Mode, World};
 use selection_set::{Pair, Sels};
 use std::alloc::Global;
@@ -27,37 +28,64 @@ fn shown(alloc: Global, line: &DrawnLine) -> Result<String, Fail> {
     Ok(out)
 }
 
-#[test]
-fn a_first_client_sees_the_newline_under_its_cursor(rt: HostRuntime) -> Result<(), Fail> {
-    let alloc = rt.alloc();
-    let mut world = World::new(alloc)?;
-    world.join(alloc, 0);
-    follow_cursor(&mut world, 0);
-    let drawing = draw(alloc, &world, 0)?;
+// The contents of the atoms of all lines that are drawn.
+fn shown_lines(alloc: Global, drawing: &Drawing) -> Result<String, Fail> {
     let mut lines = String::new(alloc);
     for line in drawing.lines.as_slice() {
         lines.push_str(shown(alloc, line)?.as_str())?;
     }
+    Ok(lines)
+}
+
+// What a first client is shown.
+fn first_drawing(alloc: Global) -> Result<Drawing, Fail> {
+    let mut world = World::new(alloc)?;
+    world.join(alloc, 0);
+    follow_cursor(&mut world, 0);
+    Ok(draw(alloc, &world, 0)?)
+}
+
+#[test]
+fn a_first_client_sees_the_newline_under_its_cursor(rt: HostRuntime) -> Result<(), Fail> {
+    let alloc = rt.alloc();
+    let drawing = first_drawing(alloc)?;
+    let lines = shown_lines(alloc, &drawing)?;
     assert_eq!(rt; lines.as_str(), "\n|");
-    assert_eq!(rt;
-        shown(alloc, &drawing.mode_line)?.as_str(),
-        "*scratch* 1:1 normal 1/1 - client0|"
-    );
-    assert_eq!(rt; shown(alloc, &drawing.status)?.as_str(), "");
     assert_eq!(rt; drawing.cursor.column, 0);
     assert!(rt; drawing.first);
     Ok(())
 }
 
 #[test]
-fn a_prompt_has_three_atoms(rt: HostRuntime) -> Result<(), Fail> {
+fn a_first_client_has_a_mode_line_and_no_status(rt: HostRuntime) -> Result<(), Fail> {
     let alloc = rt.alloc();
+    let drawing = first_drawing(alloc)?;
+    let mode = shown(alloc, &drawing.mode_line)?;
+    let status = shown(alloc, &drawing.status)?;
+    assert_eq!(rt; mode.as_str(), "*scratch* 1:1 normal 1/1 - client0|");
+    assert_eq!(rt; status.as_str(), "");
+    Ok(())
+}
+
+// What client 0 is shown with this text in its prompt.
+fn prompt_drawing<R: Abort>(rt: &R, alloc: Global, typed: &str) -> Result<Drawing, Fail> {
     let mut world = World::new(alloc)?;
     world.join(alloc, 0);
+    for c in typed.chars() {
+        assert!(rt; world.is_joined(0));
+        world.push_prompt(0, c)?;
+    }
+    assert!(rt; world.is_joined(0));
     world.set_mode(0, Mode::Prompt);
-    world.push_prompt(0, 'q')?;
-    let drawing = draw(alloc, &world, 0)?;
-    assert_eq!(rt; shown(alloc, &drawing.status)?.as_str(), ":|q| |");
+    Ok(draw(alloc, &world, 0)?)
+}
+
+#[test]
+fn a_prompt_has_three_atoms(rt: HostRuntime) -> Result<(), Fail> {
+    let alloc = rt.alloc();
+    let drawing = prompt_drawing(&rt, alloc, "q")?;
+    let status = shown(alloc, &drawing.status)?;
+    assert_eq!(rt; status.as_str(), ":|q| |");
     assert!(rt; drawing.cursor.prompt);
     assert_eq!(rt; drawing.cursor.column, 2);
     Ok(())
@@ -66,28 +94,24 @@ fn a_prompt_has_three_atoms(rt: HostRuntime) -> Result<(), Fail> {
 #[test]
 fn a_tab_in_a_prompt_leads_to_the_next_stop(rt: HostRuntime) -> Result<(), Fail> {
     let alloc = rt.alloc();
-    let mut world = World::new(alloc)?;
-    world.join(alloc, 0);
-    world.set_mode(0, Mode::Prompt);
-    world.push_prompt(0, 'q')?;
-    world.push_prompt(0, '\t')?;
-    assert_eq!(rt; draw(alloc, &world, 0)?.cursor.column, 8);
-    world.push_prompt(0, '漢')?;
-    world.push_prompt(0, '\u{301}')?;
-    assert_eq!(rt; draw(alloc, &world, 0)?.cursor.column, 10);
+    for (typed, column) in &[("q\t", 8), ("q\t漢\u{301}", 10)] {
+        let drawing = prompt_drawing(&rt, alloc, typed)?;
+        assert_eq!(rt; drawing.cursor.column, *column);
+    }
     Ok(())
 }
 
 // A world with a text, to which a newline is added, and with client 0.
-fn opened<R: Abort>(rt: &R, alloc: Global, text: &[char]) -> Result<World, Fail>
+fn opened<R: Abort>(rt: &R, alloc: Global, text: &str) -> Result<World, Fail>
     ensures { IfOk result (λ w. is_joined 0 w.flat ≡ true) }
 {
     let mut world = World::new(alloc)?;
     world.join(alloc, 0);
     assert!(rt; world.is_joined(0));
-    assert!(rt; !text.is_empty());
+    let chars = Chars::from_str(alloc, text)?;
+    assert!(rt; !chars.is_empty());
     let at = world.lines(0).coord_of(0);
-    world.insert(alloc, at, text)?;
+    world.insert(alloc, at, chars.as_slice())?;
     assert!(rt; world.is_joined(0));
     Ok(world)
 }
@@ -176,7 +200,7 @@ fn seen(alloc: Global, world: &World, top: u32, left: u32) -> Result<String, Fai
 fn seen_by_one<R: Abort>(
     rt: &R,
     alloc: Global,
-    text: &[char],
+    text: &str,
     left: u32,
     cursor: usize,
 ) -> Result<String, Fail> {
@@ -191,8 +215,7 @@ fn seen_by_one<R: Abort>(
 fn with_three<R: Abort>(rt: &R, alloc: Global) -> Result<World, Fail>
     ensures { IfOk result (λ w. is_joined 0 w.flat ≡ true) }
 {
-    let text = ['a', '\n', 'b', 'c', '\n', 'd', '\n', 'e'];
-    let mut world = opened(rt, alloc, text.as_slice())?;
+    let mut world = opened(rt, alloc, "a\nbc\nd\ne")?;
     let pairs = [
         pair(rt, &world, 0, 0),
         pair(rt, &world, 1, 5),
@@ -211,7 +234,7 @@ fn seen_by_two<R: Abort>(
     main: usize,
     left: u32,
 ) -> Result<String, Fail> {
-    let mut world = opened(rt, alloc, &['a', 'b', 'c', 'd', 'e'])?;
+    let mut world = opened(rt, alloc, "abcde")?;
     let pairs = [
         pair(rt, &world, first.0, first.1),
         pair(rt, &world, second.0, second.1),
@@ -224,18 +247,18 @@ fn seen_by_two<R: Abort>(
 fn a_window_shows_the_cells_that_are_in_it(rt: HostRuntime) -> Result<(), Fail> {
     let alloc = rt.alloc();
     let rows = [
-        (['a', '\t', 'b'].as_slice(), 0, 1, "a|  ^"),
-        (['a', '\t', 'b'].as_slice(), 6, 1, "  ^b|"),
-        (['a', '\t', 'b'].as_slice(), 8, 3, "b|\n$"),
-        (['漢', 'a'].as_slice(), 0, 1, "漢|a^"),
-        (['漢', 'a'].as_slice(), 1, 0, " ^a\n|"),
-        (['漢', 'a'].as_slice(), 4, 0, ""),
-        (['a', 'b', '漢'].as_slice(), 0, 2, "ab| ^"),
-        (['e', '\u{301}', 'a'].as_slice(), 0, 1, "e|\u{301}^a\n|"),
-        (['e', '\u{301}', 'a'].as_slice(), 1, 2, "\u{301}|a^\n|"),
-        (['a', 'b', 'e', '\u{301}'].as_slice(), 0, 0, "a^be|"),
-        (['a', '\u{1B}'].as_slice(), 0, 1, "a|\u{FFFD}^\n|"),
-        (['\u{85}'].as_slice(), 0, 1, "\u{FFFD}|\n$"),
+        ("a\tb", 0, 1, "a|  ^"),
+        ("a\tb", 6, 1, "  ^b|"),
+        ("a\tb", 8, 3, "b|\n$"),
+        ("漢a", 0, 1, "漢|a^"),
+        ("漢a", 1, 0, " ^a\n|"),
+        ("漢a", 4, 0, ""),
+        ("ab漢", 0, 2, "ab| ^"),
+        ("e\u{301}a", 0, 1, "e|\u{301}^a\n|"),
+        ("e\u{301}a", 1, 2, "\u{301}|a^\n|"),
+        ("abe\u{301}", 0, 0, "a^be|"),
+        ("a\u{1B}", 0, 1, "a|\u{FFFD}^\n|"),
+        ("\u{85}", 0, 1, "\u{FFFD}|\n$"),
     ];
     for (text, left, cursor, expected) in &rows {
         let shown = seen_by_one(&rt, alloc, text, *left, *cursor)?;
