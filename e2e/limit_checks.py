@@ -1,10 +1,8 @@
 """Where a run comes to its limits: memory, the entries of its history, the bytes of its input."""
-import resource
-import subprocess
 import tempfile
 
 from drawings import CURSOR_ON_NEWLINE, DEFAULT, OPENING, TOO_LONG, atom, drawing, keys_line
-from processes import SECONDS, run_whole
+from processes import run_whole
 
 # so many entries a history may have, the leaving aside, and so many bytes of input are taken
 MAX_ENTRIES = 4_000_000
@@ -25,27 +23,13 @@ def run(program, report):
     long_input(program, report)
 
 
-def run_file(program, given, limit=None):
-    """A run whose input is a file, with so much room for addresses: its status, output and errors."""
-    given.seek(0)
-    confine = limit and (lambda: resource.setrlimit(resource.RLIMIT_AS, (limit, limit)))
-    try:
-        done = subprocess.run(
-            [program, "-ui", "json"], stdin=given, capture_output=True, cwd="/", timeout=SECONDS, preexec_fn=confine)
-    except subprocess.TimeoutExpired as late:
-        return "timeout", late.stdout or b"", late.stderr or b""
-    return done.returncode, done.stdout, done.stderr
-
-
 def memory(program, report):
     """What was sent before memory was wanting is whole turns."""
     with tempfile.TemporaryFile() as given:
         given.write(FIRST + keys_line("l" * MILLION) * 4)
-        status, output, errors = run_file(program, given, MEMORY)
-    report.check("no memory: status", 4, status)
-    turns = [OPENING + AT_FIRST * count for count in range(1, 5)]
-    report.check("no memory: the output is whole turns", True, output in turns)
-    report.check_output("no memory: standard error", b"", errors)
+        ended = run_whole(program, ["-ui", "json"], given, MEMORY)
+    turns = max(1, ended.output.count(AT_FIRST))
+    report.check_run("no memory, behind whole turns", 4, OPENING + AT_FIRST * turns, ended)
 
 
 def history(program, report):
@@ -54,9 +38,7 @@ def history(program, report):
     left = MAX_ENTRIES - 2 - 3 * (MILLION + 1)
     for name, keys, status, drawings in (("full", left - 1, 0, 4), ("overfull", left, 5, 3)):
         ended = run_whole(program, ["-ui", "json"], lines + keys_line("h" * keys))
-        report.check(f"{name} history: status", status, ended.status)
-        report.check_output(f"{name} history: standard output", OPENING + AT_START * drawings, ended.output)
-        report.check_output(f"{name} history: standard error", b"", ended.errors)
+        report.check_run(f"{name} history", status, OPENING + AT_START * drawings, ended)
 
 
 def long_input(program, report):
@@ -67,7 +49,5 @@ def long_input(program, report):
             given.seek(end - 1)
             given.write(b"\n")
         given.write(FIRST + keys_line("ilater<esc>"))
-        status, output, errors = run_file(program, given)
-    report.check("too long an input: status", 6, status)
-    report.check_output("too long an input: standard output", OPENING + TOO_LONG * (MAX_INPUT // size) + AT_FIRST, output)
-    report.check_output("too long an input: standard error", b"", errors)
+        ended = run_whole(program, ["-ui", "json"], given)
+    report.check_run("too long an input", 6, OPENING + TOO_LONG * (MAX_INPUT // size) + AT_FIRST, ended)

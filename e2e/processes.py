@@ -1,5 +1,6 @@
 """Programs as processes: a whole input at once, or line by line over pipes."""
 import os
+import resource
 import subprocess
 import tempfile
 import threading
@@ -17,11 +18,20 @@ class Ended:
         self.errors = errors
 
 
-def run_whole(program, words, given):
-    """Runs the program on an input, in an empty folder. A run that takes too long has the status `timeout`."""
+def run_whole(program, words, given, room=None):
+    """Runs the program on an input, in an empty folder. A run that takes too long has the status `timeout`.
+
+    The input is bytes, or a file that is read from its start. `room` is how many bytes of addresses the run may have.
+    """
+    source = {"input": given}
+    if not isinstance(given, bytes):
+        given.seek(0)
+        source = {"stdin": given}
+    confine = room and (lambda: resource.setrlimit(resource.RLIMIT_AS, (room, room)))
     with tempfile.TemporaryDirectory() as folder:
         try:
-            done = subprocess.run([program, *words], input=given, capture_output=True, cwd=folder, timeout=SECONDS)
+            done = subprocess.run(
+                [program, *words], **source, capture_output=True, cwd=folder, timeout=SECONDS, preexec_fn=confine)
         except subprocess.TimeoutExpired as late:
             return Ended("timeout", late.stdout or b"", late.stderr or b"")
     return Ended(done.returncode, done.stdout, done.stderr)

@@ -163,12 +163,8 @@ SECOND = GOOD + b"\n"
 
 
 def run(program, report):
-    play = lambda given: run_whole(program, ["-ui", "json"], given)
-
     def check(name, given, output):
-        ended = play(given)
-        report.check_output(f"{name}: standard output", output, ended.output)
-        report.check(f"{name}: status", 0, ended.status)
+        report.check_run(name, 0, output, run_whole(program, ["-ui", "json"], given))
 
     check("two good lines", FIRST + SECOND, OPENING + BEFORE + BEHIND)
     for name, line, refusal in refused_lines():

@@ -42,6 +42,12 @@ class Report:
             line, one, other = first_difference(wanted, came)
             self.fail(name, f"expected at line {line}: {shown(one)}", f"came at line {line}:     {shown(other)}")
 
+    def check_run(self, name, status, output, ended):
+        """A run ended with that status and output, and wrote nothing to standard error."""
+        self.check_output(f"{name}: standard output", output, ended.output)
+        self.check(f"{name}: status", status, ended.status)
+        self.check_output(f"{name}: standard error", b"", ended.errors)
+
     def fail(self, name, *lines):
         self.failed += 1
         print(f"e2e: FAILED: {name}", *lines, sep="\n    ", flush=True)

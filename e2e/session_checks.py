@@ -18,7 +18,4 @@ def play_all(program, report, topic):
     report.check(f"{topic}: there are sessions to be played", True, bool(inputs))
     for given in inputs:
         ended = run_whole(program, ["-ui", "json"], given.read_bytes())
-        name = f"{topic}: session {given.stem}"
-        report.check_output(f"{name}: standard output", given.with_suffix(".out").read_bytes(), ended.output)
-        report.check(f"{name}: status", 0, ended.status)
-        report.check_output(f"{name}: standard error", b"", ended.errors)
+        report.check_run(f"{topic}: session {given.stem}", 0, given.with_suffix(".out").read_bytes(), ended)

@@ -28,40 +28,34 @@ def run(program, report):
     faults(program, report)
 
 
-def check(report, name, status, output, ended):
-    report.check_output(f"{name}: standard output", output, ended.output)
-    report.check(f"{name}: status", status, ended.status)
-    report.check_output(f"{name}: standard error", b"", ended.errors)
-
-
 def ends_of_input(program, report):
     play = lambda given: run_whole(program, ["-ui", "json"], given)
-    check(report, "empty input", 0, OPENING, play(b""))
-    check(report, "a blank line", 0, OPENING, play(b" \t\r\n\n"))
-    check(report, "no keys", 0, OPENING + drawn(), play(keys_line()))
+    report.check_run("empty input", 0, OPENING, play(b""))
+    report.check_run("a blank line", 0, OPENING, play(b" \t\r\n\n"))
+    report.check_run("no keys", 0, OPENING + drawn(), play(keys_line()))
     hi = drawing(
         [[atom("hi", DEFAULT), atom("\n", CURSOR_ON_NEWLINE)]], "*scratch* 1:3 normal 1/1 - client0", (0, 2))
     spaced = b'{ "jsonrpc": "2.0", "method": "keys", "params": ["ihi<esc>"] }'
-    check(report, "a last line without a newline", 0, OPENING + hi, play(spaced))
-    check(report, "a line that ends in a carriage return", 0, OPENING + hi, play(spaced + b"\r\n"))
+    report.check_run("a last line without a newline", 0, OPENING + hi, play(spaced))
+    report.check_run("a line that ends in a carriage return", 0, OPENING + hi, play(spaced + b"\r\n"))
 
 
 def quitting(program, report):
     play = lambda *lines: run_whole(program, ["-ui", "json"], b"".join(lines))
     unknown = [atom("no such command: x", ERROR)]
     later = keys_line("ilater<esc>")
-    check(report, "an unknown command", 0, OPENING + drawn(unknown), play(keys_line(":x<ret>")))
-    check(report, "quit, and a line behind it", 0, OPENING + drawn(unknown) + drawn(),
+    report.check_run("an unknown command", 0, OPENING + drawn(unknown), play(keys_line(":x<ret>")))
+    report.check_run("quit, and a line behind it", 0, OPENING + drawn(unknown) + drawn(),
           play(keys_line(":x<ret>"), keys_line(":quit<ret>"), later))
-    check(report, "q, and a refused line behind it", 0, OPENING + drawn(), play(keys_line(":q<ret>"), b"{\n"))
-    check(report, "keys behind quit in its line do nothing", 0, OPENING + drawn(),
+    report.check_run("q, and a refused line behind it", 0, OPENING + drawn(), play(keys_line(":q<ret>"), b"{\n"))
+    report.check_run("keys behind quit in its line do nothing", 0, OPENING + drawn(),
           play(keys_line(":quit<ret>ilater<esc>", "ilater"), later))
-    check(report, "a prompt that is left quits nothing", 0, OPENING + drawn() * 2, play(keys_line(":quit<esc>"), keys_line()))
+    report.check_run("a prompt that is left quits nothing", 0, OPENING + drawn() * 2, play(keys_line(":quit<esc>"), keys_line()))
 
 
 def usage(program, report):
     for words in WRONG_WORDS:
-        check(report, f"the words {words}", 1, b"", run_whole(program, words, keys_line("ihi<esc>")))
+        report.check_run(f"the words {words}", 1, b"", run_whole(program, words, keys_line("ihi<esc>")))
 
 
 def status_of(program, given, output):
