@@ -7,9 +7,9 @@ use Rattle.selection_set.specs.declared.sel.Sel.{Sel}
 use Rattle.selection_set.specs.Inside.{cursor_at}
 use Rattle.selection_set.specs.Listing.{Listed}
 use Rattle.selection_set.proofs.CursorLemmas.{coord_at-cursor, cursor-place}
-use Rattle.kak_world.specs.Lists.{selected, IsHeld}
+use Rattle.selection_set.specs.Held.{selected, IsHeld}
 use Rattle.draw_model.specs.Drawings.{main_cursor}
-use Rattle.draw_model.proofs.DrawnLemmas.{nth-inside, nth-range}
+use Rattle.selection_set.proofs.HeldLemmas.{nth-inside, nth-range}
 
 -- the cursor of the main selection is the main cursor
 pub main-cursor : (text : List ℕ) (s : Listed) (sels : Selected) (at : Sel) (place : Coord) → sels ≡ selected text s → IsHeld text s → s.main < length s.list → ((d : Sel) → at ≡ get_or s.list s.main d) → place ≡ cursor_at at

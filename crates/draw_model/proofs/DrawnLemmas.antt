@@ -1,8 +1,8 @@
 -- How a line is drawn stretch by stretch, along a settled list of selections.
-use Rattle.std.proofs.Common.{◌≡◌, ℕ, zero, suc, ◌+◌, ◌-◌, ◌<◌, ◌≤◌, min, eqb, List, [], ◌∷◌, ◌++◌, length, take, drop, get_or, slice_range, refl, sym, ap, ap₂, subst, ◌∙◌, arith, append-nil, length-take, length-drop, take_all, add-one, false, None}
+use Rattle.std.proofs.Common.{◌≡◌, ℕ, zero, suc, ◌+◌, ◌-◌, ◌<◌, ◌≤◌, min, eqb, List, [], ◌∷◌, ◌++◌, length, take, drop, get_or, slice_range, refl, sym, ap, ap₂, subst, ◌∙◌, arith, append-nil, length-take, length-drop, take_all, add-one}
 use Rattle.std.specs.List.{AllByRecursion}
 use Rattle.std.proofs.Math.Seq.{drop-cons}
-use Rattle.std.proofs.lemmas.List.{map-append, take-append-drop, take_more, get_or-take, get_or-drop, get_or-map, length-map}
+use Rattle.std.proofs.lemmas.List.{map-append, take-append-drop, take_more, get_or-take, get_or-drop, length-map}
 use Rattle.text_model.specs.Texts.{joined, lines_of, line_count, nth_line, offset}
 use Rattle.text_model.proofs.PlaceLemmas.{place-before_next, start-le}
 use Rattle.list_model.specs.Ranges.{Range, Selected, IsRange, only}
@@ -11,7 +11,8 @@ use Rattle.list_model.proofs.ListLemmas.{all_weaker}
 use Rattle.selection_set.specs.declared.sel.Sel.{Sel}
 use Rattle.selection_set.specs.Inside.{range_of, IsInside}
 use Rattle.selection_set.specs.Listing.{Listed, AreInside, ranges_of}
-use Rattle.kak_world.specs.Lists.{selected, IsHeld}
+use Rattle.selection_set.specs.Held.{selected, IsHeld}
+use Rattle.selection_set.proofs.HeldLemmas.{zero_sel, nth-inside, nth-range}
 use Rattle.kak_text.specs.Cells.{cells_of, column_behind, display_column}
 use Rattle.window_view.specs.View.{View}
 use Rattle.kak_faces.specs.declared.face.Face.{Face}
@@ -24,7 +25,7 @@ use Rattle.draw_model.specs.Drawings.{face_at, shown_from}
 use Rattle.draw_model.specs.Painting.{alone, painted, chars_drawn, EndsBefore, IsPart, AreParts, IsDrawnTo}
 use Rattle.draw_model.proofs.AtomLemmas.{with_all_shown-append}
 use Rattle.draw_model.proofs.LineLemmas.{shown_from-append, shown_from-behind}
-use Rattle.draw_model.proofs.ListLemmas.{all-at, apart-at, face-alone, face-gap, face-behind}
+use Rattle.draw_model.proofs.ListLemmas.{apart-at, face-alone, face-gap, face-behind}
 use Rattle.draw_model.proofs.PartLemmas.{AreOrdered, parts-ordered}
 use Rattle.draw_model.proofs.StretchLemmas.{column_behind-append, same-drawn, same-behind, take-slice}
 
@@ -139,16 +140,7 @@ along-first text s main n k view line old h a = record {
 cut-at : (rs : List Range) (k : ℕ) (r d : Range) → k < length rs → r ≡ get_or rs k d → drop k rs ≡ r ∷ drop (suc k) rs
 cut-at rs k r d l e = drop-cons rs k d l ∙ ap (λ x. x ∷ drop (suc k) rs) (sym e)
 
--- the n-th selection of a list that is inside a text, and its range
-abbrev zero_sel : Sel
-zero_sel = record { low = record { line = 0; column = 0 }; high = record { line = 0; column = 0 }; turned = false; target = None }
-
-pub nth-inside : (text : List ℕ) (s : List Sel) (n : ℕ) (at : Sel) → AreInside text s → n < length s → ((d : Sel) → at ≡ get_or s n d) → IsInside text at
-nth-inside text s n at h l g = subst (IsInside text) (sym (g zero_sel)) (all-at (IsInside text) s n zero_sel l h)
-
-pub nth-range : (text : List ℕ) (s : List Sel) (n : ℕ) (at : Sel) (d : Range) → n < length s → ((e : Sel) → at ≡ get_or s n e) → range_of text at ≡ get_or (ranges_of text s) n d
-nth-range text s n at d l g = ap (range_of text) (g zero_sel) ∙ sym (get_or-map (range_of text) s n zero_sel d l)
-
+-- as many selections as ranges
 pub ranges-length : (text : List ℕ) (s : List Sel) → length (ranges_of text s) ≡ length s
 ranges-length text s = length-map s (range_of text)
 

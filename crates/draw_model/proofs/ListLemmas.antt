@@ -74,11 +74,6 @@ all-drop P zero xs a = a
 all-drop P (suc n) [] a = a
 all-drop P (suc n) (x ∷ xs) a = all-drop P n xs a.1
 
-pub all-at : {X : Type 0} (P : X → Type 0) (xs : List X) (n : ℕ) (d : X) → n < length xs → AllByRecursion P xs → P (get_or xs n d)
-all-at P [] n d l a = absurd (omega arith)
-all-at P (x ∷ xs) zero d l a = a.0
-all-at P (x ∷ xs) (suc n) d l a = all-at P xs n d (omega arith) a.1
-
 -- the selections behind one begin behind its end
 pub apart-at : (rs : List Range) (k : ℕ) (d : Range) → k < length rs → AreApart rs → AllByRecursion (λ (s : Range). (get_or rs k d).high < s.low) (drop (suc k) rs)
 apart-at [] k d l a = absurd (omega arith)

@@ -1,8 +1,9 @@
 -- What a client is shown of the world.
-use Rattle.std.specs.Prelude.{ℕ, ◌+◌, ◌-◌, Bool, true, false, not, ◌==◌, ◌&&◌, nat_le, if◌then◌else◌, List, [], ◌∷◌, ◌++◌, length, take, drop, codes, decimal, slice_index, slice_index_or}
+use Rattle.std.specs.Prelude.{ℕ, ◌+◌, ◌-◌, Bool, true, false, not, ◌==◌, ◌&&◌, nat_le, if◌then◌else◌, List, [], ◌∷◌, ◌++◌, length, take, drop, codes, decimal, slice_index}
 use Rattle.text_model.specs.declared.coords.Coord.{Coord}
 use Rattle.text_model.specs.Texts.{lines_of, joined, nth_line, coord_at}
-use Rattle.list_model.specs.Ranges.{Range, Selected, cursor, only}
+use Rattle.list_model.specs.Ranges.{Range, Selected, cursor}
+use Rattle.selection_set.specs.Held.{main_of}
 use Rattle.kak_text.specs.Cells.{cells_of, column_behind, display_column}
 use Rattle.window_view.specs.View.{View, followed}
 use Rattle.kak_faces.specs.declared.face.Face.{Face}
@@ -99,13 +100,9 @@ mode_name Normal = codes "normal"
 mode_name Insert = codes "insert"
 mode_name Prompt = codes "prompt"
 
--- the main selection
-abbrev pub main_range : Selected → Range
-main_range sels = slice_index_or sels.list sels.main (only 0)
-
 -- the coordinate of the main selection's cursor
 abbrev pub main_cursor : List ℕ → Selected → Coord
-main_cursor text sels = coord_at text (cursor (main_range sels))
+main_cursor text sels = coord_at text (cursor (main_of sels))
 
 -- the line of the main selection's cursor
 abbrev pub main_line : List ℕ → Selected → List ℕ

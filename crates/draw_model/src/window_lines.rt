@@ -9,7 +9,7 @@ ghost use Rattle.selection_set.specs.declared.sel.Sel.{Sel};
 ghost use Rattle.kak_text.specs.Cells.{column_behind};
 ghost use Rattle.window_view.specs.Views.{view_of as window_seen};
 ghost use Rattle.json_ui.specs.declared.drawing.Atom.{Atom as DrawnAtom};
-ghost use Rattle.kak_world.specs.Lists.{selected, IsHeld};
+ghost use Rattle.selection_set.specs.Held.{selected, IsHeld};
 ghost use Rattle.kak_world.specs.declared.state.TheConstants.{TABSTOP};
 ghost use Rattle.draw_model.specs.Atoms.{shown_in, atoms_of, with_all_shown};
 ghost use Rattle.draw_model.specs.Cells.{right_of};

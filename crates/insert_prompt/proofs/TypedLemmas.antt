@@ -1,11 +1,11 @@
 -- A character that goes in before each cursor of a client, one after another.
-use Rattle.std.proofs.Common.{◌≡◌, ℕ, zero, suc, ◌+◌, ◌-◌, ◌<◌, ◌≤◌, Bool, true, false, List, [], ◌∷◌, length, map, get_or, drop, refl, sym, ap, ap₂, subst, ◌∙◌, arith, inl, inr, ◌⊎◌, min, ◌||◌, add-one, None}
+use Rattle.std.proofs.Common.{◌≡◌, ℕ, zero, suc, ◌+◌, ◌-◌, ◌<◌, ◌≤◌, Bool, true, false, List, [], ◌∷◌, length, map, get_or, drop, refl, sym, ap, ap₂, subst, ◌∙◌, arith, inl, inr, ◌⊎◌, min, ◌||◌, add-one}
 use Rattle.std.specs.Prelude.{if◌then◌else◌}
 use Rattle.std.specs.List.{AllByRecursion}
 use Rattle.std.proofs.Math.Dec.{eqb}
 use Rattle.std.proofs.Math.Seq.{drop-cons}
 use Rattle.std.proofs.Math.ListN.{drop_of_length-le}
-use Rattle.std.proofs.lemmas.List.{length-map, drop-map, get_or-map}
+use Rattle.std.proofs.lemmas.List.{length-map, drop-map}
 use Rattle.text_model.specs.Changes.{Move, Insertion, changed, move_of, put_in}
 use Rattle.text_model.specs.Mapping.{shifted}
 use Rattle.text_model.specs.Texts.{last_place, offset}
@@ -21,10 +21,11 @@ use Rattle.list_model.proofs.MoveLemmas.{KeepsOrder, ranges-map, shifted-keeps, 
 use Rattle.selection_set.specs.declared.sel.Sel.{Sel}
 use Rattle.selection_set.specs.Inside.{range_of, IsInside, cursor_at}
 use Rattle.selection_set.specs.Listing.{Listed, AreInside, ranges_of}
+use Rattle.selection_set.specs.Held.{selected, IsHeld}
 use Rattle.selection_set.proofs.CursorLemmas.{cursor-range_of}
+use Rattle.selection_set.proofs.HeldLemmas.{nth-inside as inside-at, nth-range}
 use Rattle.kak_world.specs.Flat.{Client, Flat, is_here, client_in, is_joined, sels_of}
 use Rattle.kak_world.specs.Changing.{carried_by, put_at, put_at_each, put_before_cursors}
-use Rattle.kak_world.specs.Lists.{selected, IsHeld}
 use Rattle.kak_world.proofs.PutLemmas.{put-inserted, put-length, put-once}
 
 -- one character put in
@@ -266,22 +267,13 @@ held-within text s sels e h = subst (IsWithin text) (sym e) (record { settled = 
 pub same-length : (text : List ℕ) (s : Listed) (sels : Selected) → sels ≡ selected text s → length sels.list ≡ length s.list
 same-length text s sels e = ap (λ (t : Selected). length t.list) e ∙ length-map s.list (range_of text)
 
-abbrev zero_sel : Sel
-zero_sel = record { low = record { line = 0; column = 0 }; high = record { line = 0; column = 0 }; turned = false; target = None }
-
 -- a selection of a list that is held is inside the text
 pub nth-inside : (text : List ℕ) (s : Listed) (sels : Selected) (n : ℕ) (at : Sel) → sels ≡ selected text s → IsHeld text s → n < length sels.list → ((d : Sel) → at ≡ get_or s.list n d) → IsInside text at
-nth-inside text s sels n at e h l g = subst (IsInside text) (sym (g zero_sel)) (all-at (IsInside text) s.list n zero_sel (omega (arith, same-length text s sels e, l)) h.inside)
-  where
-    all-at : {X : Type 0} (P : X → Type 0) (xs : List X) (i : ℕ) (d : X) → i < length xs → AllByRecursion P xs → P (get_or xs i d)
-    all-at P [] i d k a = absurd (omega arith)
-    all-at P (x ∷ xs) zero d k a = a.0
-    all-at P (x ∷ xs) (suc i) d k a = all-at P xs i d (omega arith) a.1
+nth-inside text s sels n at e h l g = inside-at text s.list n at h.inside (omega (arith, same-length text s sels e, l)) g
 
 -- and the cursor of its range is the offset of its cursor
 pub nth-cursor : (text : List ℕ) (s : Listed) (sels : Selected) (n : ℕ) (at : Sel) → sels ≡ selected text s → n < length sels.list → ((d : Sel) → at ≡ get_or s.list n d) → cursor (get_or sels.list n (only 0)) ≡ offset text (cursor_at at)
 nth-cursor text s sels n at e l g =
     ap (λ (t : Selected). cursor (get_or t.list n (only 0))) e
-    ∙ ap cursor (get_or-map (range_of text) s.list n zero_sel (only 0) (omega (arith, same-length text s sels e, l)))
-    ∙ ap (λ (x : Sel). cursor (range_of text x)) (sym (g zero_sel))
+    ∙ ap cursor (sym (nth-range text s.list n at (only 0) (omega (arith, same-length text s sels e, l)) g))
     ∙ cursor-range_of text at

@@ -6,8 +6,8 @@ use Rattle.text_model.proofs.PlaceLemmas.{IsPlace-coord_at}
 use Rattle.selection_set.specs.declared.sel.Sel.{Sel}
 use Rattle.selection_set.specs.Listing.{Listed, AreInside, ranges_of, IsSettledIn}
 use Rattle.kak_world.specs.Flat.{only_at}
-use Rattle.kak_world.specs.Lists.{selected, IsHeld}
-use Rattle.kak_world.proofs.ListLemmas.{settled-held, selected-is}
+use Rattle.selection_set.specs.Held.{selected, IsHeld}
+use Rattle.selection_set.proofs.HeldLemmas.{settled-held, selected-is}
 
 -- a text has a first character
 pub first_is_place : (text : List ℕ) → IsText text → IsPlace text origin

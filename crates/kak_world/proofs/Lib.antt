@@ -1,3 +1,3 @@
 pub mod FirstPlace
 pub mod PutLemmas
-pub mod ListLemmas
+pub mod CarriedLemmas

@@ -9,7 +9,7 @@ use Rattle.std.specs.declared.option.Option.{Option}
 use Rattle.window_view.specs.Views.{view_of as window_seen}
 use Rattle.kak_world.specs.declared.client.ClientState.{ClientState}
 use Rattle.kak_world.specs.Flat.{Client, Flat}
-use Rattle.kak_world.specs.Lists.{selected, IsHeld}
+use Rattle.selection_set.specs.Held.{selected, IsHeld}
 
 -- a client, over the text
 abbrev pub client_seen : List ℕ → ClientState → Client

@@ -5,7 +5,7 @@ ghost use Rattle.text_model.specs.declared.TheConstants.{MAX_CHARS};
 ghost use Rattle.text_model.specs.Texts.{IsPlace, offset};
 ghost use Rattle.text_model.specs.Changes.{Move};
 ghost use Rattle.selection_map.specs.Carrying.{AllSmall as ListIsSmall, IsStep};
-ghost use Rattle.kak_world.specs.Lists.{IsHeld};
+ghost use Rattle.selection_set.specs.Held.{IsHeld};
 ghost use Rattle.kak_world.specs.Seen.{AreHeld, IsCarried, AllSmall, AreCarried, clients_seen, world_seen};
 ghost use Rattle.kak_world.specs.Flat.{is_here, is_joined};
 ghost use Rattle.kak_world.specs.Changing.{put_at};

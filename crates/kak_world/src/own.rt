@@ -4,7 +4,7 @@ ghost use Rattle.std.specs.Prelude.{◌≡◌, ◌<◌, ◌+◌, ◌^◌, true, 
 ghost use Rattle.window_view.specs.View.{followed};
 ghost use Rattle.window_view.specs.Views.{view_of as window_seen};
 ghost use Rattle.kak_world.specs.Flat.{is_joined, text_of, mode_of, sels_of, status_of, prompt_of, view_of, is_leaving, is_drawn, number_of, count_of, awaiting_of, with_mode, with_count, with_awaiting, cleared, with_sels, with_status, with_prompt, with_leaving, with_drawn, with_view};
-ghost use Rattle.kak_world.specs.Lists.{selected, IsHeld};
+ghost use Rattle.selection_set.specs.Held.{selected, IsHeld};
 
 use crate::state::{Awaiting, Mode, Status};
 use crate::world::World;

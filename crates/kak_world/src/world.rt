@@ -1,7 +1,7 @@
 //! The world: its clients and its text.
 
 ghost use Rattle.std.specs.Prelude.{◌≡◌, suc, ◌≤◌, true, false, [], length, IfOk, IsTrue};
-ghost use Rattle.kak_world.specs.Lists.{selected, IsHeld};
+ghost use Rattle.selection_set.specs.Held.{selected, IsHeld};
 ghost use Rattle.kak_world.specs.Flat.{only_at, opening, joined_by, left_by, is_joined, text_of, with_units};
 
 use crate::client::ClientState;

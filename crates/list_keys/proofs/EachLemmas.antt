@@ -11,12 +11,7 @@ use Rattle.selection_set.specs.declared.sel.Sel.{Sel}
 use Rattle.selection_set.specs.Inside.{range_of, IsInside}
 use Rattle.selection_set.specs.Listing.{AreInside, ranges_of}
 
--- what all elements have, the one at a place has
-pub all-at : {X : Type 0} (P : X → Type 0) (xs : List X) (n : ℕ) (d : X) → n < length xs → AllByRecursion P xs → P (get_or xs n d)
-all-at P [] n d h a = absurd (omega arith)
-all-at P (x ∷ xs) zero d h a = a.0
-all-at P (x ∷ xs) (suc n) d h a = all-at P xs n d (omega arith) a.1
-
+-- what all elements of two lists have
 pub all-append : {X : Type 0} (P : X → Type 0) (xs ys : List X) → AllByRecursion P xs → AllByRecursion P ys → AllByRecursion P (xs ++ ys)
 all-append P [] ys h k = k
 all-append P (x ∷ xs) ys h k = (h.0, all-append P xs ys h.1 k)

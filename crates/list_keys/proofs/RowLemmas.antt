@@ -3,22 +3,17 @@ use Rattle.std.proofs.Common.{◌≡◌, ℕ, zero, suc, ◌+◌, ◌-◌, ◌<�
 use Rattle.std.specs.Prelude.{if◌then◌else◌}
 use Rattle.std.specs.List.{AllByRecursion, cons_option}
 use Rattle.std.proofs.lemmas.Bool.{false≢true}
-use Rattle.std.proofs.lemmas.List.{length-map, get_or-map}
+use Rattle.std.proofs.lemmas.List.{length-map}
 use Rattle.list_model.specs.Ranges.{Range, Selected, IsRange, only}
 use Rattle.list_model.specs.Settling.{settled}
 use Rattle.selection_set.specs.declared.sel.Sel.{Sel}
-use Rattle.selection_set.specs.Inside.{range_of, IsInside}
+use Rattle.selection_set.specs.Inside.{range_of}
 use Rattle.selection_set.specs.Listing.{Listed, AreInside, ranges_of, IsSettledIn}
 use Rattle.selection_set.proofs.SettleLemmas.{ranges-inside}
-use Rattle.kak_world.specs.Lists.{selected, IsHeld}
-use Rattle.kak_world.proofs.ListLemmas.{settled-held, selected-is}
+use Rattle.selection_set.specs.Held.{selected, IsHeld, main_of}
+use Rattle.selection_set.proofs.HeldLemmas.{settled-held, selected-is, IsMain}
 use Rattle.selection_set.specs.declared.making.SelsError.{SelsError}
-use Rattle.list_keys.specs.Rows.{main_of, settled_some, main_left, main_copied}
-use Rattle.list_keys.proofs.EachLemmas.{all-at}
-
--- any selection
-abbrev pub zero_sel : Sel
-zero_sel = record { low = record { line = 0; column = 0 }; high = record { line = 0; column = 0 }; turned = false; target = None }
+use Rattle.list_keys.specs.Rows.{settled_some, main_left, main_copied}
 
 -- what was settled, by the ranges that it is
 settled-given : (text : List ℕ) (slice list : List Sel) (main : ℕ) (given : Selected) (s : Listed) → slice ≡ list → AreInside text list → ranges_of text list ≡ given.list → main ≡ given.main
@@ -47,10 +42,6 @@ pub none-settled : (rs : List Range) (main : ℕ) → length rs ≡ 0 → settle
 none-settled [] main h = refl
 none-settled (r ∷ rs) main h = absurd (omega arith)
 
--- the main selection, by coordinates
-pub main-read : (text : List ℕ) (s : Listed) (d : Sel) → s.main < length s.list → range_of text (get_or s.list s.main d) ≡ main_of (selected text s)
-main-read text s d h = sym (get_or-map (range_of text) s.list s.main d (only 0) h)
-
 -- where something is made of the one at a place, what is made of those before it is less than all
 pub made-below : (f : Range → Option Range) (rs : List Range) (n : ℕ) (d : Range) → n < length rs → is_some (f (get_or rs n d)) ≡ true → length (filter_map f (take n rs)) < length (filter_map f rs)
 made-below f [] n d h e = absurd (omega arith)
@@ -64,19 +55,6 @@ made-below f (r ∷ rs) (suc n) d h e = onto (f r) (filter_map f (take n rs)) (f
     onto : (o : Option Range) (xs ys : List Range) → length xs < length ys → length (cons_option o xs) < length (cons_option o ys)
     onto None xs ys k = k
     onto (Some x) xs ys k = omega (arith, k)
-
--- the main selection, where it was read
-pub record IsMain (text : List ℕ) (s : Listed) (sel : Sel) : Type 0 where
-  pub inside : IsInside text sel
-  pub same : range_of text sel ≡ main_of (selected text s)
-
-pub main-sel : (text : List ℕ) (s : Listed) (main : ℕ) (sel : Sel) → main ≡ s.main → ((d : Sel) → sel ≡ get_or s.list main d) → IsHeld text s → IsMain text s sel
-main-sel text s main sel m e h =
-    let below : main < length s.list = omega (arith, m, h.settled.main_is, length-map s.list (range_of text)) in
-    record {
-      inside = subst (IsInside text) (sym (e zero_sel)) (all-at (IsInside text) s.list main zero_sel below h.inside);
-      same = ap (range_of text) (e zero_sel ∙ ap (λ n. get_or s.list n zero_sel) m) ∙ main-read text s zero_sel (omega (arith, m, below));
-    }
 
 -- the first ones, by coordinates and by offsets
 pub ranges-take : (text : List ℕ) (list : List Sel) (n : ℕ) → ranges_of text (take n list) ≡ take n (ranges_of text list)

@@ -1,15 +1,12 @@
 -- The rows of the keys that change a list of selections as a whole.
-use Rattle.std.specs.Prelude.{ℕ, ◌+◌, ◌-◌, false, ◌==◌, if◌then◌else◌, List, [], ◌∷◌, ◌++◌, length, take, drop, filter_map, flat_map, is_some, slice_index_or, None, Some}
+use Rattle.std.specs.Prelude.{ℕ, ◌+◌, ◌-◌, false, ◌==◌, if◌then◌else◌, List, [], ◌∷◌, ◌++◌, length, take, drop, filter_map, flat_map, is_some, None, Some}
 use Rattle.std.specs.declared.option.Option.{Option}
 use Rattle.text_model.specs.Texts.{last_place}
 use Rattle.list_model.specs.Ranges.{Range, Selected, only}
 use Rattle.list_model.specs.Settling.{settled}
+use Rattle.selection_set.specs.Held.{main_of}
 use Rattle.list_keys.specs.declared.direction.Direction.{Direction}
 use Rattle.list_keys.specs.declared.direction.Direction.TheVariants.{Forward, Backward}
-
--- the main selection
-abbrev pub main_of : Selected → Range
-main_of s = slice_index_or s.list s.main (only 0)
 
 -- the settled list of some selections; none where there are none
 abbrev pub settled_some : List Range → ℕ → Option Selected

@@ -3,7 +3,7 @@
 ghost use Rattle.std.specs.Prelude.{◌≡◌, ◌<◌, ◌≤◌, ◌↔◌, length, filter_map, IfOk, IfSome, IsOk, IsErrOf, option_map};
 ghost use Rattle.text_model.specs.declared.TheConstants.{MAX_SELECTIONS};
 ghost use Rattle.selection_set.specs.Listing.{AreInside, ranges_of};
-ghost use Rattle.kak_world.specs.Lists.{selected, IsHeld};
+ghost use Rattle.selection_set.specs.Held.{selected, IsHeld};
 ghost use Rattle.list_keys.specs.Cuts.{whole_lines_in, trimmed_range};
 ghost use Rattle.list_keys.specs.Copies.{copy_of};
 ghost use Rattle.list_keys.specs.Rows.{left_of_each, main_left, with_copies, main_copied, copied_each};

@@ -1,7 +1,7 @@
 //! The keys that go by the main selection, and the one that selects the whole text.
 
 ghost use Rattle.std.specs.Prelude.{◌≡◌, ℕ, ◌+◌, ◌-◌, ◌==◌, if◌then◌else◌, ◌<◌, ◌≤◌, ◌++◌, List, length, take, drop, IfOk, IfSome, IsOk, option_map};
-ghost use Rattle.kak_world.specs.Lists.{selected, IsHeld};
+ghost use Rattle.selection_set.specs.Held.{selected, IsHeld};
 ghost use Rattle.list_keys.specs.Rows.{main_alone, without_main, place_beside, whole_text};
 
 use crate::direction::Direction;

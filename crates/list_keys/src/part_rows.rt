@@ -3,7 +3,7 @@
 ghost use Rattle.std.specs.Prelude.{◌≡◌, ◌<◌, ◌≤◌, ◌↔◌, length, flat_map, IfOk, IfSome, IsOk, IsErrOf, MatchOption};
 ghost use Rattle.text_model.specs.declared.TheConstants.{MAX_SELECTIONS};
 ghost use Rattle.selection_set.specs.Listing.{AreInside, ranges_of};
-ghost use Rattle.kak_world.specs.Lists.{selected, IsHeld};
+ghost use Rattle.selection_set.specs.Held.{selected, IsHeld};
 ghost use Rattle.list_keys.specs.Cuts.{parts_of, ends_of};
 ghost use Rattle.list_keys.specs.Rows.{parts_of_each};
 ghost use Rattle.list_keys.specs.Making.{parts_by};

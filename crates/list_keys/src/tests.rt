@@ -1,7 +1,7 @@
 ghost use Rattle.std.specs.Prelude.{IfOk};
 ghost use Rattle.std.specs.List.{AllByRecursion};
 ghost use Rattle.selection_set.specs.Listing.{IsPairInside};
-ghost use Rattle.kak_world.specs.Lists.{IsHeld};
+ghost use Rattle.selection_set.specs.Held.{IsHeld};
 
 use super::*;
 use kak_text::{Chars, Coord, Text};

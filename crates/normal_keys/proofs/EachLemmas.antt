@@ -9,8 +9,8 @@ use Rattle.selection_set.specs.declared.sel.Sel.{Sel}
 use Rattle.selection_set.specs.Inside.{range_of}
 use Rattle.selection_set.specs.Listing.{Listed, AreInside, ranges_of, IsSettledIn}
 use Rattle.selection_set.proofs.SettleLemmas.{ranges-inside}
-use Rattle.kak_world.specs.Lists.{selected, IsHeld}
-use Rattle.kak_world.proofs.ListLemmas.{selected-is}
+use Rattle.selection_set.specs.Held.{selected, IsHeld}
+use Rattle.selection_set.proofs.HeldLemmas.{selected-is}
 
 -- one more went
 pub moved-more : (text : List ℕ) (f : Range → Range) (list all : List Sel) (x d : Sel) (n : ℕ) (whole : List Range) → n < length all → range_of text x ≡ f (range_of text (get_or all n d))

@@ -6,7 +6,7 @@ ghost use Rattle.selection_set.specs.Inside.{range_of, IsInside};
 ghost use Rattle.selection_set.specs.Listing.{AreInside, ranges_of};
 ghost use Rattle.window_view.specs.Views.{view_of as window_seen};
 ghost use Rattle.kak_world.specs.Flat.{is_joined, sels_of};
-ghost use Rattle.kak_world.specs.Lists.{selected, IsHeld};
+ghost use Rattle.selection_set.specs.Held.{selected, IsHeld};
 ghost use Rattle.normal_keys.specs.Moving.{each_range, each_changed};
 
 use crate::actions::{Motion, Shape};

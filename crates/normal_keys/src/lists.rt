@@ -4,7 +4,7 @@ ghost use Rattle.std.specs.Prelude.{◌≡◌, ◌<◌, ◌≤◌, ℕ, true, le
 ghost use Rattle.text_model.specs.declared.TheConstants.{MAX_SELECTIONS};
 ghost use Rattle.list_model.specs.Ranges.{Selected};
 ghost use Rattle.kak_world.specs.Flat.{is_joined, text_of, sels_of, with_sels};
-ghost use Rattle.kak_world.specs.Lists.{selected, IsHeld};
+ghost use Rattle.selection_set.specs.Held.{selected, IsHeld};
 ghost use Rattle.kak_world.specs.Rows.{Gives, does};
 ghost use Rattle.normal_keys.specs.Listing.{taken_if_any, taken_if_few, list_changed};
 ghost use Rattle.normal_keys.specs.Adding.{change_adds};

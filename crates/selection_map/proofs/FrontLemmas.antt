@@ -1,6 +1,5 @@
 -- A list whose elements are mapped one after another, from the first on.
 use Rattle.std.proofs.Common.{◌≡◌, ℕ, zero, suc, ◌+◌, ◌<◌, ◌≤◌, List, [], ◌∷◌, length, map, get_or, set, refl, ap, arith}
-use Rattle.std.specs.List.{AllByRecursion}
 
 -- the first n elements mapped, the rest as it was
 abbrev pub mapped_front : {X : Type 0} → ℕ → (X → X) → List X → List X
@@ -28,9 +27,3 @@ front-all zero f [] h = refl
 front-all zero f (x ∷ xs) h = absurd (omega arith)
 front-all (suc n) f [] h = refl
 front-all (suc n) f (x ∷ xs) h = ap (λ t. f x ∷ t) (front-all n f xs (omega arith))
-
--- what all elements have, the one at a place has
-pub all-at : {X : Type 0} (P : X → Type 0) (xs : List X) (n : ℕ) (d : X) → n < length xs → AllByRecursion P xs → P (get_or xs n d)
-all-at P [] n d h a = absurd (omega arith)
-all-at P (x ∷ xs) zero d h a = a.0
-all-at P (x ∷ xs) (suc n) d h a = all-at P xs n d (omega arith) a.1

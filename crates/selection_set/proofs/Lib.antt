@@ -4,3 +4,4 @@ pub mod NumberLemmas
 pub mod SettleLemmas
 pub mod OrderLemmas
 pub mod PairLemmas
+pub mod HeldLemmas

@@ -1,5 +1,6 @@
 pub mod Inside
 pub mod Listing
+pub mod Held
 pub mod Sweeping
 pub mod Numbering
 pub mod Examples

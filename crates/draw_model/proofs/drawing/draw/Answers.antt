@@ -9,7 +9,7 @@ use Rattle.json_ui.specs.declared.drawing.DrawnLine.{DrawnLine}
 use Rattle.kak_world.specs.Flat.{Flat, text_of, number_of, mode_of, sels_of, view_of, status_of, prompt_of, is_drawn}
 use Rattle.json_ui.specs.declared.drawing.Drawing.{Drawing}
 use Rattle.json_ui.specs.declared.drawing.Info.TheVariants.{Keep}
-use Rattle.kak_world.specs.Lists.{selected}
+use Rattle.selection_set.specs.Held.{selected}
 use Rattle.draw_model.specs.Atoms.{Shown, shown_in, atoms_of}
 use Rattle.draw_model.specs.Drawings.{drawn_lines, status_line, mode_text, main_cursor, main_column, cursor_drawn, drawing_of}
 use Rattle.draw_model.proofs.DrawnLemmas.{ranges-length}

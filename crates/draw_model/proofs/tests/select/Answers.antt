@@ -1,4 +1,4 @@
-use Rattle.kak_world.proofs.ListLemmas.{settled-held}
+use Rattle.selection_set.proofs.HeldLemmas.{settled-held}
 use Rattle.draw_model.proofs.tests.select.Goals as goal
 
 pub set_sels-requires-clause-held : goal.set_sels-requires-clause-held

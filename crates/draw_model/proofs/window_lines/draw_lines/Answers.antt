@@ -1,7 +1,7 @@
 use Rattle.std.proofs.Common.{◌≡◌, ℕ, ◌+◌, ◌-◌, min, List, [], ◌++◌, ◌∷◌, length, take, drop, sym, ap, ap₂, ◌∙◌, arith}
 use Rattle.text_model.specs.Texts.{joined, lines_of}
 use Rattle.window_view.specs.Views.{view_of}
-use Rattle.kak_world.specs.Lists.{selected}
+use Rattle.selection_set.specs.Held.{selected}
 use Rattle.draw_model.specs.Drawings.{drawn_from}
 use Rattle.draw_model.proofs.DrawnLemmas.{ends-next}
 use Rattle.draw_model.proofs.WindowLemmas.{window-more, window-all}

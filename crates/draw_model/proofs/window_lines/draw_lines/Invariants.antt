@@ -3,7 +3,7 @@ use Rattle.std.proofs.Common.{◌≡◌, ◌-◌, [], length, take, drop}
 use Rattle.std.specs.List.{AllByRecursion}
 use Rattle.text_model.specs.Texts.{joined, lines_of}
 use Rattle.window_view.specs.Views.{view_of}
-use Rattle.kak_world.specs.Lists.{selected}
+use Rattle.selection_set.specs.Held.{selected}
 use Rattle.draw_model.specs.Drawings.{drawn_from}
 use Rattle.draw_model.specs.Painting.{EndsBefore}
 use Rattle.draw_model.proofs.window_lines.draw_lines.Given as goal

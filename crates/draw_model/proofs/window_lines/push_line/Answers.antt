@@ -3,7 +3,7 @@ use Rattle.text_model.specs.Texts.{lines_of, joined, nth_line, offset}
 use Rattle.list_model.specs.Ranges.{Range, Selected}
 use Rattle.selection_set.specs.Inside.{range_of}
 use Rattle.window_view.specs.Views.{view_of}
-use Rattle.kak_world.specs.Lists.{selected}
+use Rattle.selection_set.specs.Held.{selected}
 use Rattle.draw_model.specs.declared.paint.Paint.{Paint}
 use Rattle.draw_model.specs.Painting.{colors_of, IsDrawnTo}
 use Rattle.draw_model.proofs.DrawnLemmas.{IsAlong, IsStep, step, ranges-length, along-first, along-low, along-bare, along-alone, along-bare_end, along-more, drawn-more, drawn-all, drawn-cut}

@@ -2,7 +2,7 @@
 use Rattle.std.proofs.Common.{◌*◌, ◌≤◌}
 use Rattle.text_model.specs.Texts.{offset}
 use Rattle.window_view.specs.Views.{view_of}
-use Rattle.kak_world.specs.Lists.{selected}
+use Rattle.selection_set.specs.Held.{selected}
 use Rattle.draw_model.proofs.DrawnLemmas.{IsAlong}
 use Rattle.draw_model.proofs.window_lines.push_line.Given as goal
 

@@ -1,4 +1,5 @@
-use Rattle.kak_world.proofs.ListLemmas.{client-carried, held-order}
+use Rattle.selection_set.proofs.HeldLemmas.{held-order}
+use Rattle.kak_world.proofs.CarriedLemmas.{client-carried}
 use Rattle.kak_world.proofs.edits.carry.Goals as goal
 
 pub returns : goal.returns

@@ -2,7 +2,7 @@ use Rattle.std.proofs.Common.{◌≡◌, ℕ, List, [], ◌∷◌, ap, subst, �
 use Rattle.selection_set.specs.declared.sel.Sel.{Sel}
 use Rattle.selection_set.specs.Listing.{AreInside, ranges_of, IsSettledIn}
 use Rattle.kak_world.specs.Flat.{only_at}
-use Rattle.kak_world.specs.Lists.{selected, IsHeld}
+use Rattle.selection_set.specs.Held.{selected, IsHeld}
 use Rattle.kak_world.proofs.FirstPlace.{first_sel, first-settled}
 use Rattle.kak_world.proofs.world.first_character.Goals as goal
 

@@ -2,7 +2,7 @@ use Rattle.std.proofs.Common.{◌≡◌, ℕ, List, length, ap, arith}
 use Rattle.std.proofs.lemmas.List.{length-map}
 use Rattle.selection_set.specs.Inside.{range_of}
 use Rattle.selection_set.specs.Listing.{AreInside, ranges_of, IsSettledIn}
-use Rattle.kak_world.specs.Lists.{selected}
+use Rattle.selection_set.specs.Held.{selected}
 use Rattle.list_keys.specs.Copies.{copy_of}
 use Rattle.list_keys.specs.Rows.{with_copies, main_copied, copied_each}
 use Rattle.list_keys.proofs.RowLemmas.{given-selected, ok-weaker}

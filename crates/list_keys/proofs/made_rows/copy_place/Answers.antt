@@ -2,10 +2,10 @@ use Rattle.std.proofs.Common.{◌≡◌, filter_map, is_some, true, false, sym, 
 use Rattle.std.proofs.lemmas.List.{length-map}
 use Rattle.selection_set.specs.Inside.{range_of}
 use Rattle.selection_set.specs.Listing.{ranges_of}
-use Rattle.kak_world.specs.Lists.{selected}
-use Rattle.list_keys.specs.Rows.{main_of}
+use Rattle.selection_set.specs.Held.{selected, main_of}
+use Rattle.selection_set.proofs.HeldLemmas.{main-sel}
 use Rattle.list_keys.specs.Making.{made_by}
-use Rattle.list_keys.proofs.RowLemmas.{main-sel, main-made, count-before, before-below, copied-place, kept-place}
+use Rattle.list_keys.proofs.RowLemmas.{main-made, count-before, before-below, copied-place, kept-place}
 use Rattle.list_keys.proofs.made_rows.copy_place.Goals as goal
 
 pub gives-requires : goal.gives-requires

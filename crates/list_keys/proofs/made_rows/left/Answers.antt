@@ -2,7 +2,7 @@ use Rattle.std.proofs.Common.{length, filter_map, Some, sym, ap, ◌∙◌, arit
 use Rattle.std.proofs.lemmas.List.{length-map}
 use Rattle.selection_set.specs.Inside.{range_of}
 use Rattle.selection_set.specs.Listing.{ranges_of}
-use Rattle.kak_world.specs.Lists.{selected}
+use Rattle.selection_set.specs.Held.{selected}
 use Rattle.list_keys.specs.Rows.{main_left}
 use Rattle.list_keys.specs.Making.{made_by}
 use Rattle.list_keys.proofs.RowLemmas.{given-selected, some-settled}

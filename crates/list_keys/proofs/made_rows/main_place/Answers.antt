@@ -1,8 +1,8 @@
 use Rattle.std.proofs.Common.{◌≡◌, is_some, true, false, sym, ◌∙◌, arith}
-use Rattle.kak_world.specs.Lists.{selected}
-use Rattle.list_keys.specs.Rows.{main_of}
+use Rattle.selection_set.specs.Held.{selected, main_of}
+use Rattle.selection_set.proofs.HeldLemmas.{main-sel}
 use Rattle.list_keys.specs.Making.{made_by}
-use Rattle.list_keys.proofs.RowLemmas.{main-sel, main-made, count-before, before-below, left-place, dropped-place}
+use Rattle.list_keys.proofs.RowLemmas.{main-made, count-before, before-below, left-place, dropped-place}
 use Rattle.list_keys.proofs.made_rows.main_place.Goals as goal
 
 pub gives-requires : goal.gives-requires

@@ -1,7 +1,8 @@
 use Rattle.std.proofs.Common.{◌∷◌, [], length, refl, ap, arith}
-use Rattle.kak_world.specs.Lists.{selected}
+use Rattle.selection_set.specs.Held.{selected}
+use Rattle.selection_set.proofs.HeldLemmas.{IsMain, main-sel}
 use Rattle.list_keys.specs.Rows.{main_alone}
-use Rattle.list_keys.proofs.RowLemmas.{given-held, given-selected, IsMain, main-sel}
+use Rattle.list_keys.proofs.RowLemmas.{given-held, given-selected}
 use Rattle.list_keys.proofs.main_rows.main_alone.Goals as goal
 
 pub returns-clause-held : goal.returns-clause-held

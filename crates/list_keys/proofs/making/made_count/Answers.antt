@@ -1,14 +1,13 @@
-use Rattle.std.proofs.Common.{◌<◌, length, sym, subst, arith}
-use Rattle.selection_set.specs.Inside.{IsInside}
+use Rattle.std.proofs.Common.{◌<◌, length, arith}
 use Rattle.list_keys.specs.Making.{made_by}
-use Rattle.list_keys.proofs.EachLemmas.{all-at, count-more, count-same}
-use Rattle.list_keys.proofs.RowLemmas.{zero_sel}
+use Rattle.list_keys.proofs.EachLemmas.{count-more, count-same}
+use Rattle.selection_set.proofs.HeldLemmas.{zero_sel, nth-inside}
 use Rattle.list_keys.proofs.making.made_count.Goals as goal
 use Rattle.list_keys.proofs.making.made_count.Goals.{then-gives, else-gives}
 
 pub gives-requires : goal.gives-requires
 gives-requires c =
-    subst (IsInside c.args.lines.now) (sym (c.at.ensures zero_sel)) (all-at (IsInside c.args.lines.now) c.args.sels.now.list c.loop-n.n zero_sel (omega (arith, c.loop-n-test.true, c.requires.there)) c.requires.inside)
+    nth-inside c.args.lines.now c.args.sels.now.list c.loop-n.n c.at.result c.requires.inside (omega (arith, c.loop-n-test.true, c.requires.there)) c.at.ensures
 
 pub loop-n-preserved : goal.loop-n-preserved
 loop-n-preserved c =

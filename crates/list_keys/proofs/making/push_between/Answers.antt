@@ -1,6 +1,6 @@
 use Rattle.std.proofs.Common.{◌∷◌, [], ◌++◌, length, sym, ap, ap₂, ◌∙◌, arith, append_assoc, length-append}
 use Rattle.list_keys.proofs.EachLemmas.{slice-more}
-use Rattle.list_keys.proofs.RowLemmas.{zero_sel}
+use Rattle.selection_set.proofs.HeldLemmas.{zero_sel}
 use Rattle.list_keys.proofs.making.push_between.Goals as goal
 
 pub loop-n-preserved : goal.loop-n-preserved

@@ -4,13 +4,13 @@ use Rattle.list_model.specs.Ranges.{Range}
 use Rattle.selection_set.specs.Inside.{range_of, IsInside}
 use Rattle.selection_set.specs.Listing.{AreInside, ranges_of}
 use Rattle.list_keys.specs.Making.{made_by}
-use Rattle.list_keys.proofs.EachLemmas.{all-at, all-append, made-more, made-le, found-ranges, found-inside}
-use Rattle.list_keys.proofs.RowLemmas.{zero_sel}
+use Rattle.list_keys.proofs.EachLemmas.{all-append, made-more, made-le, found-ranges, found-inside}
+use Rattle.selection_set.proofs.HeldLemmas.{zero_sel, nth-inside}
 use Rattle.list_keys.proofs.making.push_made.Goals as goal
 
 pub made-requires : goal.made-requires
 made-requires c =
-    subst (IsInside c.args.lines.now) (sym (c.at.ensures zero_sel)) (all-at (IsInside c.args.lines.now) c.args.sels.now.list c.loop-n.n zero_sel (omega (arith, c.loop-n-test.true, c.len-n-end.ensures.value)) c.requires.inside)
+    nth-inside c.args.lines.now c.args.sels.now.list c.loop-n.n c.at.result c.requires.inside (omega (arith, c.loop-n-test.true, c.len-n-end.ensures.value)) c.at.ensures
 
 pub push_found-requires : goal.push_found-requires
 push_found-requires c =

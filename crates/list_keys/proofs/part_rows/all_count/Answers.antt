@@ -1,21 +1,21 @@
-use Rattle.std.proofs.Common.{◌+◌, ◌<◌, length, take, flat_map, sym, ap, subst, arith, length-append}
+use Rattle.std.proofs.Common.{◌+◌, ◌<◌, length, take, flat_map, ap, arith, length-append}
 use Rattle.selection_set.specs.Inside.{range_of, IsInside}
 use Rattle.selection_set.specs.Listing.{ranges_of}
 use Rattle.list_keys.specs.Making.{parts_by}
 use Rattle.list_keys.proofs.CopyLemmas.{spans}
-use Rattle.list_keys.proofs.EachLemmas.{all-at, parts-more, parts-le}
-use Rattle.list_keys.proofs.RowLemmas.{zero_sel}
+use Rattle.list_keys.proofs.EachLemmas.{parts-more, parts-le}
+use Rattle.selection_set.proofs.HeldLemmas.{zero_sel, nth-inside}
 use Rattle.list_keys.proofs.part_rows.all_count.Goals as goal
 
 pub part_count-count-requires : goal.part_count-count-requires
 part_count-count-requires c =
-    let inside : IsInside c.args.lines.now c.at.result = subst (IsInside c.args.lines.now) (sym (c.at.ensures zero_sel)) (all-at (IsInside c.args.lines.now) c.args.sels.now.list c.loop-n.n zero_sel (omega (arith, c.loop-n-test.true, c.len-n-end.ensures.value)) c.requires.inside) in
+    let inside : IsInside c.args.lines.now c.at.result = nth-inside c.args.lines.now c.args.sels.now.list c.loop-n.n c.at.result c.requires.inside (omega (arith, c.loop-n-test.true, c.len-n-end.ensures.value)) c.at.ensures in
     spans c.args.lines.now c.at.result inside
 
 pub returns-then-count-gt-MAX_SELECTIONS-clause-value : goal.returns-then-count-gt-MAX_SELECTIONS-clause-value
 returns-then-count-gt-MAX_SELECTIONS-clause-value c =
     let below : c.loop-n.n < length c.args.sels.now.list = omega (arith, c.loop-n-test.true, c.len-n-end.ensures.value) in
-    let inside : IsInside c.args.lines.now c.at.result = subst (IsInside c.args.lines.now) (sym (c.at.ensures zero_sel)) (all-at (IsInside c.args.lines.now) c.args.sels.now.list c.loop-n.n zero_sel below c.requires.inside) in
+    let inside : IsInside c.args.lines.now c.at.result = nth-inside c.args.lines.now c.args.sels.now.list c.loop-n.n c.at.result c.requires.inside below c.at.ensures in
     omega (
       arith,
       c.if-count-gt-MAX_SELECTIONS.true,
@@ -29,7 +29,7 @@ returns-then-count-gt-MAX_SELECTIONS-clause-value c =
 pub loop-n-preserved : goal.loop-n-preserved
 loop-n-preserved c =
     let below : c.loop-n.n < length c.args.sels.now.list = omega (arith, c.loop-n-test.true, c.len-n-end.ensures.value) in
-    let inside : IsInside c.args.lines.now c.at.result = subst (IsInside c.args.lines.now) (sym (c.at.ensures zero_sel)) (all-at (IsInside c.args.lines.now) c.args.sels.now.list c.loop-n.n zero_sel below c.requires.inside) in
+    let inside : IsInside c.args.lines.now c.at.result = nth-inside c.args.lines.now c.args.sels.now.list c.loop-n.n c.at.result c.requires.inside below c.at.ensures in
     record {
       value =
           omega (

@@ -2,7 +2,7 @@ use Rattle.std.proofs.Common.{◌≡◌, ℕ, ◌-◌, List, length, flat_map, a
 use Rattle.std.proofs.lemmas.List.{length-map}
 use Rattle.selection_set.specs.Inside.{range_of}
 use Rattle.selection_set.specs.Listing.{AreInside, ranges_of, IsSettledIn}
-use Rattle.kak_world.specs.Lists.{selected}
+use Rattle.selection_set.specs.Held.{selected}
 use Rattle.list_keys.specs.Rows.{parts_of_each}
 use Rattle.list_keys.specs.Making.{parts_by}
 use Rattle.list_keys.proofs.RowLemmas.{given-selected, ok-weaker}

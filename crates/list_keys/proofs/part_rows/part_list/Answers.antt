@@ -1,16 +1,16 @@
-use Rattle.std.proofs.Common.{◌+◌, ◌<◌, ◌++◌, List, length, take, flat_map, sym, ap, subst, ◌∙◌, arith, length-append}
+use Rattle.std.proofs.Common.{◌+◌, ◌<◌, ◌++◌, List, length, take, flat_map, sym, ap, ◌∙◌, arith, length-append}
 use Rattle.std.proofs.lemmas.List.{length-map}
 use Rattle.list_model.specs.Ranges.{Range}
-use Rattle.selection_set.specs.Inside.{range_of, IsInside}
+use Rattle.selection_set.specs.Inside.{range_of}
 use Rattle.selection_set.specs.Listing.{ranges_of}
 use Rattle.list_keys.specs.Making.{parts_by}
-use Rattle.list_keys.proofs.EachLemmas.{all-at, parts-more, parts-le}
-use Rattle.list_keys.proofs.RowLemmas.{zero_sel}
+use Rattle.list_keys.proofs.EachLemmas.{parts-more, parts-le}
+use Rattle.selection_set.proofs.HeldLemmas.{zero_sel, nth-inside}
 use Rattle.list_keys.proofs.part_rows.part_list.Goals as goal
 
 pub push_parts-requires-clause-inside : goal.push_parts-requires-clause-inside
 push_parts-requires-clause-inside c =
-    subst (IsInside c.args.lines.now) (sym (c.at.ensures zero_sel)) (all-at (IsInside c.args.lines.now) c.args.sels.now.list c.loop-n.n zero_sel (omega (arith, c.loop-n-test.true, c.len-n-end.ensures.value)) c.requires.inside)
+    nth-inside c.args.lines.now c.args.sels.now.list c.loop-n.n c.at.result c.requires.inside (omega (arith, c.loop-n-test.true, c.len-n-end.ensures.value)) c.at.ensures
 
 pub push_parts-requires-clause-room : goal.push_parts-requires-clause-room
 push_parts-requires-clause-room c =

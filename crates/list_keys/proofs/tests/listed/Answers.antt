@@ -1,4 +1,4 @@
-use Rattle.kak_world.proofs.ListLemmas.{settled-held}
+use Rattle.selection_set.proofs.HeldLemmas.{settled-held}
 use Rattle.list_keys.proofs.tests.listed.Goals as goal
 
 pub returns : goal.returns

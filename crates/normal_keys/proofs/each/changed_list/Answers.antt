@@ -1,20 +1,16 @@
 use Rattle.window_view.specs.Views.{view_of as window_seen}
-use Rattle.std.proofs.Common.{◌+◌, ◌≤◌, ◌∷◌, [], ◌++◌, length, map, drop, sym, ap, subst, ◌∙◌, arith, false, None, length-append}
-use Rattle.selection_set.specs.declared.sel.Sel.{Sel}
-use Rattle.selection_set.specs.Inside.{range_of, IsInside}
+use Rattle.std.proofs.Common.{◌+◌, ◌≤◌, ◌∷◌, [], ◌++◌, length, map, drop, sym, ap, subst, ◌∙◌, arith, length-append}
+use Rattle.selection_set.specs.Inside.{range_of}
 use Rattle.selection_set.specs.Listing.{AreInside, ranges_of}
+use Rattle.selection_set.proofs.HeldLemmas.{zero_sel, nth-inside}
 use Rattle.normal_keys.specs.Moving.{each_range}
-use Rattle.list_keys.proofs.EachLemmas.{all-at, inside-more}
+use Rattle.list_keys.proofs.EachLemmas.{inside-more}
 use Rattle.normal_keys.proofs.EachLemmas.{moved-more}
 use Rattle.normal_keys.proofs.each.changed_list.Goals as goal
 
-abbrev zero_sel : Sel
-zero_sel = record { low = record { line = 0; column = 0 }; high = record { line = 0; column = 0 }; turned = false; target = None }
-
 pub changed-requires : goal.changed-requires
 changed-requires c =
-    subst (IsInside c.args.lines.now) (sym (c.at.ensures zero_sel))
-    (all-at (IsInside c.args.lines.now) c.args.sels.now.list c.loop-n.n zero_sel (omega (arith, c.loop-n-test.true, c.len-n-end.ensures.value)) c.requires)
+    nth-inside c.args.lines.now c.args.sels.now.list c.loop-n.n c.at.result c.requires (omega (arith, c.loop-n-test.true, c.len-n-end.ensures.value)) c.at.ensures
 
 pub loop-n-preserved : goal.loop-n-preserved
 loop-n-preserved c = record {

@@ -1,14 +1,12 @@
-use Rattle.std.proofs.Common.{◌≡◌, ℕ, ◌+◌, ◌<◌, ◌∙◌, List, length, get_or, set, ap, subst, sym, arith, false, None}
+use Rattle.std.proofs.Common.{◌≡◌, ℕ, ◌+◌, ◌<◌, ◌∙◌, List, length, get_or, set, ap, subst, sym, arith}
 use Rattle.selection_set.specs.declared.sel.Sel.{Sel}
 use Rattle.selection_set.specs.Listing.{Listed}
+use Rattle.selection_set.proofs.HeldLemmas.{all-at, zero_sel}
 use Rattle.selection_map.specs.Carrying.{AreSmall}
 use Rattle.selection_map.specs.Rebasing.{mapped_sel}
-use Rattle.selection_map.proofs.FrontLemmas.{mapped_front, front-length, front-at, front-step, front-all, all-at}
+use Rattle.selection_map.proofs.FrontLemmas.{mapped_front, front-length, front-at, front-step, front-all}
 use Rattle.selection_map.proofs.ListLemmas.{lists-settle}
 use Rattle.selection_map.proofs.lists.map_sels.Goals as goal
-
-abbrev zero_sel : Sel
-zero_sel = record { low = record { line = 0; column = 0 }; high = record { line = 0; column = 0 }; turned = false; target = None }
 
 -- the element at the loop's place is the one that was there at first
 same_at : (f : Sel → Sel) (list now : List Sel) (n : ℕ) (at : Sel) → now ≡ mapped_front n f list → ((d : Sel) → at ≡ get_or now n d) → at ≡ get_or list n zero_sel
