@@ -1,3 +1,4 @@
 pub mod FirstPlace
 pub mod PutLemmas
 pub mod CarriedLemmas
+pub mod NameLemmas

@@ -4,6 +4,7 @@
 pub mod ask;
 pub mod client;
 pub mod edits;
+pub mod laws;
 pub mod own;
 pub mod state;
 pub mod world;

@@ -5,3 +5,4 @@ pub mod PartLemmas
 pub mod CopyLemmas
 pub mod EachLemmas
 pub mod RowLemmas
+pub mod SplitLemmas

@@ -1,4 +1,5 @@
 pub mod Cuts
+pub mod Splitting
 pub mod Copies
 pub mod Rows
 pub mod Making

@@ -1,6 +1,7 @@
-//! Worked examples of the rows.
+//! A law of splitting, and worked examples of the rows.
 
 ghost use Rattle.list_keys.specs.Examples.{WholeLineExamples, TrimExamples, PartExamples, CopyExamples, MainExamples};
+ghost use Rattle.list_keys.specs.Splitting.{SplittingMakesParts};
 
 /// Worked examples of selections cut to whole lines.
 pub fn whole_line_examples()
@@ -25,4 +26,10 @@ pub fn copy_examples()
 /// Worked examples of the rows that go by the main selection, and of the whole text.
 pub fn main_examples()
     ensures { MainExamples }
+{}
+
+/// The parts that a selection is split into are the selection, one behind the other, and each is on one line: it ends at
+/// the first newline in it, or where the selection ends.
+pub fn splitting_makes_parts()
+    ensures { SplittingMakesParts }
 {}

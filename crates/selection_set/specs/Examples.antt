@@ -1,5 +1,6 @@
 -- Worked examples of lists of selections, which hold by computation.
 use Rattle.std.specs.Prelude.{◌≡◌, ℕ, true, false, None, Some, [], ◌∷◌, codes}
+use Rattle.text_model.specs.declared.TheConstants.{MAX_SELECTIONS}
 use Rattle.text_model.specs.declared.coords.Coord.{Coord}
 use Rattle.list_model.specs.Ranges.{only}
 use Rattle.list_model.specs.Settling.{settled}
@@ -22,6 +23,8 @@ abbrev pub pair : Coord → Coord → Pair
 pair anchor cursor = record { anchor = anchor; cursor = cursor }
 
 pub record Examples : Type 0 where
+  -- how many selections a list may have
+  pub limit : MAX_SELECTIONS ≡ 262144
   -- a selection on a line and its copy on the line below
   pub ranges : ranges_of (codes "ab\nc\n") (straight (at 0 1) (at 0 1) ∷ straight (at 1 1) (at 1 1) ∷ []) ≡ only 1 ∷ only 4 ∷ []
   pub forward : range_between 1 4 ≡ record { low = 1; high = 4; turned = false; target = None }

@@ -1,5 +1,6 @@
 -- Worked examples of following, which hold by computation.
 use Rattle.std.specs.Prelude.{◌≡◌, ℕ}
+use Rattle.kak_text.specs.declared.widths.TheConstants.{MAX_TABSTOP}
 use Rattle.window_view.specs.View.{View, followed}
 
 -- a window of 3 rows and 10 columns
@@ -7,6 +8,8 @@ abbrev pub small : ℕ → ℕ → View
 small top left = record { top = top; left = left; rows = 3; columns = 10 }
 
 pub record Examples : Type 0 where
+  -- the greatest distance of tab stops
+  pub tab_stops : MAX_TABSTOP ≡ 64
   pub inside_stays : followed (small 4 5) 6 14 1 0 ≡ small 4 5
   pub below_comes_last : followed (small 4 5) 7 5 1 0 ≡ small 5 5
   pub above_comes_first : followed (small 4 5) 2 5 1 0 ≡ small 2 5

@@ -1,4 +1,5 @@
 pub mod View
 pub mod Views
+pub mod Least
 pub mod Holding
 pub mod Examples
