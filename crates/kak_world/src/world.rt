@@ -38,11 +38,7 @@ fn first_character(alloc: Global, lines: &Lines) -> Sels
 {
     // its contract says that a text has a first character
     let _stored = lines.len();
-    let first = [Sel::only(Coord { line: 0, column: 0 })];
-    match Sels::of_sels(alloc, first.as_slice(), 0) {
-        Ok(sels) => sels,
-        Err(_) => unreachable!(),
-    }
+    Sels::one(alloc, Sel::only(Coord { line: 0, column: 0 }))
 }
 
 impl World {

@@ -1,11 +1,11 @@
 -- Splitting a selection at line ends gives the selection, one part behind the other.
-use Rattle.std.proofs.Common.{◌≡◌, ℕ, zero, suc, ◌+◌, ◌-◌, ◌<◌, ◌≤◌, Bool, true, false, eqb, ◌||◌, List, [], ◌∷◌, filter, None, refl, sym, ap, ◌∙◌, subst, arith, inl, inr, ◌⊎◌, eq-eqb}
+use Rattle.std.proofs.Common.{◌≡◌, ℕ, zero, suc, ◌+◌, ◌-◌, ◌<◌, ◌≤◌, Bool, true, false, eqb, ◌||◌, List, filter, refl, sym, ◌∙◌, subst, arith, inl, inr, ◌⊎◌, eq-eqb}
 use Rattle.std.specs.List.{AllByRecursion, range_with_len}
 use Rattle.std.proofs.lemmas.Bool.{cases_lt, false≢true, eqb-true}
 use Rattle.text_model.proofs.CoordLemmas.{test_cases}
 use Rattle.list_model.specs.Ranges.{Range}
 use Rattle.list_keys.specs.Cuts.{ends_line, ends_part, parts_between, parts_of}
-use Rattle.list_keys.specs.Splitting.{LieFromTo, IsLinePart, AreLineParts, SplittingMakesParts}
+use Rattle.list_keys.specs.Splitting.{LieFromTo, IsLinePart, SplittingMakesParts}
 
 -- what makes a part end at an offset, and what tells that it doesn't
 part-ends : (text : List ℕ) (high o : ℕ) → ends_part text high o ≡ true → (ends_line text o ≡ true) ⊎ (o ≡ high)

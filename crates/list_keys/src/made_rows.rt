@@ -62,7 +62,7 @@ fn left(alloc: Global, lines: &Lines, sels: &Sels, how: Making) -> Result<Option
         return Ok(None);
     }
     let main = main_place(lines, sels, how, list.len());
-    match Sels::of_sels(alloc, list.as_slice(), main) {
+    match Sels::of_vec(alloc, list, main) {
         Ok(left) => Ok(Some(left)),
         Err(SelsError::NoMemory) => Err(AllocError),
         Err(SelsError::TooMany) => unreachable!(),
@@ -146,5 +146,5 @@ pub fn copied(
         return Err(SelsError::TooMany);
     }
     let list = copies_list(alloc, lines, sels, how, count)?;
-    Sels::of_sels(alloc, list.as_slice(), copy_place(lines, sels, how))
+    Sels::of_vec(alloc, list, copy_place(lines, sels, how))
 }

@@ -17,11 +17,7 @@ pub fn main_alone(alloc: Global, sels: &Sels) -> Sels
     ensures held { (text : List ℕ) → IsHeld text sels.now → IsHeld text result }
     ensures alone { (text : List ℕ) → IsHeld text sels.now → selected text result ≡ main_alone (selected text sels.now) }
 {
-    let main = [sels.at(sels.main())];
-    match Sels::of_sels(alloc, main.as_slice(), 0) {
-        Ok(alone) => alone,
-        Err(_) => unreachable!(),
-    }
+    Sels::one(alloc, sels.at(sels.main()))
 }
 
 // The selections but the main one. Takes no memory for at most four selections.
@@ -58,7 +54,7 @@ pub fn without_main(alloc: Global, sels: &Sels) -> Result<Option<Sels>, AllocErr
         return Ok(None);
     }
     let place = place_left(sels.len(), sels.main());
-    match Sels::of_sels(alloc, list.as_slice(), place) {
+    match Sels::of_vec(alloc, list, place) {
         Ok(others) => Ok(Some(others)),
         Err(SelsError::NoMemory) => Err(AllocError),
         Err(SelsError::TooMany) => unreachable!(),
@@ -90,14 +86,11 @@ pub fn whole_text(alloc: Global, lines: &Lines) -> Sels
     ensures held { IsHeld lines.now result }
     ensures whole { selected lines.now result ≡ whole_text lines.now }
 {
-    let whole = [Sel {
+    let whole = Sel {
         low: Coord { line: 0, column: 0 },
         high: lines.last_place(),
         turned: false,
         target: None,
-    }];
-    match Sels::of_sels(alloc, whole.as_slice(), 0) {
-        Ok(whole) => whole,
-        Err(_) => unreachable!(),
-    }
+    };
+    Sels::one(alloc, whole)
 }

@@ -67,7 +67,7 @@ fn divided(alloc: Global, lines: &Lines, sels: &Sels, how: Division) -> Result<S
         None => Err(SelsError::TooMany),
         Some(count) => {
             let list = part_list(alloc, lines, sels, how, count)?;
-            Sels::of_sels(alloc, list.as_slice(), count - 1)
+            Sels::of_vec(alloc, list, count - 1)
         }
     }
 }

@@ -75,7 +75,7 @@ fn changed_sels(
     ensures few { length sels.now.list ≤ 4 → IsOk result }
 {
     let list = changed_list(alloc, lines, window, sels, change)?;
-    match Sels::of_sels(alloc, list.as_slice(), sels.main()) {
+    match Sels::of_vec(alloc, list, sels.main()) {
         Ok(moved) => Ok(moved),
         Err(SelsError::NoMemory) => Err(AllocError),
         Err(SelsError::TooMany) => unreachable!(),

@@ -58,3 +58,12 @@ main-sel text s main sel m e h =
       inside = nth-inside text s.list main sel h.inside below e;
       same = nth-range text s.list main sel (only 0) below e ∙ ap (λ n. get_or (ranges_of text s.list) n (only 0)) m;
     }
+
+-- a list of one selection is held
+pub one-held : (text : List ℕ) (sel : Sel) (s : Listed) → s ≡ record { list = sel ∷ []; main = 0 } → IsInside text sel → IsHeld text s
+one-held text sel s e h =
+    subst (IsHeld text) (sym e) (record { inside = (h, tt); settled = record { main_is = omega arith; ranges = (h.ordered, tt); apart = (tt, tt) } })
+
+-- and is its range
+pub one-selected : (text : List ℕ) (sel : Sel) (s : Listed) (r : Range) → s ≡ record { list = sel ∷ []; main = 0 } → range_of text sel ≡ r → selected text s ≡ record { list = r ∷ []; main = 0 }
+one-selected text sel s r e f = ap (selected text) e ∙ ap (λ (x : Range). let t : Selected = record { list = x ∷ []; main = 0 } in t) f

@@ -5,3 +5,4 @@ pub mod SettleLemmas
 pub mod OrderLemmas
 pub mod PairLemmas
 pub mod HeldLemmas
+pub mod InOrderLemmas

@@ -1,5 +1,5 @@
 -- Selections of two ends, by coordinates and by offsets; and what the calls that make lists are proved by.
-use Rattle.std.proofs.Common.{◌≡◌, ℕ, ◌<◌, ◌≤◌, Bool, true, false, leb, List, [], ◌∷◌, length, map, None, refl, sym, ap, ap₂, subst, ◌∙◌, arith, inl, inr, leb-true, leb-false, lt-ltb, le-ltb}
+use Rattle.std.proofs.Common.{◌≡◌, ℕ, ◌<◌, ◌≤◌, Bool, true, false, leb, List, [], ◌∷◌, length, map, None, Result, Ok, Err, IfOk, refl, sym, ap, ap₂, subst, ◌∙◌, arith, inl, inr, leb-true, leb-false, lt-ltb, le-ltb}
 use Rattle.std.specs.Prelude.{if◌then◌else◌}
 use Rattle.std.specs.List.{All, AllByRecursion}
 use Rattle.std.specs.List.Sorted.{IsPermutation, IsNonDecreasingBy}
@@ -12,6 +12,7 @@ use Rattle.list_model.proofs.UniqueLemmas.{same_range}
 use Rattle.selection_set.specs.declared.sel.Sel.{Sel}
 use Rattle.selection_set.specs.declared.sel.Pair.{Pair}
 use Rattle.selection_set.specs.declared.order.Numbered.{Numbered}
+use Rattle.selection_set.specs.declared.making.SelsError.{SelsError}
 use Rattle.selection_set.specs.Inside.{range_of, IsInside}
 use Rattle.selection_set.specs.Listing.{Listed, ranges_of, AreInside, LowsDontFall, IsSettledIn, range_of_pair, IsPairInside, sel_of_pair}
 use Rattle.selection_set.specs.Numbering.{numbered_from, rank, IsSmall}
@@ -73,3 +74,16 @@ pub settles-parts : (old s : Listed) (list : List Sel) (main : ℕ) → old ≡ 
 settles-parts old s list main e f text =
     let P : Listed → Type 0 = λ o. AreInside text o.list → LowsDontFall (ranges_of text o.list) → IsSettledIn text (ranges_of text o.list) o.main s in
     subst P e (f text)
+
+-- what was settled of a copy
+pub vec-settles : (result : Result Listed SelsError) (items list : List Sel) (main : ℕ) → items ≡ list → IfOk result (λ s. (text : List ℕ) → AreInside text items → IsSettledIn text (ranges_of text items) main s)
+    → IfOk result (λ s. (text : List ℕ) → AreInside text list → IsSettledIn text (ranges_of text list) main s)
+vec-settles result items list main e h =
+    let P : List Sel → Type 0 = λ l. IfOk result (λ s. (text : List ℕ) → AreInside text l → IsSettledIn text (ranges_of text l) main s) in
+    subst P e h
+
+-- and of the selections of pairs
+pub vec-pairs-settle : (result : Result Listed SelsError) (items : List Sel) (pairs : List Pair) (main : ℕ) → items ≡ map sel_of_pair pairs → IfOk result (λ s. (text : List ℕ) → AreInside text items → IsSettledIn text (ranges_of text items) main s)
+    → IfOk result (λ s. (text : List ℕ) → AllByRecursion (IsPairInside text) pairs → IsSettledIn text (map (range_of_pair text) pairs) main s)
+vec-pairs-settle (Ok s) items pairs main e h = pairs-settle pairs items main s e h
+vec-pairs-settle (Err error) items pairs main e h = h

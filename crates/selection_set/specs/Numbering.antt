@@ -1,5 +1,6 @@
--- Selections with the numbers of their places in a list, by which they can be put into order.
-use Rattle.std.specs.Prelude.{ℕ, ◌+◌, ◌*◌, ◌<◌, List, [], ◌∷◌}
+-- Whether selections are in order, and the numbers of their places in a list, by which they can be put into order.
+use Rattle.std.specs.Prelude.{ℕ, ◌+◌, ◌*◌, ◌<◌, Bool, true, ◌&&◌, List, [], ◌∷◌}
+use Rattle.text_model.specs.Coords.{is_at_most}
 use Rattle.selection_set.specs.declared.sel.Sel.{Sel}
 use Rattle.selection_set.specs.declared.order.Numbered.{Numbered}
 
@@ -16,3 +17,13 @@ rank n = (n.sel.low.line * 4294967296 + n.sel.low.column) * 4294967296 + n.numbe
 pub record IsSmall (n : Numbered) : Type 0 where
   pub column : n.sel.low.column < 4294967296
   pub number : n.number < 4294967296
+
+-- whether the first selection of a list, if there is one, doesn't begin before a selection
+abbrev pub begins_before : Sel → List Sel → Bool
+begins_before s [] = true
+begins_before s (t ∷ ts) = is_at_most s.low t.low
+
+-- whether no selection begins before the one in front of it
+abbrev pub in_order : List Sel → Bool
+in_order [] = true
+in_order (s ∷ ss) = begins_before s ss && in_order ss

@@ -26,7 +26,7 @@ impl Model for Sels {
 }
 
 impl Sels {
-    ghost use Rattle.std.specs.Prelude.{◌≡◌, ℕ, ◌<◌, ◌≤◌, List, length, slice_set, slice_index_or, IfOk, IsOk};
+    ghost use Rattle.std.specs.Prelude.{◌≡◌, ℕ, ◌<◌, ◌≤◌, List, [], ◌∷◌, length, slice_set, slice_index_or, IfOk, IsOk};
     ghost use Rattle.selection_set.specs.Listing.{IsList, AreInside, ranges_of, LowsDontFall, IsSettledIn};
     ghost use Rattle.selection_set.specs.Sweeping.{swept_listed};
 
@@ -36,6 +36,23 @@ impl Sels {
         ensures { result ≡ record { list = list.items; main = main } }
     {
         Sels { list, main }
+    }
+
+    /// The list of one selection. Takes no memory.
+    pub fn one(alloc: Global, sel: Sel) -> Sels
+        ensures { result ≡ record { list = sel ∷ []; main = 0 } }
+    {
+        let mut list = SmallVec::new(alloc);
+        list.push_reserved(sel);
+        Sels::of_list(list, 0)
+    }
+
+    /// The selections.
+    pub fn as_slice(&self) -> &[Sel]
+        ensures value { result.now ≡ self.now.list }
+        ensures valid { IsList self.now.list self.now.main }
+    {
+        self.list.as_slice()
     }
 
     /// How many selections there are.

@@ -3,11 +3,11 @@
 ghost use Rattle.std.specs.Prelude.{◌≡◌, ℕ, ◌<◌, ◌≤◌, ◌↔◌, List, length, map, IfOk, IsOk, IsErrOf};
 ghost use Rattle.std.specs.List.{AllByRecursion};
 ghost use Rattle.text_model.specs.declared.TheConstants.{MAX_SELECTIONS};
-ghost use Rattle.selection_set.specs.Listing.{AreInside, ranges_of, IsSettledIn, IsPairInside, range_of_pair, sel_of_pair};
+ghost use Rattle.selection_set.specs.Listing.{AreInside, ranges_of, LowsDontFall, IsSettledIn, IsPairInside, range_of_pair, sel_of_pair};
 ghost use Rattle.selection_set.specs.declared.making.SelsError.TheVariants.{NoMemory};
 
 use crate::list::Sels;
-use crate::order::{place_of, sels_alone, sort, with_numbers};
+use crate::order::{is_in_order, place_of, put_back, sort, with_numbers};
 use crate::sel::{Pair, Sel};
 use smallvec::SmallVec;
 use std::alloc::{AllocError, Global};
@@ -34,8 +34,24 @@ impl Sels {
     /// The settled list of selections in any order, of which the one at `main` is the main one. They are ordered by
     /// their first characters, and where these are the same, by their places in the list; those that share characters
     /// become one, with the flag and the target of the first, and those that only touch stay apart. The main one is
-    /// the one that holds the former main one. `TooMany` comes exactly where more than `MAX_SELECTIONS` are given. At
-    /// most four take no memory, and the answer is Ok.
+    /// the one that holds the former main one. `TooMany` comes exactly where more than `MAX_SELECTIONS` are given.
+    ///
+    /// The vector that is given becomes the list. Where no selection in it begins before an earlier one, that takes no
+    /// memory and one pass, and the answer is Ok; else so many numbers are sorted along. At most four never take memory.
+    pub fn of_vec(alloc: Global, list: SmallVec<Sel, 4>, main: usize) -> Result<Sels, SelsError>
+        requires { main < length list.items }
+        ensures settles { IfOk result (λ s. (text : List ℕ) → AreInside text list.items → IsSettledIn text (ranges_of text list.items) main s) }
+        ensures too_many { IsErrOf result SelsError.TooMany ↔ (MAX_SELECTIONS < length list.items) }
+        ensures few { length list.items ≤ 4 → IsOk result }
+        ensures in_order { (text : List ℕ) → AreInside text list.items → LowsDontFall (ranges_of text list.items) → length list.items ≤ MAX_SELECTIONS → IsOk result }
+    {
+        if list.len() > MAX_SELECTIONS {
+            return Err(SelsError::TooMany);
+        }
+        Ok(settled(alloc, list, main)?)
+    }
+
+    /// The same for a slice, which is copied.
     pub fn of_sels(alloc: Global, list: &[Sel], main: usize) -> Result<Sels, SelsError>
         requires { main < length list.now }
         ensures settles { IfOk result (λ s. (text : List ℕ) → AreInside text list.now → IsSettledIn text (ranges_of text list.now) main s) }
@@ -45,7 +61,7 @@ impl Sels {
         if list.len() > MAX_SELECTIONS {
             return Err(SelsError::TooMany);
         }
-        Ok(settled(alloc, list, main)?)
+        Sels::of_vec(alloc, SmallVec::from_slice(alloc, list)?, main)
     }
 
     /// The same for selections that are given by their two ends.
@@ -58,8 +74,7 @@ impl Sels {
         if pairs.len() > MAX_SELECTIONS {
             return Err(SelsError::TooMany);
         }
-        let list = sels_of(alloc, pairs)?;
-        Ok(settled(alloc, list.as_slice(), main)?)
+        Sels::of_vec(alloc, sels_of(alloc, pairs)?, main)
     }
 }
 
@@ -76,16 +91,34 @@ fn sels_of(alloc: Global, pairs: &[Pair]) -> Result<SmallVec<Sel, 4>, AllocError
 }
 
 // The settled list of no more selections than are allowed.
-fn settled(alloc: Global, list: &[Sel], main: usize) -> Result<Sels, AllocError>
-    requires main { main < length list.now }
-    requires few { length list.now ≤ MAX_SELECTIONS }
-    ensures settles { IfOk result (λ s. (text : List ℕ) → AreInside text list.now → IsSettledIn text (ranges_of text list.now) main s) }
-    ensures few { length list.now ≤ 4 → IsOk result }
+fn settled(alloc: Global, list: SmallVec<Sel, 4>, main: usize) -> Result<Sels, AllocError>
+    requires main { main < length list.items }
+    requires few { length list.items ≤ MAX_SELECTIONS }
+    ensures settles { IfOk result (λ s. (text : List ℕ) → AreInside text list.items → IsSettledIn text (ranges_of text list.items) main s) }
+    ensures few { length list.items ≤ 4 → IsOk result }
+    ensures in_order { (text : List ℕ) → AreInside text list.items → LowsDontFall (ranges_of text list.items) → IsOk result }
 {
-    let mut all = with_numbers(alloc, list)?;
+    if !is_in_order(list.as_slice()) {
+        return reordered(alloc, list, main);
+    }
+    let mut sels = Sels::of_list(list, main);
+    sels.settle();
+    Ok(sels)
+}
+
+// The same, where some selection may begin before an earlier one.
+fn reordered(alloc: Global, list: SmallVec<Sel, 4>, main: usize) -> Result<Sels, AllocError>
+    requires main { main < length list.items }
+    requires few { length list.items ≤ MAX_SELECTIONS }
+    ensures settles { IfOk result (λ s. (text : List ℕ) → AreInside text list.items → IsSettledIn text (ranges_of text list.items) main s) }
+    ensures few { length list.items ≤ 4 → IsOk result }
+{
+    let mut list = list;
+    let mut all = with_numbers(alloc, list.as_slice())?;
     sort(&mut all);
     let place = place_of(all.as_slice(), main as u32).unwrap_or(0);
-    let mut sels = Sels::of_list(sels_alone(alloc, all.as_slice())?, place);
+    put_back(list.as_mut_slice(), all.as_slice());
+    let mut sels = Sels::of_list(list, place);
     sels.settle();
     Ok(sels)
 }

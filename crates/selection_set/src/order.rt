@@ -4,7 +4,7 @@
 ghost use Rattle.std.specs.Prelude.{◌≡◌, ◌≤◌, ◌<◌, ◌^◌, ◌==◌, false, None, length, map, IfOk, IsOk};
 ghost use Rattle.std.specs.List.{All, position};
 ghost use Rattle.std.specs.List.Sorted.{IsPermutation, IsNonDecreasingBy};
-ghost use Rattle.selection_set.specs.Numbering.{numbered_from, rank, IsSmall};
+ghost use Rattle.selection_set.specs.Numbering.{numbered_from, rank, IsSmall, in_order};
 
 use crate::sel::Sel;
 use smallvec::SmallVec;
@@ -73,14 +73,24 @@ pub(crate) fn place_of(all: &[Numbered], number: u32) -> Option<usize>
     all.iter().position(|n| n.number == number)
 }
 
-/// The selections alone. Takes no memory for at most four.
-pub(crate) fn sels_alone(alloc: Global, all: &[Numbered]) -> Result<SmallVec<Sel, 4>, AllocError>
-    ensures ok { IfOk result (λ list. list.items ≡ map (λ n. n.sel) all.now) }
-    ensures few { length all.now ≤ 4 → IsOk result }
+/// Puts the selections alone into a list of as many.
+pub(crate) fn put_back(list: &mut [Sel], all: &[Numbered])
+    requires { length all.now ≡ length list.old }
+    ensures { list.new ≡ map (λ n. n.sel) all.now }
 {
-    let mut list = SmallVec::with_capacity(alloc, all.len())?;
-    for n in all {
-        list.push_reserved(n.sel);
+    for (i, n) in all.iter().enumerate() {
+        list[i] = n.sel;
     }
-    Ok(list)
+}
+
+/// Whether no selection begins before the one in front of it.
+pub(crate) fn is_in_order(list: &[Sel]) -> bool
+    ensures { result ≡ in_order list.now }
+{
+    for i in 1..list.len() {
+        if !list[i - 1].low.is_at_most(list[i].low) {
+            return false;
+        }
+    }
+    true
 }

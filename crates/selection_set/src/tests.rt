@@ -1,4 +1,5 @@
 use super::*;
+use smallvec::SmallVec;
 use std::alloc::Global;
 use std::process::Abort;
 use std::test::Fail;
@@ -107,6 +108,24 @@ fn lists_in_any_order_are_settled(rt: HostRuntime) -> Result<(), Fail> {
     let list = made(&rt, alloc, equal_lows.as_slice(), 2)?;
     let expected = [turned(at(0, 0), at(0, 1), 3), first(2, 2)];
     assert_list(&rt, &list, expected.as_slice(), 0);
+    Ok(())
+}
+
+#[test]
+fn a_vector_becomes_the_list(rt: HostRuntime) -> Result<(), Fail> {
+    let alloc = rt.alloc();
+    let one = Sels::one(alloc, turned(at(1, 0), at(2, 3), 5));
+    assert_eq!(rt; one.as_slice(), [turned(at(1, 0), at(2, 3), 5)].as_slice());
+    let in_order = [first(0, 1), first(1, 2), first(4, 4)];
+    let given = SmallVec::from_slice(alloc, in_order.as_slice())?;
+    assert!(rt; 2 < given.len());
+    let list = Sels::of_vec(alloc, given, 2)?;
+    assert_list(&rt, &list, [first(0, 2), first(4, 4)].as_slice(), 1);
+    let falling = [first(4, 4), first(1, 2), first(0, 1)];
+    let given = SmallVec::from_slice(alloc, falling.as_slice())?;
+    assert!(rt; 2 < given.len());
+    let list = Sels::of_vec(alloc, given, 2)?;
+    assert_list(&rt, &list, [first(0, 2), first(4, 4)].as_slice(), 0);
     Ok(())
 }
 

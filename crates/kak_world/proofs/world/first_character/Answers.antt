@@ -1,14 +1,15 @@
-use Rattle.std.proofs.Common.{◌≡◌, ℕ, List, [], ◌∷◌, ap, subst, ◌∙◌}
 use Rattle.selection_set.specs.declared.sel.Sel.{Sel}
-use Rattle.selection_set.specs.Listing.{AreInside, ranges_of, IsSettledIn}
-use Rattle.kak_world.specs.Flat.{only_at}
-use Rattle.selection_set.specs.Held.{selected, IsHeld}
-use Rattle.kak_world.proofs.FirstPlace.{first_sel, first-settled}
+use Rattle.std.proofs.Common.{◌≡◌, ◌∷◌, [], refl, ap, ◌∙◌}
+use Rattle.selection_set.specs.Listing.{Listed}
+use Rattle.selection_set.proofs.HeldLemmas.{one-held, one-selected}
+use Rattle.kak_world.proofs.FirstPlace.{first_sel, first-inside}
 use Rattle.kak_world.proofs.world.first_character.Goals as goal
 
 pub returns : goal.returns
 returns c =
-    let same : c.as_slice.result.now ≡ first_sel ∷ [] = c.as_slice.ensures ∙ ap (λ (s : Sel). s ∷ []) c.only.ensures in
-    let P : List Sel → Type 0 = λ l. (t : List ℕ) → AreInside t l → IsSettledIn t (ranges_of t l) 0 c.in-Ok.sels in
-    let both : IsHeld c.args.lines.now c.in-Ok.sels × (selected c.args.lines.now c.in-Ok.sels ≡ only_at 0) = first-settled c.args.lines.now c.in-Ok.sels c.len-stored.ensures.valid.is_text (subst P same c.in-Ok.ensures.settles) in
-    record { held = both.0; first = both.1 }
+    let P : Sel → Listed = λ s. record { list = s ∷ []; main = 0 } in
+    let same : c.one.result ≡ P first_sel = c.one.ensures ∙ ap P c.only.ensures in
+    record {
+      held = one-held c.args.lines.now first_sel c.one.result same (first-inside c.args.lines.now c.len-stored.ensures.valid.is_text);
+      first = one-selected c.args.lines.now first_sel c.one.result _ same refl;
+    }

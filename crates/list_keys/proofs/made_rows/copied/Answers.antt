@@ -1,4 +1,4 @@
-use Rattle.std.proofs.Common.{◌≡◌, ℕ, List, length, ap, arith}
+use Rattle.std.proofs.Common.{◌≡◌, ℕ, List, length, refl, ap, arith}
 use Rattle.std.proofs.lemmas.List.{length-map}
 use Rattle.selection_set.specs.Inside.{range_of}
 use Rattle.selection_set.specs.Listing.{AreInside, ranges_of, IsSettledIn}
@@ -10,10 +10,10 @@ use Rattle.list_keys.proofs.made_rows.copied.Goals as goal
 
 pub returns-clause-copies : goal.returns-clause-copies
 returns-clause-copies c =
-    ok-weaker c.of_sels.result (λ s. (t : List ℕ) → AreInside t c.as_slice.result.now → IsSettledIn t (ranges_of t c.as_slice.result.now) c.copy_place.result s)
+    ok-weaker c.of_vec.result (λ s. (t : List ℕ) → AreInside t c.in_ok-list.list.items → IsSettledIn t (ranges_of t c.in_ok-list.list.items) c.copy_place.result s)
     (λ s. selected c.args.lines.now s ≡ copied_each (copy_of c.args.direction c.args.lines.now) (selected c.args.lines.now c.args.sels.now))
-    (λ s settles. given-selected c.args.lines.now c.as_slice.result.now c.in_ok-list.list.items c.copy_place.result
+    (λ s settles. given-selected c.args.lines.now c.in_ok-list.list.items c.in_ok-list.list.items c.copy_place.result
     (record { list = with_copies (copy_of c.args.direction c.args.lines.now) (selected c.args.lines.now c.args.sels.now); main = main_copied (copy_of c.args.direction c.args.lines.now) (selected c.args.lines.now c.args.sels.now) }) s
-    c.as_slice.ensures c.in_ok-list.ensures.inside c.in_ok-list.ensures.ranges c.copy_place.ensures.value
-    (omega (arith, c.copy_place.ensures.below, ap length c.as_slice.ensures, ap length c.in_ok-list.ensures.ranges, length-map c.in_ok-list.list.items (range_of c.args.lines.now))) settles)
-    c.of_sels.ensures.settles
+    refl c.in_ok-list.ensures.inside c.in_ok-list.ensures.ranges c.copy_place.ensures.value
+    (omega (arith, c.copy_place.ensures.below, ap length c.in_ok-list.ensures.ranges, length-map c.in_ok-list.list.items (range_of c.args.lines.now))) settles)
+    c.of_vec.ensures.settles

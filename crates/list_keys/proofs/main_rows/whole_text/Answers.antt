@@ -1,4 +1,4 @@
-use Rattle.std.proofs.Common.{◌≡◌, ℕ, ◌∷◌, [], List, length, None, false, refl, ap, arith}
+use Rattle.std.proofs.Common.{◌≡◌, ℕ, List, None, false, ap, arith}
 use Rattle.text_model.specs.declared.coords.Coord.{Coord}
 use Rattle.text_model.specs.Texts.{IsStored, IsPlace, offset, last_place}
 use Rattle.text_model.proofs.PlaceLemmas.{some_lines}
@@ -6,8 +6,7 @@ use Rattle.line_buffer.proofs.StepLemmas.{next_line_place}
 use Rattle.list_model.specs.Ranges.{Range}
 use Rattle.selection_set.specs.declared.sel.Sel.{Sel}
 use Rattle.selection_set.specs.Inside.{range_of, IsInside}
-use Rattle.list_keys.specs.Rows.{whole_text}
-use Rattle.list_keys.proofs.RowLemmas.{given-held, given-selected}
+use Rattle.selection_set.proofs.HeldLemmas.{one-held, one-selected}
 use Rattle.list_keys.proofs.main_rows.whole_text.Goals as goal
 
 -- the selection up to a place
@@ -20,11 +19,8 @@ upto-inside text last t p = record { low = next_line_place text 0 t (some_lines 
 upto-range : (text : List ℕ) (last : Coord) (o : ℕ) → offset text last ≡ o → range_of text (upto last) ≡ record { low = 0; high = o; turned = false; target = None }
 upto-range text last o e = ap (λ n. let r : Range = record { low = 0; high = n; turned = false; target = None } in r) e
 
-pub returns-clause-held : goal.returns-clause-held
-returns-clause-held c =
-    given-held c.args.lines.now _ (upto c.last_place.result ∷ []) 0 c.in-Ok.whole c.as_slice.ensures (upto-inside c.args.lines.now c.last_place.result c.last_place.ensures.valid c.last_place.ensures.place, tt) c.in-Ok.ensures.settles
-
-pub returns-clause-whole : goal.returns-clause-whole
-returns-clause-whole c =
-    given-selected c.args.lines.now _ (upto c.last_place.result ∷ []) 0 (whole_text c.args.lines.now) c.in-Ok.whole c.as_slice.ensures (upto-inside c.args.lines.now c.last_place.result c.last_place.ensures.valid c.last_place.ensures.place, tt)
-    (ap (λ r. r ∷ []) (upto-range c.args.lines.now c.last_place.result (last_place c.args.lines.now) c.last_place.ensures.last)) refl (omega (arith, ap length c.as_slice.ensures)) c.in-Ok.ensures.settles
+pub returns : goal.returns
+returns c = record {
+  held = one-held c.args.lines.now (upto c.last_place.result) c.one.result c.one.ensures (upto-inside c.args.lines.now c.last_place.result c.last_place.ensures.valid c.last_place.ensures.place);
+  whole = one-selected c.args.lines.now (upto c.last_place.result) c.one.result _ c.one.ensures (upto-range c.args.lines.now c.last_place.result (last_place c.args.lines.now) c.last_place.ensures.last);
+}

@@ -1,3 +1,4 @@
+use Rattle.std.proofs.Common.{refl}
 use Rattle.window_view.specs.Views.{view_of as window_seen}
 use Rattle.normal_keys.specs.Moving.{each_range}
 use Rattle.normal_keys.proofs.EachLemmas.{settles-moved}
@@ -5,4 +6,4 @@ use Rattle.normal_keys.proofs.each.changed_sels.Goals as goal
 
 pub returns-in-Ok-clause-changes : goal.returns-in-Ok-clause-changes
 returns-in-Ok-clause-changes c =
-    settles-moved c.args.lines.now (each_range c.args.change (window_seen c.args.window) c.args.lines.now) c.args.sels.now _ c.in_ok-list.list.items _ _ c.as_slice.ensures c.main.ensures.value c.requires c.in_ok-list.ensures.inside c.in_ok-list.ensures.changes c.in-Ok.ensures.settles
+    settles-moved c.args.lines.now (each_range c.args.change (window_seen c.args.window) c.args.lines.now) c.args.sels.now _ c.in_ok-list.list.items _ _ refl c.main.ensures.value c.requires c.in_ok-list.ensures.inside c.in_ok-list.ensures.changes c.in-Ok.ensures.settles

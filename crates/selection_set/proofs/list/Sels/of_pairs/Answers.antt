@@ -1,6 +1,5 @@
-use Rattle.std.proofs.Common.{◌∙◌}
-use Rattle.selection_set.proofs.PairLemmas.{pairs-settle}
+use Rattle.selection_set.proofs.PairLemmas.{vec-pairs-settle}
 use Rattle.selection_set.proofs.list.Sels.of_pairs.Goals as goal
 
 pub returns-clause-settles : goal.returns-clause-settles
-returns-clause-settles c = pairs-settle _ c.as_slice.result.now _ _ (c.as_slice.ensures ∙ c.in_ok-list.ensures.ok) c.in_ok-settled.ensures.settles
+returns-clause-settles c = vec-pairs-settle c.of_vec.result c.in_ok-sels_of.field-0.items c.args.pairs.now c.args.main c.in_ok-sels_of.ensures.ok c.of_vec.ensures.settles
