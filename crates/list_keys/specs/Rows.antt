@@ -5,8 +5,8 @@ use Rattle.text_model.specs.Texts.{last_place}
 use Rattle.list_model.specs.Ranges.{Range, Selected, only}
 use Rattle.list_model.specs.Settling.{settled}
 use Rattle.selection_set.specs.Held.{main_of}
-use Rattle.list_keys.specs.declared.direction.Direction.{Direction}
-use Rattle.list_keys.specs.declared.direction.Direction.TheVariants.{Forward, Backward}
+use Rattle.motion_keys.specs.declared.direction.Direction.{Direction}
+use Rattle.motion_keys.specs.declared.direction.Direction.TheVariants.{Forward, Backward}
 
 -- the settled list of some selections; none where there are none
 abbrev pub settled_some : List Range → ℕ → Option Selected

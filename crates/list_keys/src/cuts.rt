@@ -9,6 +9,7 @@ ghost use Rattle.list_keys.specs.Cuts.{ends_line, starts_line, is_solid, cut_to,
 
 use kak_text::{Class, Coord, class};
 use line_buffer::Lines;
+use motion_keys::{Direction, Test, nearest};
 use selection_set::Sel;
 
 // Whether the character at a place is neither a blank nor a newline.
@@ -44,14 +45,7 @@ fn solid_to(lines: &Lines, upto: Coord) -> Option<Coord>
     requires { IsPlace lines.now upto }
     ensures { OffsetsAre lines.now result (greatest_below (is_solid lines.now) (offset lines.now upto + 1)) }
 {
-    let mut at = upto;
-    while !is_solid(lines, at) {
-        match lines.prev(at) {
-            Some(prev) => at = prev,
-            None => return None,
-        }
-    }
-    Some(at)
+    nearest(lines, upto, Direction::Backward, Test::Solid)
 }
 
 // The first place of a selection at which a line begins.

@@ -4,7 +4,6 @@
 
 mod copies;
 mod cuts;
-pub mod direction;
 pub mod laws;
 pub mod made_rows;
 pub mod main_rows;
@@ -12,7 +11,6 @@ mod making;
 pub mod part_rows;
 mod parts;
 
-pub use direction::Direction;
 pub use made_rows::{copied, trimmed, whole_lines};
 pub use main_rows::{main_alone, main_beside, whole_text, without_main};
 pub use part_rows::{ends, split_lines};

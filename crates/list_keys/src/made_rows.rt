@@ -9,9 +9,9 @@ ghost use Rattle.list_keys.specs.Copies.{copy_of};
 ghost use Rattle.list_keys.specs.Rows.{left_of_each, main_left, with_copies, main_copied, copied_each};
 ghost use Rattle.list_keys.specs.Making.{made_by};
 
-use crate::direction::Direction;
 use crate::making::{Making, gives, made_count, push_between, push_made};
 use line_buffer::Lines;
+use motion_keys::Direction;
 use selection_set::{Sel, Sels, SelsError};
 use smallvec::SmallVec;
 use std::alloc::{AllocError, Global};

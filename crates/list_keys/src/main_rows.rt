@@ -4,9 +4,9 @@ ghost use Rattle.std.specs.Prelude.{◌≡◌, ℕ, ◌+◌, ◌-◌, ◌==◌, 
 ghost use Rattle.selection_set.specs.Held.{selected, IsHeld};
 ghost use Rattle.list_keys.specs.Rows.{main_alone, without_main, place_beside, whole_text};
 
-use crate::direction::Direction;
 use crate::making::push_between;
 use line_buffer::Lines;
+use motion_keys::Direction;
 use selection_set::{Sel, Sels, SelsError};
 use smallvec::SmallVec;
 use std::alloc::{AllocError, Global};

@@ -7,8 +7,8 @@ ghost use Rattle.list_keys.specs.Making.{made_by};
 
 use crate::copies::copy;
 use crate::cuts::{lines_inside, trimmed_sel};
-use crate::direction::Direction;
 use line_buffer::Lines;
+use motion_keys::Direction;
 use selection_set::{Sel, Sels};
 use smallvec::SmallVec;
 

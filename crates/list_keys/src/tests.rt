@@ -6,6 +6,7 @@ ghost use Rattle.selection_set.specs.Held.{IsHeld};
 use super::*;
 use kak_text::{Chars, Coord, Text};
 use line_buffer::Lines;
+use motion_keys::Direction;
 use selection_set::{Pair, Sel, Sels, SelsError};
 use std::alloc::Global;
 use std::process::Abort;

@@ -7,5 +7,5 @@ pub mod DepthLemmas
 pub mod LineLemmas
 pub mod PartLemmas
 pub mod NearestLemmas
-pub mod WordLemmas
 pub mod EndLemmas
+pub mod WayLemmas

@@ -1,5 +1,5 @@
 -- Going over a text place by place, until one passes a test.
-use Rattle.std.proofs.Common.{◌≡◌, ◌≢◌, ℕ, ◌+◌, ◌-◌, ◌<◌, ◌↔◌, Bool, true, false, List, length, get_or, Option, None, Some, refl, sym, ap, subst, ◌∙◌, arith, eq-eqb, ne_eqb}
+use Rattle.std.proofs.Common.{◌≡◌, ℕ, ◌+◌, ◌-◌, ◌<◌, ◌↔◌, Bool, true, false, List, length, Option, None, Some, refl, sym, ap, subst, ◌∙◌, arith}
 use Rattle.std.specs.Prelude.{IsNone, IfSome, option_map}
 use Rattle.text_model.specs.declared.coords.Coord.{Coord}
 use Rattle.text_model.specs.Texts.{offset, IsPlace, last_place}
@@ -22,13 +22,6 @@ next-fails test text at b p e t =
 -- there is no next place
 pub next-ends : (test : ℕ → Bool) (text : List ℕ) (at : Coord) → offset text at ≡ last_place text → least_between test (offset text at + 1) (length text) ≡ None
 next-ends test text at e = least-none test (offset text at + 1) (length text) (omega arith)
-
--- whether a character is held, by what was read
-pub holds-read : (text : List ℕ) (c d o : ℕ) → d ≡ get_or text o 0 → d ≡ c → holds text c o ≡ true
-holds-read text c d o e f = eq-eqb (get_or text o 0) c (sym e ∙ f)
-
-pub holds-not : (text : List ℕ) (c d o : ℕ) → d ≡ get_or text o 0 → d ≢ c → holds text c o ≡ false
-holds-not text c d o e f = ne_eqb (get_or text o 0) c (λ g. f (e ∙ g))
 
 -- the place before one that was found ahead of another, and behind one that was found before it
 pub before-found : (text : List ℕ) (c o : ℕ) (at : Coord) (found : Option Coord) → next_with text c o ≡ Some (offset text at) → (IsNone found ↔ (offset text at ≡ 0)) → IfSome found (λ b. IsPlace text b × (offset text b + 1 ≡ offset text at)) → OffsetsAre text found (char_place text o c true false)

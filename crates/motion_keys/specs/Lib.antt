@@ -11,3 +11,4 @@ pub mod Jumps
 pub mod JumpExamples
 pub mod Landmarks
 pub mod LandmarkExamples
+pub mod Searching

@@ -6,6 +6,8 @@ ghost use Rattle.selection_set.specs.Inside.{range_of, IsInside};
 ghost use Rattle.motion_keys.specs.Places.{OffsetsAre};
 ghost use Rattle.motion_keys.specs.Jumps.{next_with, last_with, char_place, to_char, RangesAre};
 
+use crate::direction::Direction;
+use crate::searching::{Test, beside_place, nearest};
 use kak_text::Coord;
 use line_buffer::Lines;
 use selection_set::{Pair, Sel};
@@ -15,14 +17,8 @@ fn find_next(lines: &Lines, from: Coord, c: char) -> Option<Coord>
     requires { IsPlace lines.now from }
     ensures gives { OffsetsAre lines.now result (next_with lines.now c (offset lines.now from)) }
 {
-    let mut at = from;
-    while let Some(next) = lines.next(at) {
-        if lines.char_at(next) == c {
-            return Some(next);
-        }
-        at = next;
-    }
-    None
+    let next = beside_place(lines, from, true)?;
+    nearest(lines, next, Direction::Forward, Test::Is(c))
 }
 
 // The last place before another one that holds a character.
@@ -30,14 +26,8 @@ fn find_last(lines: &Lines, from: Coord, c: char) -> Option<Coord>
     requires { IsPlace lines.now from }
     ensures gives { OffsetsAre lines.now result (last_with lines.now c (offset lines.now from)) }
 {
-    let mut at = from;
-    while let Some(before) = lines.prev(at) {
-        if lines.char_at(before) == c {
-            return Some(before);
-        }
-        at = before;
-    }
-    None
+    let before = beside_place(lines, from, false)?;
+    nearest(lines, before, Direction::Backward, Test::Is(c))
 }
 
 // The place of a character ahead, or the one before it; or behind, or the one after it.

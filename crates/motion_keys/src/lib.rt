@@ -4,19 +4,23 @@
 mod bracket_kinds;
 pub mod bracket_moves;
 pub mod char_moves;
+pub mod direction;
 pub mod jump_laws;
 pub mod landmarks;
 pub mod laws;
 pub mod moves;
 pub mod place_moves;
+pub mod searching;
 pub mod word_laws;
 pub mod words;
 
 pub use bracket_moves::bracket;
 pub use char_moves::to_char;
+pub use direction::Direction;
 pub use landmarks::{LinePart, Place, View};
 pub use moves::{step, vertical};
 pub use place_moves::{line_part, place};
+pub use searching::{Test, nearest};
 pub use words::{WordMove, word};
 
 #[cfg(test)]

@@ -3,24 +3,14 @@
 ghost use Rattle.std.specs.Prelude.{◌≡◌, ◌<◌, ◌≤◌, None, Some, IsNone, IfSome, option_map, length};
 ghost use Rattle.text_model.specs.Texts.{line_count, offset, IsPlace};
 ghost use Rattle.selection_set.specs.Inside.{range_of, IsInside};
-ghost use Rattle.motion_keys.specs.Motions.{line_by, landing, aim, landed, vertical, stepped, offset_beside};
+ghost use Rattle.motion_keys.specs.Motions.{line_by, landing, aim, landed, vertical, stepped};
 ghost use Rattle.motion_keys.specs.Places.{OffsetsAre};
 
+use crate::searching::beside_place;
 use kak_text::{Coord, MAX_CHARS, MAX_TABSTOP};
 use line_buffer::Lines;
 use selection_set::{Pair, Sel};
 use window_view::{cell_of, offset_at};
-
-// The place of the character after a place, or before it.
-fn beside_place(lines: &Lines, at: Coord, forward: bool) -> Option<Coord>
-    requires { IsPlace lines.now at }
-    ensures gives { OffsetsAre lines.now result (offset_beside lines.now (offset lines.now at) forward) }
-{
-    if forward {
-        return lines.next(at);
-    }
-    lines.prev(at)
-}
 
 /// The character after the cursor, or before it. None at the end of the text, or at its start.
 pub fn step(lines: &Lines, sel: &Sel, forward: bool) -> Option<Pair>

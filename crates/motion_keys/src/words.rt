@@ -4,13 +4,14 @@ ghost use Rattle.std.specs.Prelude.{◌≡◌, true, false};
 ghost use Rattle.text_model.specs.Texts.{offset, IsPlace};
 ghost use Rattle.list_model.specs.Ranges.{cursor};
 ghost use Rattle.selection_set.specs.Inside.{range_of, IsInside};
-ghost use Rattle.motion_keys.specs.Motions.{offset_beside};
 ghost use Rattle.motion_keys.specs.Places.{OffsetsAre};
 ghost use Rattle.motion_keys.specs.Nearest.{least_from, greatest_to};
 ghost use Rattle.motion_keys.specs.Words.{class_at, is_other, begin_ahead, behind_run, run_last, behind_word, last_before_next, last_of_word, begin_back, run_first, start_of_word, first_of_word, word_ends, EndsAre};
 ghost use Rattle.motion_keys.specs.declared.words.WordMove.TheVariants.{Next, End, Back};
 
-use kak_text::{Class, Coord, class};
+use crate::direction::Direction;
+use crate::searching::{Test, beside_place, class_for, nearest};
+use kak_text::{Class, Coord};
 use line_buffer::Lines;
 use selection_set::{Pair, Sel};
 
@@ -30,27 +31,7 @@ fn class_at(lines: &Lines, at: Coord, big: bool) -> Class
     requires { IsPlace lines.now at }
     ensures { result ≡ class_at big lines.now (offset lines.now at) }
 {
-    let own = class(lines.char_at(at));
-    if big {
-        return own.wide();
-    }
-    own
-}
-
-// The place of the next character.
-fn behind(lines: &Lines, at: Coord) -> Option<Coord>
-    requires { IsPlace lines.now at }
-    ensures { OffsetsAre lines.now result (offset_beside lines.now (offset lines.now at) true) }
-{
-    lines.next(at)
-}
-
-// The place of the character before.
-fn before(lines: &Lines, at: Coord) -> Option<Coord>
-    requires { IsPlace lines.now at }
-    ensures { OffsetsAre lines.now result (offset_beside lines.now (offset lines.now at) false) }
-{
-    lines.prev(at)
+    class_for(lines.char_at(at), big)
 }
 
 // The least place from a place on whose character is of another class.
@@ -58,14 +39,7 @@ fn other_from(lines: &Lines, from: Coord, than: Class, big: bool) -> Option<Coor
     requires { IsPlace lines.now from }
     ensures { OffsetsAre lines.now result (least_from (is_other big than) lines.now (offset lines.now from)) }
 {
-    let mut at = from;
-    while class_at(lines, at, big).is(than) {
-        match lines.next(at) {
-            Some(next) => at = next,
-            None => return None,
-        }
-    }
-    Some(at)
+    nearest(lines, from, Direction::Forward, Test::Other(than, big))
 }
 
 // The greatest place up to a place whose character is of another class.
@@ -73,14 +47,7 @@ fn other_to(lines: &Lines, upto: Coord, than: Class, big: bool) -> Option<Coord>
     requires { IsPlace lines.now upto }
     ensures { OffsetsAre lines.now result (greatest_to (is_other big than) lines.now (offset lines.now upto)) }
 {
-    let mut at = upto;
-    while class_at(lines, at, big).is(than) {
-        match lines.prev(at) {
-            Some(prev) => at = prev,
-            None => return None,
-        }
-    }
-    Some(at)
+    nearest(lines, upto, Direction::Backward, Test::Other(than, big))
 }
 
 // Where a motion forward begins.
@@ -88,7 +55,7 @@ fn begin_ahead(lines: &Lines, cursor: Coord, big: bool) -> Option<Coord>
     requires { IsPlace lines.now cursor }
     ensures { OffsetsAre lines.now result (begin_ahead big lines.now (offset lines.now cursor)) }
 {
-    let next = behind(lines, cursor)?;
+    let next = beside_place(lines, cursor, true)?;
     if class_at(lines, cursor, big).is(class_at(lines, next, big)) {
         return other_from(lines, cursor, Class::Line, big);
     }
@@ -100,7 +67,7 @@ fn begin_back(lines: &Lines, cursor: Coord, big: bool) -> Option<Coord>
     requires { IsPlace lines.now cursor }
     ensures { OffsetsAre lines.now result (begin_back big lines.now (offset lines.now cursor)) }
 {
-    let prev = before(lines, cursor)?;
+    let prev = beside_place(lines, cursor, false)?;
     if class_at(lines, cursor, big).is(class_at(lines, prev, big)) {
         return other_to(lines, cursor, Class::Line, big);
     }
@@ -122,7 +89,7 @@ fn run_last(lines: &Lines, at: Coord, big: bool) -> Option<Coord>
     ensures { OffsetsAre lines.now result (run_last big lines.now (offset lines.now at)) }
 {
     let end = behind_run(lines, at, big)?;
-    before(lines, end)
+    beside_place(lines, end, false)
 }
 
 // The first place of a run of one class.
@@ -133,7 +100,7 @@ fn run_first(lines: &Lines, at: Coord, big: bool) -> Option<Coord>
 {
     let class = class_at(lines, at, big);
     match other_to(lines, at, class, big) {
-        Some(other) => behind(lines, other),
+        Some(other) => beside_place(lines, other, true),
         None => Some(lines.coord_of(0)),
     }
 }
@@ -144,7 +111,7 @@ fn behind_word(lines: &Lines, at: Coord, big: bool) -> Option<Coord>
     ensures { OffsetsAre lines.now result (behind_word big lines.now (offset lines.now at)) }
 {
     if class_at(lines, at, big).is(Class::Blank) {
-        return behind(lines, at);
+        return beside_place(lines, at, true);
     }
     behind_run(lines, at, big)
 }
@@ -156,7 +123,7 @@ fn last_before_next(lines: &Lines, at: Coord, big: bool) -> Option<Coord>
 {
     let end = behind_word(lines, at, big)?;
     let next = other_from(lines, end, Class::Blank, big)?;
-    before(lines, next)
+    beside_place(lines, next, false)
 }
 
 // The last place of the word that follows.
@@ -166,7 +133,7 @@ fn last_of_word(lines: &Lines, at: Coord, big: bool) -> Option<Coord>
 {
     let start = other_from(lines, at, Class::Blank, big)?;
     if class_at(lines, start, big).is(Class::Line) {
-        return before(lines, start);
+        return beside_place(lines, start, false);
     }
     run_last(lines, start, big)
 }
@@ -189,7 +156,7 @@ fn start_of_word(lines: &Lines, end: Coord, big: bool) -> Option<Coord>
     ensures { OffsetsAre lines.now result (start_of_word big lines.now (offset lines.now end)) }
 {
     if class_at(lines, end, big).is(Class::Line) {
-        return behind(lines, end);
+        return beside_place(lines, end, true);
     }
     run_first(lines, end, big)
 }

@@ -6,7 +6,7 @@ use Rattle.key_names.specs.declared.key.Base.{Base}
 use Rattle.key_names.specs.declared.key.Base.TheVariants as base
 use Rattle.motion_keys.specs.declared.words.WordMove.TheVariants as word
 use Rattle.motion_keys.specs.declared.landmarks.LinePart.TheVariants as part
-use Rattle.list_keys.specs.declared.direction.Direction.TheVariants.{Forward, Backward}
+use Rattle.motion_keys.specs.declared.direction.Direction.TheVariants.{Forward, Backward}
 use Rattle.kak_world.specs.declared.state.Reach.{Reach}
 use Rattle.kak_world.specs.declared.state.Reach.TheVariants.{Select, Extend}
 use Rattle.normal_keys.specs.declared.actions.Motion.{Motion}

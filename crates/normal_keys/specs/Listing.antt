@@ -3,7 +3,7 @@ use Rattle.std.specs.Prelude.{ℕ, nat_lt, if◌then◌else◌, List, length, fl
 use Rattle.std.specs.declared.option.Option.{Option}
 use Rattle.text_model.specs.declared.TheConstants.{MAX_SELECTIONS}
 use Rattle.list_model.specs.Ranges.{Range, Selected}
-use Rattle.list_keys.specs.declared.direction.Direction.{Direction}
+use Rattle.motion_keys.specs.declared.direction.Direction.{Direction}
 use Rattle.list_keys.specs.Cuts.{whole_lines_in, trimmed_range, parts_of, ends_of}
 use Rattle.list_keys.specs.Copies.{copy_of}
 use Rattle.list_keys.specs.Rows.{left_of_each, parts_of_each, with_copies, copied_each, main_alone, without_main, main_turned, whole_text}

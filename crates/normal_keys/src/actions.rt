@@ -5,8 +5,7 @@ ghost use Rattle.normal_keys.specs.Actions.{moves, sought, letter_action, alt_le
 
 use kak_world::{Reach, Search};
 use key_names::{Base, Key};
-use list_keys::Direction;
-use motion_keys::{LinePart, Place, WordMove};
+use motion_keys::{Direction, LinePart, Place, WordMove};
 
 /// Where a motion leads from a selection.
 #[derive(Clone, Copy, PartialEq, Eq, Debug)]

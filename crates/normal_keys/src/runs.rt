@@ -10,7 +10,8 @@ ghost use Rattle.normal_keys.specs.Repeating.{once};
 use crate::actions::Repeated;
 use crate::each::{Each, change_each};
 use kak_world::{Ask, EditError, World};
-use list_keys::{Direction, main_beside};
+use list_keys::main_beside;
+use motion_keys::Direction;
 use std::alloc::{AllocError, Global};
 
 // Another selection becomes the main one.

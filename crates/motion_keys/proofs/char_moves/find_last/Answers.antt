@@ -1,17 +1,9 @@
-use Rattle.std.proofs.Common.{◌∙◌}
-use Rattle.text_model.specs.Texts.{offset}
-use Rattle.motion_keys.specs.Jumps.{holds}
-use Rattle.motion_keys.proofs.ExtremeLemmas.{greatest-here, greatest-earlier}
-use Rattle.motion_keys.proofs.SearchLemmas.{holds-read, holds-not}
+use Rattle.std.proofs.Common.{ℕ, Option, subst}
+use Rattle.motion_keys.specs.Places.{OffsetsAre}
+use Rattle.motion_keys.proofs.WayLemmas.{last-nearest}
 use Rattle.motion_keys.proofs.char_moves.find_last.Goals as goal
 
-pub returns-then-char_at-c : goal.returns-then-char_at-c
-returns-then-char_at-c c = record {
-  gives = (c.in-Some.ensures.prev.0, c.loop-before.invariant.rest ∙ greatest-here (holds c.args.lines.now c.args.c) _ _ c.in-Some.ensures.prev.1 (holds-read c.args.lines.now c.args.c _ (offset c.args.lines.now c.in-Some.before) c.char_at.ensures c.if-char_at-c.true));
-}
-
-pub loop-before-preserved : goal.loop-before-preserved
-loop-before-preserved c = record {
-  place = c.in-Some.ensures.prev.0;
-  rest = c.loop-before.invariant.rest ∙ greatest-earlier (holds c.args.lines.now c.args.c) _ _ c.in-Some.ensures.prev.1 (holds-not c.args.lines.now c.args.c _ (offset c.args.lines.now c.in-Some.before) c.char_at.ensures c.if-char_at-c.false);
-}
+pub returns : goal.returns
+returns c =
+    let P : Option ℕ → Type 0 = OffsetsAre c.args.lines.now c.nearest.result in
+    record { gives = subst P (last-nearest c.args.lines.now c.args.c _ _ c.in_ok-before.ensures.gives.1) c.nearest.ensures }
