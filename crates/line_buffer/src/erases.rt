@@ -2,7 +2,8 @@
 
 ghost use Rattle.std.specs.Prelude.{◌≡◌, ℕ, ◌+◌, ◌<◌, ◌≤◌, ◌==◌, ◌&&◌, nat_lt, length, slice_range, IfOk, OnOk, OnErr};
 ghost use Rattle.text_model.specs.Texts.{IsStored, IsPlaceOrEnd, offset, line_count};
-ghost use Rattle.text_model.specs.Changes.{taken_end, erased, changed, Erasure, move_of, IsShift};
+ghost use Rattle.text_model.specs.Changes.{taken_end, erased, changed, Erasure, IsShift};
+ghost use Rattle.line_buffer.specs.Taking.{taken_move};
 
 use crate::lines::Lines;
 use kak_text::{Coord, Shift};
@@ -23,7 +24,7 @@ impl Lines {
         requires to { IsPlaceOrEnd self.old to }
         requires ordered { offset self.old from ≤ offset self.old to }
         ensures text { OnOk result (self.new ≡ erased self.old (offset self.old from) (offset self.old to)) }
-        ensures shift { IfOk result (λ e. IsShift self.old self.new e.0 (move_of self.old (Erasure (offset self.old from) (taken_end self.old (offset self.old from) (offset self.old to))))) }
+        ensures shift { IfOk result (λ e. IsShift self.old self.new e.0 (taken_move self.old (offset self.old from) (offset self.old to))) }
         ensures begin { IfOk result (λ e. e.0.begin ≡ from) }
         ensures taken { IfOk result (λ e. e.1.items ≡ slice_range self.old (offset self.old from) (taken_end self.old (offset self.old from) (offset self.old to))) }
         ensures err { OnErr result (self.new ≡ self.old) }

@@ -26,7 +26,7 @@ size-inverse text (Insertion p s) h = omega arith
 size-inverse text (Erasure p q) h = let room : q - p ≤ length (drop p text) = omega (arith, length-drop p text, h.1) in length-take-le (q - p) (drop p text) room
 
 -- what takes a step back is a step
-inverse-step : (text : List ℕ) (c : Change) → IsStored text → IsStep text c → IsStep (changed text c) (inverse text c)
+pub inverse-step : (text : List ℕ) (c : Change) → IsStored text → IsStep text c → IsStep (changed text c) (inverse text c)
 inverse-step text c s h = record {
   inside = IsInside-inverse text c h.inside;
   some = omega (arith, size-inverse text c h.inside, h.some);

@@ -8,11 +8,11 @@ use Rattle.text_model.proofs.PlaceLemmas.{leb_true}
 use Rattle.text_model.proofs.ChangeLemmas.{all_changed-append}
 use Rattle.undo_model.specs.declared.TheConstants.{MAX_NODES}
 use Rattle.undo_model.specs.Steps.{AreSteps}
-use Rattle.undo_model.specs.Tree.{Node, root, node_at, with_heir, remembering}
+use Rattle.undo_model.specs.Tree.{Node, root, node_at, with_heir, remembering, crossed, heir_after}
 use Rattle.undo_model.specs.Stories.{Group, Story, opened, pending, is_own, nodes_due, grown, committed, committed_by, added, edited, is_undo_full, went_to, moved_to, changes_to, parent_of, heir_of, undone, went_on, redone, marked_saved}
 use Rattle.undo_model.specs.Kept.{IsChild, IsHeir, IsStory}
 use Rattle.undo_model.proofs.StepLemmas.{steps-append, steps-stored}
-use Rattle.undo_model.proofs.TreeLemmas.{same-text, IsTreeAs, remembering-tree, remembering-one_up, remembering-one_down, heir-here, parent-there, Leads, route-leads, push-tree}
+use Rattle.undo_model.proofs.TreeLemmas.{same-text, IsTreeAs, remembering-tree, remembering-heir, remembering-one_up, remembering-one_down, heir-here, parent-there, Leads, route-leads, push-tree}
 
 -- an opened text
 pub opened-story : (text : List ℕ) → IsStored text → IsStory (opened text)
@@ -195,6 +195,12 @@ moved-keeps n m s h lt =
     let t : IsStory (committed s) = committed-story s h in
     let rest : IsTreeAs (remembering ((committed s).current + n) (committed s).nodes (committed s).current n) (committed s).nodes = remembering-tree ((committed s).current + n) (committed s).nodes (committed s).current n t.tree t.current lt in
     ap (λ (x : Story). (node_at x.nodes m).text) (moved-there n s lt) ∙ same-text _ (committed s).nodes m rest.same
+
+-- the heirs behind a move
+pub moved-heir : (n m : ℕ) (s : Story) → IsStory s → n < length (committed s).nodes → (node_at (moved_to n s).nodes m).heir ≡ heir_after (node_at (committed s).nodes m).heir m (crossed ((committed s).current + n) (committed s).nodes (committed s).current n)
+moved-heir n m s h lt =
+    let t : IsStory (committed s) = committed-story s h in
+    ap (λ (x : Story). (node_at x.nodes m).heir) (moved-there n s lt) ∙ remembering-heir ((committed s).current + n) (committed s).nodes (committed s).current n m t.tree t.current lt
 
 -- undo goes to the parent
 pub undone-goes : (s : Story) → IsStory s → 0 < (committed s).current → undone s ≡ went_to (parent_of (committed s)) (committed s)

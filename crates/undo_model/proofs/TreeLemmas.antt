@@ -10,7 +10,7 @@ use Rattle.text_model.proofs.CoordLemmas.{test_cases}
 use Rattle.text_model.proofs.PlaceLemmas.{three_ways}
 use Rattle.text_model.proofs.ChangeLemmas.{all_changed-append}
 use Rattle.undo_model.specs.Steps.{AreSteps}
-use Rattle.undo_model.specs.Tree.{Node, root, node_at, aimed, with_heir, up, route, remembering}
+use Rattle.undo_model.specs.Tree.{Node, root, node_at, aimed, with_heir, up, route, remembering, Step, crossed, heir_after}
 use Rattle.undo_model.specs.Kept.{IsChild, IsHeir, IsTree}
 use Rattle.undo_model.proofs.StepLemmas.{steps-append, undoing-text, undoing-steps}
 
@@ -161,6 +161,76 @@ remembering-tree (suc k) nodes a b t la lb =
             subst P (sym (remembering-up k nodes a b e l)) (remembered_upward nodes _ a t p la (remembering-tree k (with_heir (node_at nodes a).parent a nodes) (node_at nodes a).parent b (with_heir-tree nodes a t p la) (omega arith) (omega arith))))
         | inr l ↦ (let p : 0 < b = omega (arith, ltb-false b a l, eqb-false a b e) in
             subst P (sym (remembering-down k nodes a b e l)) (remembered_downward nodes _ b t p lb (remembering-tree k nodes a (node_at nodes b).parent t la (parent-there nodes b t p lb))))
+      ]
+    ]
+
+-- the three ways of the steps
+crossed-here : (k : ℕ) (nodes : List Node) (a b : ℕ) → eqb a b ≡ true → crossed k nodes a b ≡ []
+crossed-here zero nodes a b e = refl
+crossed-here (suc k) nodes a b e =
+    ap (λ v. cond v [] (cond (ltb b a) ((record { parent = (node_at nodes a).parent; child = a }) ∷ crossed k nodes (node_at nodes a).parent b) (crossed k nodes a (node_at nodes b).parent ++ (record { parent = (node_at nodes b).parent; child = b }) ∷ []))) e
+
+crossed-up : (k : ℕ) (nodes : List Node) (a b : ℕ) → eqb a b ≡ false → ltb b a ≡ true → crossed (suc k) nodes a b ≡ (record { parent = (node_at nodes a).parent; child = a }) ∷ crossed k nodes (node_at nodes a).parent b
+crossed-up k nodes a b e l =
+    ap₂ (λ v w. cond v [] (cond w ((record { parent = (node_at nodes a).parent; child = a }) ∷ crossed k nodes (node_at nodes a).parent b) (crossed k nodes a (node_at nodes b).parent ++ (record { parent = (node_at nodes b).parent; child = b }) ∷ []))) e l
+
+crossed-down : (k : ℕ) (nodes : List Node) (a b : ℕ) → eqb a b ≡ false → ltb b a ≡ false → crossed (suc k) nodes a b ≡ crossed k nodes a (node_at nodes b).parent ++ (record { parent = (node_at nodes b).parent; child = b }) ∷ []
+crossed-down k nodes a b e l =
+    ap₂ (λ v w. cond v [] (cond w ((record { parent = (node_at nodes a).parent; child = a }) ∷ crossed k nodes (node_at nodes a).parent b) (crossed k nodes a (node_at nodes b).parent ++ (record { parent = (node_at nodes b).parent; child = b }) ∷ []))) e l
+
+-- the steps are those of the parents alone
+crossed-same : (k : ℕ) (ms nodes : List Node) (a b : ℕ) → AreSame ms nodes → crossed k ms a b ≡ crossed k nodes a b
+crossed-same zero ms nodes a b h = refl
+crossed-same (suc k) ms nodes a b h =
+    elim (test_cases (eqb a b)) [
+      | inl e ↦ crossed-here (suc k) ms a b e ∙ sym (crossed-here (suc k) nodes a b e)
+      | inr e ↦ elim (test_cases (ltb b a)) [
+        | inl l ↦ crossed-up k ms a b e l ∙ crossed-same_up (same-parent ms nodes a h) (crossed-same k ms nodes (node_at nodes a).parent b h) ∙ sym (crossed-up k nodes a b e l)
+        | inr l ↦ crossed-down k ms a b e l ∙ crossed-same_down (same-parent ms nodes b h) (crossed-same k ms nodes a (node_at nodes b).parent h) ∙ sym (crossed-down k nodes a b e l)
+      ]
+    ]
+  where
+    crossed-same_up : (node_at ms a).parent ≡ (node_at nodes a).parent → crossed k ms (node_at nodes a).parent b ≡ crossed k nodes (node_at nodes a).parent b → (record { parent = (node_at ms a).parent; child = a }) ∷ crossed k ms (node_at ms a).parent b ≡ (record { parent = (node_at nodes a).parent; child = a }) ∷ crossed k nodes (node_at nodes a).parent b
+    crossed-same_up p q = ap (λ m. (let s : Step = record { parent = m; child = a } in s) ∷ crossed k ms m b) p ∙ ap (λ ss. (let s : Step = record { parent = (node_at nodes a).parent; child = a } in s) ∷ ss) q
+
+    crossed-same_down : (node_at ms b).parent ≡ (node_at nodes b).parent → crossed k ms a (node_at nodes b).parent ≡ crossed k nodes a (node_at nodes b).parent → crossed k ms a (node_at ms b).parent ++ (record { parent = (node_at ms b).parent; child = b }) ∷ [] ≡ crossed k nodes a (node_at nodes b).parent ++ (record { parent = (node_at nodes b).parent; child = b }) ∷ []
+    crossed-same_down p q = ap (λ m. crossed k ms a m ++ (let s : Step = record { parent = m; child = b } in s) ∷ []) p ∙ ap (λ ss. ss ++ (let s : Step = record { parent = (node_at nodes b).parent; child = b } in s) ∷ []) q
+
+heir_after-append : (o : Option ℕ) (n : ℕ) (ss ts : List Step) → heir_after o n (ss ++ ts) ≡ heir_after (heir_after o n ss) n ts
+heir_after-append o n [] ts = refl
+heir_after-append o n (s ∷ ss) ts = heir_after-append (cond (eqb s.parent n) (Some s.child) o) n ss ts
+
+-- one step remembered
+heir-of_step : (nodes : List Node) (p child n : ℕ) → p < length nodes → (node_at (with_heir p child nodes) n).heir ≡ cond (eqb p n) (Some child) (node_at nodes n).heir
+heir-of_step nodes p child n h =
+    elim (test_cases (eqb p n)) [
+      | inl e ↦ (let same : p ≡ n = eqb-true p n e in
+          ap (λ m. (node_at (with_heir p child nodes) m).heir) (sym same) ∙ ap (λ (x : Node). x.heir) (heir-here nodes p child h) ∙ sym (ap (λ v. cond v (Some child) (node_at nodes n).heir) e))
+      | inr e ↦ ap (λ (x : Node). x.heir) (heir-elsewhere nodes p n child (λ q. eqb-false p n e (sym q))) ∙ sym (ap (λ v. cond v (Some child) (node_at nodes n).heir) e)
+    ]
+
+-- an heir behind a way is the child of the last step that has its parent
+pub remembering-heir : (k : ℕ) (nodes : List Node) (a b n : ℕ) → IsTree nodes → a < length nodes → b < length nodes → (node_at (remembering k nodes a b) n).heir ≡ heir_after (node_at nodes n).heir n (crossed k nodes a b)
+remembering-heir zero nodes a b n t la lb = refl
+remembering-heir (suc k) nodes a b n t la lb =
+    let heir : Option ℕ = (node_at nodes n).heir in
+    elim (test_cases (eqb a b)) [
+      | inl e ↦ ap (λ ms. (node_at ms n).heir) (remembering-here (suc k) nodes a b e) ∙ sym (ap (heir_after heir n) (crossed-here (suc k) nodes a b e))
+      | inr e ↦ elim (test_cases (ltb b a)) [
+        | inl l ↦ (let p : 0 < a = omega (arith, ltb-true b a l) in
+            let pa : ℕ = (node_at nodes a).parent in
+            let there : pa < length nodes = parent-there nodes a t p la in
+            let ms : List Node = with_heir pa a nodes in
+            let same : AreSame ms nodes = with_heir-same nodes pa a there in
+            let long : length ms ≡ length nodes = same.long in
+            ap (λ xs. (node_at xs n).heir) (remembering-up k nodes a b e l) ∙ remembering-heir k ms pa b n (with_heir-tree nodes a t p la) (omega arith) (omega arith) ∙ ap₂ (λ o ss. heir_after o n ss) (heir-of_step nodes pa a n there) (crossed-same k ms nodes pa b same) ∙ sym (ap (heir_after heir n) (crossed-up k nodes a b e l)))
+        | inr l ↦ (let p : 0 < b = omega (arith, ltb-false b a l, eqb-false a b e) in
+            let pb : ℕ = (node_at nodes b).parent in
+            let there : pb < length nodes = parent-there nodes b t p lb in
+            let ms : List Node = remembering k nodes a pb in
+            let rest : IsTreeAs ms nodes = remembering-tree k nodes a pb t la there in
+            let one : List Step = (record { parent = pb; child = b }) ∷ [] in
+            ap (λ xs. (node_at xs n).heir) (remembering-down k nodes a b e l) ∙ heir-of_step ms pb b n (omega (arith, rest.same.long)) ∙ ap (λ o. cond (eqb pb n) (Some b) o) (remembering-heir k nodes a pb n t la there) ∙ sym (ap (heir_after heir n) (crossed-down k nodes a b e l) ∙ heir_after-append heir n (crossed k nodes a pb) one))
       ]
     ]
 

@@ -3,7 +3,7 @@ use Rattle.std.specs.Prelude.{◌≡◌, ℕ, true, false, [], ◌∷◌, Some, 
 use Rattle.text_model.specs.Changes.{Insertion, Erasure, all_changed}
 use Rattle.list_model.specs.Ranges.{Selected, only}
 use Rattle.undo_model.specs.Steps.{undoing}
-use Rattle.undo_model.specs.Tree.{node_at}
+use Rattle.undo_model.specs.Tree.{node_at, crossed}
 use Rattle.undo_model.specs.Stories.{Story, opened, committed, committed_by, edited, is_undo_full, moved_to, changes_to, undone, redone, heir_of, is_modified, marked_saved, nodes_due}
 use Rattle.undo_model.specs.Edits.{Splice, edit_changes}
 use Rattle.undo_model.specs.Marks.{marks, left_by}
@@ -52,6 +52,7 @@ pub record TreeExamples : Type 0 where
   pub a_second_child : two_children.current ≡ 2
   pub its_parent : (node_at two_children.nodes 2).parent ≡ 0
   pub over_the_ancestor : changes_to 1 two_children ≡ Erasure 0 1 ∷ Insertion 0 (codes "a") ∷ []
+  pub steps_of_that : crossed 3 two_children.nodes 2 1 ≡ record { parent = 0; child = 2 } ∷ record { parent = 0; child = 1 } ∷ []
   pub to_the_first : at_the_first.text ≡ codes "a\n"
   pub heir_is_the_last_gone_to : heir_of (undone at_the_first) ≡ Some 1
   pub redo_goes_to_the_heir : (redone (undone two_children)).current ≡ 2

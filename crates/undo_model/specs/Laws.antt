@@ -1,10 +1,10 @@
 -- Laws of the definitions, each proved as the contract of a function of `laws`.
-use Rattle.std.specs.Prelude.{◌≡◌, ℕ, ◌<◌, ◌≤◌, false, List, [], length, All, Some}
+use Rattle.std.specs.Prelude.{◌≡◌, ℕ, ◌+◌, ◌<◌, ◌≤◌, false, List, [], length, All, Some}
 use Rattle.text_model.specs.Texts.{IsStored}
 use Rattle.text_model.specs.Changes.{Change, all_changed}
 use Rattle.list_model.specs.Ranges.{Range}
 use Rattle.undo_model.specs.Steps.{AreSteps, undoing}
-use Rattle.undo_model.specs.Tree.{node_at}
+use Rattle.undo_model.specs.Tree.{node_at, crossed, heir_after}
 use Rattle.undo_model.specs.Stories.{Story, opened, committed, committed_by, edited, is_undo_full, moved_to, changes_to, undone, redone, heir_of, marked_saved}
 use Rattle.undo_model.specs.Edits.{Splice, AreInOrder, edit_changes, is_too_long}
 use Rattle.undo_model.specs.Marks.{marks}
@@ -34,8 +34,9 @@ pub record MovesLead : Type 0 where
   pub bring_its_text : (n : ℕ) (s : Story) → IsStory s → n < length (committed s).nodes → (moved_to n s).text ≡ (node_at (committed s).nodes n).text
   pub keep_texts : (n m : ℕ) (s : Story) → IsStory s → n < length (committed s).nodes → (node_at (moved_to n s).nodes m).text ≡ (node_at (committed s).nodes m).text
 
--- a parent remembers the child that was come back from, and the one that was gone to; so redo brings back what undo took
+-- a parent remembers the child that was last come back from or gone to; so redo brings back what undo took
 pub record HeirsAreRemembered : Type 0 where
+  pub by_each_step : (n m : ℕ) (s : Story) → IsStory s → n < length (committed s).nodes → (node_at (moved_to n s).nodes m).heir ≡ heir_after (node_at (committed s).nodes m).heir m (crossed ((committed s).current + n) (committed s).nodes (committed s).current n)
   pub by_undo : (s : Story) → IsStory s → 0 < (committed s).current → heir_of (undone s) ≡ Some (committed s).current
   pub by_redo : (s : Story) (n : ℕ) → IsStory s → heir_of (committed s) ≡ Some n → (node_at (redone s).nodes (committed s).current).heir ≡ Some n
   pub redo_goes_back : (s : Story) → IsStory s → 0 < (committed s).current → (redone (undone s)).current ≡ (committed s).current

@@ -1,5 +1,5 @@
 -- Undo trees: the texts that a buffer was left with, and the ways between them.
-use Rattle.std.specs.Prelude.{ℕ, zero, suc, ◌==◌, nat_lt, if◌then◌else◌, List, [], ◌++◌, slice_index_or, slice_set}
+use Rattle.std.specs.Prelude.{ℕ, zero, suc, ◌==◌, nat_lt, if◌then◌else◌, List, [], ◌∷◌, ◌++◌, slice_index_or, slice_set}
 use Rattle.std.specs.declared.option.Option.{Option}
 use Rattle.std.specs.Prelude.{Some, None}
 use Rattle.text_model.specs.Changes.{Change}
@@ -49,3 +49,21 @@ remembering (suc k) nodes a b =
     if a == b then nodes else (if nat_lt b a
     then remembering k (with_heir (node_at nodes a).parent a nodes) (node_at nodes a).parent b
     else with_heir (node_at nodes b).parent b (remembering k nodes a (node_at nodes b).parent))
+
+-- a parent and one of its children that a way goes between
+pub record Step : Type 0 where
+  pub parent : ℕ
+  pub child : ℕ
+
+-- the steps of the way from one node to another, in order
+abbrev pub crossed : ℕ → List Node → ℕ → ℕ → List Step
+crossed zero nodes a b = []
+crossed (suc k) nodes a b =
+    if a == b then [] else (if nat_lt b a
+    then (record { parent = (node_at nodes a).parent; child = a }) ∷ crossed k nodes (node_at nodes a).parent b
+    else crossed k nodes a (node_at nodes b).parent ++ (record { parent = (node_at nodes b).parent; child = b }) ∷ [])
+
+-- the heir of a node behind steps: the child of the last one that has it as the parent, or else the one before
+abbrev pub heir_after : Option ℕ → ℕ → List Step → Option ℕ
+heir_after heir n [] = heir
+heir_after heir n (s ∷ ss) = heir_after (if s.parent == n then Some s.child else heir) n ss
