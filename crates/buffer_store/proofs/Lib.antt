@@ -1,3 +1,4 @@
 pub mod MakingLemmas
 pub mod KeepingLemmas
 pub mod SeenLemmas
+pub mod ToldLemmas

@@ -29,7 +29,7 @@ nodes-stay o ns (b ∷ bs) n d h =
     nodes-stay o (ns ++ node_of o ns b ∷ []) bs n d longer ∙ get_or_append_left ns (node_of o ns b ∷ []) d n h
 
 -- a number that is there needs no other value
-other_default : (ns : List Node) (n : ℕ) (d e : Node) → n < length ns → get_or ns n d ≡ get_or ns n e
+pub other_default : (ns : List Node) (n : ℕ) (d e : Node) → n < length ns → get_or ns n d ≡ get_or ns n e
 other_default [] n d e h = absurd (omega arith)
 other_default (x ∷ xs) zero d e h = refl
 other_default (x ∷ xs) (suc n) d e h = other_default xs n d e (omega arith)

@@ -1,16 +1,26 @@
 -- Laws of how what a buffer keeps is seen as its story.
-use Rattle.std.specs.Prelude.{◌≡◌, ℕ, ◌<◌, List, [], ◌∷◌, ◌++◌, length, slice_set, Some}
+use Rattle.std.specs.Prelude.{◌≡◌, ℕ, ◌<◌, List, [], ◌∷◌, ◌++◌, length, slice_set, Some, None}
 use Rattle.std.specs.declared.option.Option.{Option}
 use Rattle.text_model.specs.Changes.{all_changed}
 use Rattle.change_list.specs.declared.change.Change.{Change as Kept}
 use Rattle.undo_model.specs.Steps.{undoing}
+use Rattle.text_model.specs.Texts.{IsStored}
 use Rattle.undo_model.specs.Tree.{with_heir}
+use Rattle.undo_model.specs.Stories.{opened, committed}
 use Rattle.buffer_store.specs.Stored.{AllFit, flats, made, backs}
 use Rattle.buffer_store.specs.Seen.{Branch, Pending, branch_at, node_of, nodes_of, story_from, story_of, IsTold}
 
 -- a branch with another heir
 abbrev pub aimed_branch : Branch → ℕ → Branch
 aimed_branch b child = record { parent = b.parent; heir = Some child; changes = b.changes }
+
+-- the branch of the root
+abbrev pub first_branch : Branch
+first_branch = record { parent = 0; heir = None; changes = [] }
+
+-- the branch of a committed group
+abbrev pub committed_branch : ℕ → Pending → Branch
+committed_branch current g = record { parent = current; heir = None; changes = g.changes }
 
 -- kept changes that fit are made, and taken back, by offsets
 pub record KeptChangesGoBothWays : Type 0 where
@@ -23,3 +33,10 @@ pub record BranchesTellTheStory : Type 0 where
   pub first_text_is_found : (text : List ℕ) (bs : List Branch) (current saved : ℕ) (group : Option Pending) (h : IsTold text bs current saved group) → story_of text bs current saved group ≡ story_from h.opening text bs current saved group
   pub heirs_are_heirs : (opening : List ℕ) (bs : List Branch) (n child : ℕ) → n < length bs → nodes_of opening (slice_set bs n (aimed_branch (branch_at bs n) child)) ≡ with_heir n child (nodes_of opening bs)
   pub one_more : (opening : List ℕ) (bs : List Branch) (b : Branch) → nodes_of opening (bs ++ b ∷ []) ≡ nodes_of opening bs ++ node_of opening (nodes_of opening bs) b ∷ []
+
+-- what is kept goes on to tell the story: when a text is opened, and when a group is committed
+pub record KeptTellsOn : Type 0 where
+  pub opening : (text : List ℕ) → IsStored text → IsTold text (first_branch ∷ []) 0 0 None
+  pub opened_story : (text : List ℕ) → story_of text (first_branch ∷ []) 0 0 None ≡ opened text
+  pub committing : (text : List ℕ) (bs : List Branch) (current saved : ℕ) (g : Pending) → IsTold text bs current saved (Some g) → IsTold text (bs ++ committed_branch current g ∷ []) (length bs) saved None
+  pub committed_story : (text : List ℕ) (bs : List Branch) (current saved : ℕ) (g : Pending) → IsTold text bs current saved (Some g) → story_of text (bs ++ committed_branch current g ∷ []) (length bs) saved None ≡ committed (story_of text bs current saved (Some g))

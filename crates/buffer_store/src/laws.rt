@@ -1,6 +1,6 @@
 //! The laws of the definitions and the worked examples: each is the contract of a function that does nothing.
 
-ghost use Rattle.buffer_store.specs.Laws.{KeptChangesGoBothWays, BranchesTellTheStory};
+ghost use Rattle.buffer_store.specs.Laws.{KeptChangesGoBothWays, BranchesTellTheStory, KeptTellsOn};
 ghost use Rattle.buffer_store.specs.Examples.{Examples};
 
 /// What takes kept changes back are the inverses of what they are by offsets, and leads to the text before them.
@@ -11,6 +11,11 @@ pub fn kept_changes_go_both_ways()
 /// Of a tree only the changes from node to node are kept, and the text now: they tell the whole story.
 pub fn branches_tell_the_story()
     ensures { BranchesTellTheStory }
+{}
+
+/// What is kept tells the story from when a text is opened, and goes on to when a group is committed.
+pub fn kept_tells_on()
+    ensures { KeptTellsOn }
 {}
 
 /// Worked examples of the definitions.
