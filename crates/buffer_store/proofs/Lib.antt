@@ -2,3 +2,4 @@ pub mod MakingLemmas
 pub mod KeepingLemmas
 pub mod SeenLemmas
 pub mod ToldLemmas
+pub mod MovedLemmas

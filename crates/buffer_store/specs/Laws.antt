@@ -6,7 +6,7 @@ use Rattle.change_list.specs.declared.change.Change.{Change as Kept}
 use Rattle.undo_model.specs.Steps.{undoing}
 use Rattle.text_model.specs.Texts.{IsStored}
 use Rattle.undo_model.specs.Tree.{with_heir}
-use Rattle.undo_model.specs.Stories.{opened, committed}
+use Rattle.undo_model.specs.Stories.{Story, opened, committed, undone, redone}
 use Rattle.buffer_store.specs.Stored.{AllFit, flats, made, backs}
 use Rattle.buffer_store.specs.Seen.{Branch, Pending, branch_at, node_of, nodes_of, story_from, story_of, IsTold}
 
@@ -34,9 +34,15 @@ pub record BranchesTellTheStory : Type 0 where
   pub heirs_are_heirs : (opening : List ℕ) (bs : List Branch) (n child : ℕ) → n < length bs → nodes_of opening (slice_set bs n (aimed_branch (branch_at bs n) child)) ≡ with_heir n child (nodes_of opening bs)
   pub one_more : (opening : List ℕ) (bs : List Branch) (b : Branch) → nodes_of opening (bs ++ b ∷ []) ≡ nodes_of opening bs ++ node_of opening (nodes_of opening bs) b ∷ []
 
--- what is kept goes on to tell the story: when a text is opened, and when a group is committed
+-- what is kept tells that story
+pub record Tells (text : List ℕ) (bs : List Branch) (current saved : ℕ) (group : Option Pending) (s : Story) : Type 0 where
+  pub told : IsTold text bs current saved group
+  pub story : story_of text bs current saved group ≡ s
+
+-- what is kept goes on to tell the story: when a text is opened, when a group is committed, and when the group of a node is
+-- taken back or that of its heir made again, where one heir alone changes
 pub record KeptTellsOn : Type 0 where
-  pub opening : (text : List ℕ) → IsStored text → IsTold text (first_branch ∷ []) 0 0 None
-  pub opened_story : (text : List ℕ) → story_of text (first_branch ∷ []) 0 0 None ≡ opened text
-  pub committing : (text : List ℕ) (bs : List Branch) (current saved : ℕ) (g : Pending) → IsTold text bs current saved (Some g) → IsTold text (bs ++ committed_branch current g ∷ []) (length bs) saved None
-  pub committed_story : (text : List ℕ) (bs : List Branch) (current saved : ℕ) (g : Pending) → IsTold text bs current saved (Some g) → story_of text (bs ++ committed_branch current g ∷ []) (length bs) saved None ≡ committed (story_of text bs current saved (Some g))
+  pub opening : (text : List ℕ) → IsStored text → Tells text (first_branch ∷ []) 0 0 None (opened text)
+  pub committing : (text : List ℕ) (bs : List Branch) (current saved : ℕ) (g : Pending) → IsTold text bs current saved (Some g) → Tells text (bs ++ committed_branch current g ∷ []) (length bs) saved None (committed (story_of text bs current saved (Some g)))
+  pub undoing : (text : List ℕ) (bs : List Branch) (current saved : ℕ) → IsTold text bs current saved None → 0 < current → Tells (all_changed text (backs text (branch_at bs current).changes)) (slice_set bs (branch_at bs current).parent (aimed_branch (branch_at bs (branch_at bs current).parent) current)) (branch_at bs current).parent saved None (undone (story_of text bs current saved None))
+  pub redoing : (text : List ℕ) (bs : List Branch) (current saved n : ℕ) → IsTold text bs current saved None → (branch_at bs current).heir ≡ Some n → Tells (made text (branch_at bs n).changes) (slice_set bs current (aimed_branch (branch_at bs current) n)) n saved None (redone (story_of text bs current saved None))

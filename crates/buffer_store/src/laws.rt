@@ -13,7 +13,7 @@ pub fn branches_tell_the_story()
     ensures { BranchesTellTheStory }
 {}
 
-/// What is kept tells the story from when a text is opened, and goes on to when a group is committed.
+/// What is kept tells the story when a text is opened, and goes on to when a group is committed, taken back or made again.
 pub fn kept_tells_on()
     ensures { KeptTellsOn }
 {}

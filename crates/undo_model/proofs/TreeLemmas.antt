@@ -48,7 +48,7 @@ heir-here nodes n child h = get_or-set_at nodes n n (aimed (node_at nodes n) chi
 heir-elsewhere : (nodes : List Node) (n m child : ℕ) → m ≢ n → node_at (with_heir n child nodes) m ≡ node_at nodes m
 heir-elsewhere nodes n m child h = get_or-set_other nodes n m (aimed (node_at nodes n) child) (root []) h
 
-with_heir-same : (nodes : List Node) (n child : ℕ) → n < length nodes → AreSame (with_heir n child nodes) nodes
+pub with_heir-same : (nodes : List Node) (n child : ℕ) → n < length nodes → AreSame (with_heir n child nodes) nodes
 with_heir-same nodes n child h = record { long = length-set nodes n (aimed (node_at nodes n) child); same = λ m. at m (test_cases (eqb m n)) }
   where
     at : (m : ℕ) → (eqb m n ≡ true) ⊎ (eqb m n ≡ false) → bare (node_at (with_heir n child nodes) m) ≡ bare (node_at nodes m)

@@ -1,6 +1,12 @@
 use Rattle.std.proofs.Common.{refl}
 use Rattle.buffer_store.proofs.ToldLemmas.{told-opened, told-committed, committed-seen}
+use Rattle.buffer_store.proofs.MovedLemmas.{told-undone, told-redone}
 use Rattle.buffer_store.proofs.laws.kept_tells_on.Goals as goal
 
 pub returns : goal.returns
-returns c = record { opening = told-opened; opened_story = λ text. refl; committing = told-committed; committed_story = committed-seen }
+returns c = record {
+  opening = λ text h. record { told = told-opened text h; story = refl };
+  committing = λ text bs current saved g h. record { told = told-committed text bs current saved g h; story = committed-seen text bs current saved g h };
+  undoing = told-undone;
+  redoing = told-redone;
+}
