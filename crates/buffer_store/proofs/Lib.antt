@@ -3,3 +3,4 @@ pub mod KeepingLemmas
 pub mod SeenLemmas
 pub mod ToldLemmas
 pub mod MovedLemmas
+pub mod AddedLemmas

@@ -13,7 +13,8 @@ pub fn branches_tell_the_story()
     ensures { BranchesTellTheStory }
 {}
 
-/// What is kept tells the story when a text is opened, and goes on to when a group is committed, taken back or made again.
+/// What is kept tells the story when a text is opened, and goes on to when a change is added, and when a group is committed,
+/// taken back or made again.
 pub fn kept_tells_on()
     ensures { KeptTellsOn }
 {}

@@ -1,4 +1,4 @@
-//! Buffers: a text with its undo tree.
+//! The changes of a buffer as they are kept, so that each can be made and taken back, and how they tell the buffer's story.
 #![tactic(auto)]
 
 pub mod keeping;

@@ -90,7 +90,7 @@ committed_by-story who s h =
     elim (is_own who s.group) as (λ v. IsStory (cond v (committed s) s)) [ true ↦ committed-story s h | false ↦ h ]
 
 -- changes are added where there is place for their node
-added-story : (who : ℕ) (cs : List Change) (s : Story) → IsStory s → AreSteps s.text cs → length s.nodes + 1 ≤ MAX_NODES → IsStory (added who cs s)
+pub added-story : (who : ℕ) (cs : List Change) (s : Story) → IsStory s → AreSteps s.text cs → length s.nodes + 1 ≤ MAX_NODES → IsStory (added who cs s)
 added-story who cs s h k room =
     let P : List ℕ → Type 0 = λ t. AreSteps t cs in
     record {
