@@ -91,21 +91,21 @@ place_by_column text at (inr e) h = absurd (omega (arith, ap (λ (x : Coord). x.
 pub start-le-offset : (text : List ℕ) (n : ℕ) (to : Coord) → n ≤ to.line → offset text (record { line = n; column = 0 }) ≤ offset text to
 start-le-offset text n to h = omega (arith, start-le (lines_of text) n to.line h)
 
--- one more line's bytes
-pub encoded_line : (text bytes new line : List ℕ) (p n start : ℕ) → bytes ≡ encode_utf8_all (slice_range text p (offset text (record { line = n; column = start }))) → new ≡ bytes ++ encode_utf8_all (drop start line) → line ≡ get_or (lines_of text) n [] → n < length (lines_of text) → start < length (get_or (lines_of text) n []) → p ≤ offset text (record { line = n; column = start }) → new ≡ encode_utf8_all (slice_range text p (offset text (record { line = n + 1; column = 0 })))
-encoded_line text bytes new line p n start so_far more is h k l =
-    more ∙ ap₂ (λ x y. x ++ encode_utf8_all (drop start y)) so_far is ∙ sym (encodes-append (slice_range text p (offset text (record { line = n; column = start }))) (drop start (get_or (lines_of text) n []))) ∙ ap encode_utf8_all (sym (slice_line text p n start h k l))
+-- one more line's characters
+pub sliced_line : (text chars new line : List ℕ) (p n start : ℕ) → chars ≡ slice_range text p (offset text (record { line = n; column = start })) → new ≡ chars ++ drop start line → line ≡ get_or (lines_of text) n [] → n < length (lines_of text) → start < length (get_or (lines_of text) n []) → p ≤ offset text (record { line = n; column = start }) → new ≡ slice_range text p (offset text (record { line = n + 1; column = 0 }))
+sliced_line text chars new line p n start so_far more is h k l =
+    more ∙ ap₂ (λ x y. x ++ drop start y) so_far is ∙ sym (slice_line text p n start h k l)
 
--- the last part's bytes
-pub encoded_part : (text bytes new line : List ℕ) (p n start : ℕ) (to : Coord) → bytes ≡ encode_utf8_all (slice_range text p (offset text (record { line = n; column = start }))) → new ≡ bytes ++ encode_utf8_all (take (to.column - start) (drop start line)) → line ≡ get_or (lines_of text) to.line [] → n ≡ to.line → IsPlace text to → start ≤ to.column → p ≤ offset text (record { line = n; column = start }) → new ≡ encode_utf8_all (slice_range text p (offset text to))
-encoded_part text bytes new line p n start to so_far more is same place o l =
+-- the last part's characters
+pub sliced_part : (text chars new line : List ℕ) (p n start : ℕ) (to : Coord) → chars ≡ slice_range text p (offset text (record { line = n; column = start })) → new ≡ chars ++ take (to.column - start) (drop start line) → line ≡ get_or (lines_of text) to.line [] → n ≡ to.line → IsPlace text to → start ≤ to.column → p ≤ offset text (record { line = n; column = start }) → new ≡ slice_range text p (offset text to)
+sliced_part text chars new line p n start to so_far more is same place o l =
     let at : Coord = record { line = to.line; column = start } in
     let here : offset text (record { line = n; column = start }) ≡ offset text at = ap (λ m. length (joined (take m (lines_of text))) + start) same in
-    more ∙ ap₂ (λ x y. x ++ encode_utf8_all (take (to.column - start) (drop start y))) (so_far ∙ ap (λ m. encode_utf8_all (slice_range text p m)) here) is ∙ sym (encodes-append (slice_range text p (offset text at)) (take (to.column - start) (drop start (get_or (lines_of text) to.line [])))) ∙ ap encode_utf8_all (sym (slice_column text p to.line start to.column place.on_line o place.in_line (omega arith)))
+    more ∙ ap₂ (λ x y. x ++ take (to.column - start) (drop start y)) (so_far ∙ ap (slice_range text p) here) is ∙ sym (slice_column text p to.line start to.column place.on_line o place.in_line (omega arith))
 
 -- nothing is left of the last part
-pub encoded_none : (text bytes : List ℕ) (p n start : ℕ) (to : Coord) → bytes ≡ encode_utf8_all (slice_range text p (offset text (record { line = n; column = start }))) → n ≡ to.line → to.column ≤ start → offset text (record { line = n; column = start }) ≤ offset text to → bytes ≡ encode_utf8_all (slice_range text p (offset text to))
-encoded_none text bytes p n start to so_far same o l =
+pub sliced_none : (text chars : List ℕ) (p n start : ℕ) (to : Coord) → chars ≡ slice_range text p (offset text (record { line = n; column = start })) → n ≡ to.line → to.column ≤ start → offset text (record { line = n; column = start }) ≤ offset text to → chars ≡ slice_range text p (offset text to)
+sliced_none text chars p n start to so_far same o l =
     let here : offset text (record { line = n; column = start }) ≡ offset text (record { line = to.line; column = start }) = ap (λ m. length (joined (take m (lines_of text))) + start) same in
     let e : offset text (record { line = n; column = start }) ≡ offset text to = omega arith in
-    so_far ∙ ap (λ m. encode_utf8_all (slice_range text p m)) e
+    so_far ∙ ap (slice_range text p) e

@@ -58,24 +58,34 @@ impl Lines {
     }
 
     /// The characters from a place to before another, or to the end. It costs what it gives.
+    pub fn chars(&self, alloc: Global, from: Coord, to: Coord) -> Result<Vec<char>, AllocError>
+        requires from { IsPlaceOrEnd self.now from }
+        requires to { IsPlaceOrEnd self.now to }
+        requires ordered { offset self.now from ≤ offset self.now to }
+        ensures { IfOk result (λ chars. chars.items ≡ slice_range self.now (offset self.now from) (offset self.now to)) }
+    {
+        let mut chars = Vec::new(alloc);
+        let mut start = from.column as usize;
+        for n in from.line..to.line {
+            chars.extend_from_slice(&self.line(n as usize)[start..])?;
+            start = 0;
+        }
+        if start < to.column as usize {
+            chars.extend_from_slice(&self.line(to.line as usize)[start..to.column as usize])?;
+        }
+        Ok(chars)
+    }
+
+    /// The characters from a place to before another, or to the end, as a string. It costs what it gives.
     pub fn slice(&self, alloc: Global, from: Coord, to: Coord) -> Result<String, AllocError>
         requires from { IsPlaceOrEnd self.now from }
         requires to { IsPlaceOrEnd self.now to }
         requires ordered { offset self.now from ≤ offset self.now to }
         ensures { IfOk result (λ text. string_bytes text ≡ encode_utf8_all (slice_range self.now (offset self.now from) (offset self.now to))) }
     {
+        let chars = self.chars(alloc, from, to)?;
         let mut text = String::new(alloc);
-        let mut start = from.column as usize;
-        for n in from.line..to.line {
-            push_all(&mut text, &self.line(n as usize)[start..])?;
-            start = 0;
-        }
-        if start < to.column as usize {
-            push_all(
-                &mut text,
-                &self.line(to.line as usize)[start..to.column as usize],
-            )?;
-        }
+        push_all(&mut text, chars.as_slice())?;
         Ok(text)
     }
 }

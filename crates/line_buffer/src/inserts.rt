@@ -67,7 +67,7 @@ impl Lines {
             self.put_lines(alloc, at, chars)?;
             return Ok(behind);
         }
-        self.put_on_line(alloc, at, chars)?;
+        self.put_on_line(at, chars)?;
         Ok(behind)
     }
 

@@ -3,11 +3,13 @@
 #![tactic(auto)]
 
 mod cuts;
+pub mod erases;
 pub mod flat;
 pub mod inserts;
 mod line;
 pub mod lines;
 pub mod steps;
+mod turns;
 
 pub use lines::{Lines, LinesError};
 

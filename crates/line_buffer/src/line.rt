@@ -1,8 +1,9 @@
 //! One line of a buffer.
 
-ghost use Rattle.std.specs.Prelude.{◌≡◌, IfOk};
+ghost use Rattle.std.specs.Prelude.{◌≡◌, ◌≢◌, ◌<◌, ◌≤◌, ◌++◌, length, take, drop, All, IfOk, OnOk, OnErr};
 ghost use Rattle.text_model.specs.Texts.{IsLine};
 
+use crate::turns::{cut_out, put_at};
 use std::alloc::{AllocError, Global};
 use std::marker::Model;
 
@@ -40,6 +41,26 @@ impl Line {
         Ok(Line {
             chars: Vec::from_slice(alloc, chars)?,
         })
+    }
+
+    /// Puts characters that are no newlines in at a column. It costs them and what stands behind the column.
+    pub fn put(&mut self, column: usize, chars: &[char]) -> Result<(), AllocError>
+        requires inside { column < length self.old }
+        requires one_line { All (λ c. c ≢ 10) chars.now }
+        ensures ok { OnOk result (self.new ≡ take column self.old ++ (chars.now ++ drop column self.old)) }
+        ensures err { OnErr result (self.new ≡ self.old) }
+    {
+        put_at(&mut self.chars, column, chars)?;
+        Ok(())
+    }
+
+    /// Takes the characters from a column to before another out; takes no memory.
+    pub fn cut(&mut self, from: usize, to: usize)
+        requires ordered { from ≤ to }
+        requires inside { to < length self.old }
+        ensures { self.new ≡ take from self.old ++ drop to self.old }
+    {
+        cut_out(&mut self.chars, from, to);
     }
 
     /// The characters.

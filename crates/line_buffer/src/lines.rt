@@ -1,12 +1,13 @@
 //! The lines of a buffer: the calls that reach the fields.
 
-ghost use Rattle.std.specs.Prelude.{◌≡◌, ◌≢◌, ℕ, ◌+◌, ◌-◌, ◌<◌, ◌≤◌, ◌*◌, ◌++◌, length, take, drop, All, IfOk, OnOk, OnErr};
+ghost use Rattle.std.specs.Prelude.{◌≡◌, ◌≢◌, ℕ, ◌+◌, ◌<◌, ◌≤◌, ◌*◌, ◌++◌, ◌∷◌, length, take, drop, All, IfOk, OnOk, OnErr};
 ghost use Rattle.text_model.specs.Texts.{IsStored, IsText, IsLine, IsPlace, joined, offset, line_count, nth_line};
-ghost use Rattle.text_model.specs.Changes.{changed, Insertion};
+ghost use Rattle.text_model.specs.Changes.{changed, Insertion, Erasure};
 ghost use Rattle.line_buffer.specs.declared.lines.LinesError.TheVariants.{NoMemory};
 
 use crate::cuts::{cut, gathered};
 use crate::line::Line;
+use crate::turns::{cut_out, turn_right};
 use kak_text::{Coord, MAX_CHARS, Text};
 use std::alloc::{AllocError, Global};
 use std::marker::Model;
@@ -90,25 +91,15 @@ impl Lines {
     }
 
     // Puts characters without a newline in at a place.
-    pub(crate) fn put_on_line(
-        &mut self,
-        alloc: Global,
-        at: Coord,
-        chars: &[char],
-    ) -> Result<(), AllocError>
+    pub(crate) fn put_on_line(&mut self, at: Coord, chars: &[char]) -> Result<(), AllocError>
         requires place { IsPlace self.old at }
         requires room { length self.old + length chars.now ≤ MAX_CHARS }
         requires one_line { All (λ c. c ≢ 10) chars.now }
         ensures ok { OnOk result (self.new ≡ changed self.old (Insertion (offset self.old at) chars.now)) }
         ensures err { OnErr result (self.new ≡ self.old) }
     {
-        let line = longer_line(
-            alloc,
-            self.line(at.line as usize),
-            at.column as usize,
-            chars,
-        )?;
-        self.lines[at.line as usize] = line;
+        let line = &mut self.lines[at.line as usize];
+        line.put(at.column as usize, chars)?;
         self.count += chars.len();
         Ok(())
     }
@@ -148,24 +139,75 @@ impl Lines {
         self.count += chars.len();
         Ok(())
     }
+
+    // Takes the characters from a place of a line to before another out, which takes no memory.
+    pub(crate) fn cut_line(&mut self, from: Coord, to: Coord)
+        requires place { IsPlace self.old to }
+        requires one_line { from.line ≡ to.line }
+        requires ordered { from.column ≤ to.column }
+        ensures { self.new ≡ changed self.old (Erasure (offset self.old from) (offset self.old to)) }
+    {
+        let line = &mut self.lines[to.line as usize];
+        line.cut(from.column as usize, to.column as usize);
+        self.count -= (to.column - from.column) as usize;
+    }
+
+    // Takes so many characters out, from a place to before one on a later line.
+    pub(crate) fn join_lines(
+        &mut self,
+        alloc: Global,
+        from: Coord,
+        to: Coord,
+        gone: usize,
+    ) -> Result<(), AllocError>
+        requires from { IsPlace self.old from }
+        requires to { IsPlace self.old to }
+        requires ordered { from.line < to.line }
+        requires gone { offset self.old from + gone ≡ offset self.old to }
+        ensures ok { OnOk result (self.new ≡ changed self.old (Erasure (offset self.old from) (offset self.old to))) }
+        ensures err { OnErr result (self.new ≡ self.old) }
+    {
+        let line = joined_line(
+            alloc,
+            self.line(from.line as usize),
+            from.column as usize,
+            self.line(to.line as usize),
+            to.column as usize,
+        )?;
+        replace_lines(&mut self.lines, from.line as usize, to.line as usize, line);
+        self.count -= gone;
+        Ok(())
+    }
+
+    // Takes the lines from one that isn't the first up to the end out, with so many characters; takes no memory.
+    pub(crate) fn cut_off(&mut self, from: Coord, gone: usize)
+        requires begin { from.column ≡ 0 }
+        requires some { 0 < from.line }
+        requires inside { from.line ≤ line_count self.old }
+        requires gone { offset self.old from + gone ≡ length self.old }
+        ensures { self.new ≡ changed self.old (Erasure (offset self.old from) (length self.old)) }
+    {
+        self.lines.truncate(from.line as usize);
+        self.count -= gone;
+    }
 }
 
-// A line with characters put in that are no newlines.
-fn longer_line(
+// The begin of a line before the end of another.
+fn joined_line(
     alloc: Global,
-    line: &[char],
-    column: usize,
-    chars: &[char],
+    first: &[char],
+    from: usize,
+    last: &[char],
+    to: usize,
 ) -> Result<Line, AllocError>
-    requires line { IsLine line.now }
-    requires inside { column < length line.now }
-    requires small { length line.now + length chars.now ≤ 2 * MAX_CHARS }
-    requires one_line { All (λ c. c ≢ 10) chars.now }
-    ensures line { IfOk result (λ longer. longer ≡ take column line.now ++ (chars.now ++ drop column line.now)) }
-    ensures valid { IfOk result IsLine }
+    requires first { IsLine first.now }
+    requires last { IsLine last.now }
+    requires from { from < length first.now }
+    requires to { to < length last.now }
+    requires small { length first.now + length last.now ≤ 2 * MAX_CHARS }
+    ensures { IfOk result (λ line. line ≡ take from first.now ++ drop to last.now) }
 {
-    let (front, back) = line.split_at(column);
-    Ok(Line::of_vec(gathered(alloc, front, chars, back)?))
+    Ok(Line::of_vec(gathered(alloc, &first[..from], &last[to..], &[])?))
 }
 
 // The lines that a line becomes when characters are put in.
@@ -204,10 +246,12 @@ fn replace_line(lines: &mut Vec<Line>, n: usize, mut fresh: Vec<Line>) -> Result
     Ok(())
 }
 
-// Moves the last so many lines before the others from a place on.
-fn turn_right(lines: &mut [Line], from: usize, more: usize)
-    requires { from + more ≤ length lines.old }
-    ensures { lines.new ≡ take from lines.old ++ (drop (length lines.old - more) lines.old ++ take (length lines.old - more - from) (drop from lines.old)) }
+// Puts a line in the place of those from one to another, which is all that it changes.
+fn replace_lines(lines: &mut Vec<Line>, first: usize, last: usize, line: Line)
+    requires ordered { first ≤ last }
+    requires inside { last < length lines.old.items }
+    ensures { lines.new.items ≡ take first lines.old.items ++ (line ∷ drop (last + 1) lines.old.items) }
 {
-    lines[from..].rotate_right(more);
+    cut_out(lines, first + 1, last + 1);
+    lines[first] = line;
 }

@@ -151,3 +151,82 @@ fn a_slice_goes_over_lines(rt: HostRuntime) -> Result<(), Fail> {
     }
     Ok(())
 }
+
+// A row of an erasure: the text before, the range, what is left, and what was taken with the shift's end.
+#[derive(Drop)]
+struct Taken {
+    before: &'static str,
+    from: usize,
+    to: usize,
+    after: &'static str,
+    taken: &'static str,
+    end: Coord,
+    last: Coord,
+}
+
+const fn make_taken(
+    before: &'static str,
+    range: (usize, usize),
+    after: &'static str,
+    taken: &'static str,
+    end: (u32, u32),
+    last: (u32, u32),
+) -> Taken {
+    Taken {
+        before,
+        from: range.0,
+        to: range.1,
+        after,
+        taken,
+        end: Coord {
+            line: end.0,
+            column: end.1,
+        },
+        last: Coord {
+            line: last.0,
+            column: last.1,
+        },
+    }
+}
+
+#[test]
+fn erasures_keep_the_last_newline(rt: HostRuntime) -> Result<(), Fail> {
+    let alloc = rt.alloc();
+    let rows = [
+        make_taken("abcd\n", (1, 3), "ad\n", "bc", (0, 3), (0, 2)),
+        make_taken("abcd\n", (0, 1), "bcd\n", "a", (0, 1), (0, 3)),
+        make_taken("ab\n", (1, 1), "ab\n", "", (0, 1), (0, 2)),
+        make_taken("ab\n", (1, 3), "a\n", "b", (0, 2), (0, 1)),
+        make_taken("ab\n", (0, 3), "\n", "ab", (0, 2), (0, 0)),
+        make_taken("ab\n", (2, 3), "ab\n", "", (0, 2), (0, 2)),
+        make_taken("ab\n", (3, 3), "ab\n", "", (1, 0), (0, 2)),
+        make_taken("a\nb\n", (1, 2), "ab\n", "\n", (1, 0), (0, 2)),
+        make_taken("a\nb\n", (2, 4), "a\n", "b\n", (2, 0), (0, 1)),
+        make_taken("a\nb\n", (0, 4), "\n", "a\nb", (1, 1), (0, 0)),
+        make_taken(
+            "ab\ncd\nef\ngh\n",
+            (1, 7),
+            "af\ngh\n",
+            "b\ncd\ne",
+            (2, 1),
+            (1, 2),
+        ),
+        make_taken("ab\ncd\nef\n", (3, 9), "ab\n", "cd\nef\n", (3, 0), (0, 2)),
+    ];
+    for row in &rows {
+        let mut text = lines(alloc, row.before)?;
+        assert!(rt; row.from <= row.to);
+        assert!(rt; row.to <= text.len());
+        let from = text.coord_of(row.from);
+        let to = text.coord_of(row.to);
+        let (shift, taken) = text.erase(alloc, from, to)?;
+        assert_eq!(rt; whole(alloc, &text)?.as_str(), row.after);
+        let expected = Chars::from_str(alloc, row.taken)?;
+        assert_eq!(rt; taken.as_slice(), expected.as_slice());
+        assert!(rt; !shift.insert);
+        assert_eq!(rt; shift.begin, from);
+        assert_eq!(rt; shift.end, row.end);
+        assert_eq!(rt; shift.last, row.last);
+    }
+    Ok(())
+}

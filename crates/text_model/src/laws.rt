@@ -1,5 +1,7 @@
 //! The laws of the definitions and their worked examples: each is the contract of a function that does nothing.
 
+ghost use Rattle.std.specs.Prelude.{◌≡◌};
+ghost use Rattle.text_model.specs.declared.TheConstants.{MAX_CHARS, MAX_SELECTIONS};
 ghost use Rattle.text_model.specs.Laws.{LinesAreInverse, CoordinatesAreInverse, ChangesAreInverse, ChangesMakeTexts, MappingLaws};
 ghost use Rattle.text_model.specs.Examples.{WorkedExamples};
 
@@ -31,4 +33,10 @@ pub fn mapping_keeps_order()
 /// Worked examples of all definitions.
 pub fn worked_examples()
     ensures { WorkedExamples }
+{}
+
+/// The limits, in numbers.
+pub fn limits()
+    ensures characters { MAX_CHARS ≡ 16777216 }
+    ensures selections { MAX_SELECTIONS ≡ 262144 }
 {}

@@ -1,25 +1,27 @@
-use Rattle.std.proofs.Common.{◌≡◌, ◌++◌, List, ℕ, [], ◌∷◌, length, take, drop, get_or, ap, ◌∙◌, arith, append-nil}
-use Rattle.text_model.specs.Texts.{lines_of, joined}
-use Rattle.line_buffer.proofs.BufferLemmas.{seen_lines, put_text, put_buffer, set_is_replaced, one_line}
+use Rattle.std.proofs.Common.{◌≡◌, ◌<◌, ◌++◌, List, ℕ, [], ◌∷◌, length, take, drop, get_or, ap, sym, ◌∙◌, subst, arith, append-nil}
+use Rattle.std.proofs.lemmas.List.{get_or_read}
+use Rattle.text_model.specs.Texts.{IsLine, lines_of}
+use Rattle.line_buffer.proofs.BufferLemmas.{buffer_lines, seen_lines, put_text, put_buffer, set_is_replaced, one_line, longer_line}
 use Rattle.line_buffer.proofs.lines.Lines.put_on_line.Goals as goal
 
-pub invariant_of-self : goal.invariant_of-self
-invariant_of-self c =
+pub invariant_of-self-2 : goal.invariant_of-self-2
+invariant_of-self-2 c =
     let ls : List (List ℕ) = c.self.inside.lines.items in
     let same : lines_of c.args.self.now ≡ ls = seen_lines c.args.self.now ls c.self.inside.count c.self.invariant c.self.view_is in
-    let old : c.line.result.now ≡ get_or ls c.args.at.line [] = c.line.ensures.value ∙ ap (λ l. get_or l c.args.at.line []) same in
-    let fresh : joined (c.in_ok-line.line ∷ []) ≡ take c.args.at.column (get_or ls c.args.at.line []) ++ (c.args.chars.now ++ drop c.args.at.column (get_or ls c.args.at.line [])) =
-    append-nil c.in_ok-line.line ∙ c.in_ok-line.ensures.line ∙ ap (λ l. take c.args.at.column l ++ (c.args.chars.now ++ drop c.args.at.column l)) old in
-    put_buffer c.args.self.now ls (c.in_ok-line.line ∷ []) _ c.self.inside.count c.args.at c.args.chars.now c.self.invariant c.self.view_is c.requires.place fresh
-    (set_is_replaced ls c.args.at.line c.in_ok-line.line (omega (arith, ap length same, c.requires.place.on_line)))
-    (one_line c.in_ok-line.line c.in_ok-line.ensures.valid) (omega arith) c.requires.room
+    let inside : c.args.at.line < length ls = omega (arith, ap length same, c.requires.place.on_line) in
+    let old : c.index_mut-line.result.now ≡ get_or ls c.args.at.line [] = get_or_read ls c.args.at.line c.index_mut-line.result.now inside c.index_mut-line.ensures.value [] in
+    let new : c.put.new.self ≡ take c.args.at.column (get_or ls c.args.at.line []) ++ (c.args.chars.now ++ drop c.args.at.column (get_or ls c.args.at.line [])) =
+    c.in_ok-put.ensures.ok ∙ ap (λ l. take c.args.at.column l ++ (c.args.chars.now ++ drop c.args.at.column l)) old in
+    let short : c.args.at.column < length (get_or ls c.args.at.line []) = omega (arith, ap (λ l. length (get_or l c.args.at.line [])) same, c.requires.place.in_line) in
+    let line : IsLine c.put.new.self = subst IsLine (sym new) (longer_line (get_or ls c.args.at.line []) c.args.at.column c.args.chars.now (buffer_lines ls c.self.inside.count c.self.invariant c.args.at.line [] inside) short c.requires.one_line) in
+    put_buffer c.args.self.now ls (c.put.new.self ∷ []) _ c.self.inside.count c.args.at c.args.chars.now c.self.invariant c.self.view_is c.requires.place (append-nil c.put.new.self ∙ new) (set_is_replaced ls c.args.at.line c.put.new.self inside) (one_line c.put.new.self line) (omega arith) c.requires.room
 
 pub returns-clause-ok : goal.returns-clause-ok
 returns-clause-ok c =
     let ls : List (List ℕ) = c.self.inside.lines.items in
     let same : lines_of c.args.self.now ≡ ls = seen_lines c.args.self.now ls c.self.inside.count c.self.invariant c.self.view_is in
-    let old : c.line.result.now ≡ get_or ls c.args.at.line [] = c.line.ensures.value ∙ ap (λ l. get_or l c.args.at.line []) same in
-    let fresh : joined (c.in_ok-line.line ∷ []) ≡ take c.args.at.column (get_or ls c.args.at.line []) ++ (c.args.chars.now ++ drop c.args.at.column (get_or ls c.args.at.line [])) =
-    append-nil c.in_ok-line.line ∙ c.in_ok-line.ensures.line ∙ ap (λ l. take c.args.at.column l ++ (c.args.chars.now ++ drop c.args.at.column l)) old in
-    put_text c.args.self.now ls (c.in_ok-line.line ∷ []) _ c.self.inside.count c.args.at c.args.chars.now c.self.invariant c.self.view_is c.requires.place fresh
-    (set_is_replaced ls c.args.at.line c.in_ok-line.line (omega (arith, ap length same, c.requires.place.on_line)))
+    let inside : c.args.at.line < length ls = omega (arith, ap length same, c.requires.place.on_line) in
+    let old : c.index_mut-line.result.now ≡ get_or ls c.args.at.line [] = get_or_read ls c.args.at.line c.index_mut-line.result.now inside c.index_mut-line.ensures.value [] in
+    let new : c.put.new.self ≡ take c.args.at.column (get_or ls c.args.at.line []) ++ (c.args.chars.now ++ drop c.args.at.column (get_or ls c.args.at.line [])) =
+    c.in_ok-put.ensures.ok ∙ ap (λ l. take c.args.at.column l ++ (c.args.chars.now ++ drop c.args.at.column l)) old in
+    put_text c.args.self.now ls (c.put.new.self ∷ []) _ c.self.inside.count c.args.at c.args.chars.now c.self.invariant c.self.view_is c.requires.place (append-nil c.put.new.self ∙ new) (set_is_replaced ls c.args.at.line c.put.new.self inside)

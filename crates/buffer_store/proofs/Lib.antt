@@ -1,0 +1,6 @@
+pub mod MakingLemmas
+pub mod KeepingLemmas
+pub mod SeenLemmas
+pub mod ToldLemmas
+pub mod MovedLemmas
+pub mod AddedLemmas

@@ -1,0 +1,4 @@
+pub mod Stored
+pub mod Seen
+pub mod Laws
+pub mod Examples

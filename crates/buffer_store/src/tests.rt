@@ -1,0 +1,69 @@
+use super::*;
+use kak_text::{Chars, Text};
+use line_buffer::Lines;
+use std::alloc::Global;
+use std::test::Fail;
+
+fn lines(alloc: Global, text: &str) -> Result<Lines, Fail> {
+    let chars = Chars::from_str(alloc, text)?;
+    let text = Text::of_chars(alloc, chars.as_slice())?;
+    Ok(Lines::of_text(alloc, &text)?)
+}
+
+// The text as a string.
+fn whole(alloc: Global, lines: &Lines) -> Result<String, Fail> {
+    let text = lines.to_text(alloc)?;
+    let mut out = String::new(alloc);
+    for c in text.as_slice() {
+        out.push(*c)?;
+    }
+    Ok(out)
+}
+
+#[test]
+fn an_insertion_is_taken_back_and_made_again(rt: HostRuntime) -> Result<(), Fail> {
+    let alloc = rt.alloc();
+    let rows = [
+        ("ab\n", 1, "x\ny", "ax\nyb\n"),
+        ("ab\n", 3, "x", "ab\nx\n"),
+        ("ab\n", 0, "", "ab\n"),
+    ];
+    for (before, at, put, after) in &rows {
+        let mut text = lines(alloc, before)?;
+        let put = Chars::from_str(alloc, put)?;
+        assert!(rt; *at <= text.len());
+        let at = text.coord_of(*at);
+        if let Some(change) = insert(&mut text, alloc, at, put.as_slice())? {
+            take_back(&mut text, alloc, &change)?;
+            assert_eq!(rt; whole(alloc, &text)?.as_str(), *before);
+            make(&mut text, alloc, &change)?;
+        }
+        assert_eq!(rt; whole(alloc, &text)?.as_str(), *after);
+    }
+    Ok(())
+}
+
+#[test]
+fn an_erasure_is_taken_back_and_made_again(rt: HostRuntime) -> Result<(), Fail> {
+    let alloc = rt.alloc();
+    let rows = [
+        ("ab\ncd\n", 1, 4, "ad\n"),
+        ("ab\ncd\n", 3, 6, "ab\n"),
+        ("ab\n", 1, 3, "a\n"),
+        ("\n", 0, 1, "\n"),
+    ];
+    for (before, from, to, after) in &rows {
+        let mut text = lines(alloc, before)?;
+        assert!(rt; *from <= *to);
+        assert!(rt; *to <= text.len());
+        let from = text.coord_of(*from);
+        let to = text.coord_of(*to);
+        if let Some(change) = erase(&mut text, alloc, from, to)? {
+            take_back(&mut text, alloc, &change)?;
+            assert_eq!(rt; whole(alloc, &text)?.as_str(), *before);
+            make(&mut text, alloc, &change)?;
+        }
+        assert_eq!(rt; whole(alloc, &text)?.as_str(), *after);
+    }
+    Ok(())
+}

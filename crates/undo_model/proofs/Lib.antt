@@ -1,0 +1,5 @@
+pub mod StepLemmas
+pub mod TreeLemmas
+pub mod StoryLemmas
+pub mod EditLemmas
+pub mod MarkLemmas

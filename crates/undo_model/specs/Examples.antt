@@ -1,0 +1,99 @@
+-- Worked examples of undo trees, which hold by computation.
+use Rattle.std.specs.Prelude.{◌≡◌, ℕ, true, false, [], ◌∷◌, Some, None, codes, List}
+use Rattle.text_model.specs.Changes.{Insertion, Erasure, all_changed}
+use Rattle.list_model.specs.Ranges.{Selected, only}
+use Rattle.undo_model.specs.Steps.{undoing}
+use Rattle.undo_model.specs.Tree.{node_at, crossed}
+use Rattle.undo_model.specs.Stories.{Story, opened, committed, committed_by, edited, is_undo_full, moved_to, changes_to, undone, redone, heir_of, is_modified, marked_saved, nodes_due}
+use Rattle.undo_model.specs.Edits.{Splice, edit_changes}
+use Rattle.undo_model.specs.Marks.{marks, left_by}
+
+-- a client types a character at the begin of the text
+abbrev pub typed : ℕ → ℕ → Story → Story
+typed who c s = edited who (Insertion 0 (c ∷ []) ∷ []) s
+
+-- an empty buffer
+abbrev pub empty : Story
+empty = opened (codes "\n")
+
+-- client 0 typed `a`, and ended insert mode
+abbrev pub one_node : Story
+one_node = committed_by 0 (typed 0 97 empty)
+
+-- it took that back, and typed `b` in its place
+abbrev pub two_children : Story
+two_children = committed_by 0 (typed 0 98 (undone one_node))
+
+-- and went back to the first child
+abbrev pub at_the_first : Story
+at_the_first = moved_to 1 two_children
+
+-- client 0 has typed `a`, and then client 1 `b`, both in insert mode
+abbrev pub two_clients : Story
+two_clients = typed 1 98 (typed 0 97 empty)
+
+-- the first character
+abbrev pub first_alone : Selected
+first_alone = record { list = only 0 ∷ []; main = 0 }
+
+abbrev pub splice : ℕ → ℕ → List ℕ → Splice
+splice from to put = record { from = from; «to» = to; put = put }
+
+pub record TreeExamples : Type 0 where
+  pub opened_at_the_root : empty.current ≡ 0
+  pub nothing_to_undo : undone empty ≡ empty
+  pub nothing_to_redo : redone empty ≡ empty
+  pub typing_is_pending : (typed 0 97 empty).nodes ≡ empty.nodes
+  pub a_group_becomes_a_node : one_node.current ≡ 1
+  pub its_text : one_node.text ≡ codes "a\n"
+  pub undo_takes_it_back : (undone one_node).text ≡ codes "\n"
+  pub undo_is_remembered : heir_of (undone one_node) ≡ Some 1
+  pub redo_makes_it_again : (redone (undone one_node)).text ≡ codes "a\n"
+  pub a_second_child : two_children.current ≡ 2
+  pub its_parent : (node_at two_children.nodes 2).parent ≡ 0
+  pub over_the_ancestor : changes_to 1 two_children ≡ Erasure 0 1 ∷ Insertion 0 (codes "a") ∷ []
+  pub steps_of_that : crossed 3 two_children.nodes 2 1 ≡ record { parent = 0; child = 2 } ∷ record { parent = 0; child = 1 } ∷ []
+  pub to_the_first : at_the_first.text ≡ codes "a\n"
+  pub heir_is_the_last_gone_to : heir_of (undone at_the_first) ≡ Some 1
+  pub redo_goes_to_the_heir : (redone (undone two_children)).current ≡ 2
+  pub no_such_node : moved_to 3 two_children ≡ two_children
+  pub where_it_is : (moved_to 2 two_children).nodes ≡ two_children.nodes
+  pub from_the_last_back : undoing (codes "ab\n") (Erasure 0 1 ∷ Insertion 1 (codes "x") ∷ []) ≡ Erasure 1 2 ∷ Insertion 0 (codes "a") ∷ []
+
+pub record GroupExamples : Type 0 where
+  pub own_changes_are_one_group : (committed (typed 0 98 (typed 0 97 empty))).current ≡ 1
+  pub and_go_back_together : (undone (typed 0 98 (typed 0 97 empty))).text ≡ codes "\n"
+  pub others_are_committed_first : two_clients.current ≡ 1
+  pub the_first_alone_stands : (node_at two_clients.nodes 1).text ≡ codes "a\n"
+  pub undo_takes_what_is_pending : (undone two_clients).text ≡ codes "a\n"
+  pub no_change_commits_nothing : edited 1 [] (typed 0 97 empty) ≡ typed 0 97 empty
+  pub others_end_nothing : committed_by 1 (typed 0 97 empty) ≡ typed 0 97 empty
+  pub pending_counts_as_a_node : nodes_due two_clients ≡ 3
+  pub there_is_room : is_undo_full 0 (Insertion 0 (codes "c") ∷ []) two_clients ≡ false
+  pub pending_is_modified : is_modified (typed 0 97 empty) ≡ true
+  pub a_new_node_is_modified : is_modified one_node ≡ true
+  pub undone_is_as_it_was_saved : is_modified (undone one_node) ≡ false
+  pub saving_commits : (marked_saved (typed 0 97 empty)).current ≡ 1
+  pub saved_is_not_modified : is_modified (marked_saved (typed 0 97 empty)) ≡ false
+  pub undone_is_modified_then : is_modified (undone (marked_saved (typed 0 97 empty))) ≡ true
+
+pub record EditExamples : Type 0 where
+  pub places_move_along : edit_changes 4 (codes "abc\n") (splice 0 1 (codes "xy") ∷ splice 2 3 [] ∷ []) ≡ Erasure 0 1 ∷ Insertion 0 (codes "xy") ∷ Erasure 3 4 ∷ []
+  pub one_place_twice : edit_changes 2 (codes "a\n") (splice 0 0 (codes "x") ∷ splice 0 0 (codes "y") ∷ []) ≡ Insertion 0 (codes "x") ∷ Insertion 1 (codes "y") ∷ []
+  pub the_end_twice : edit_changes 2 (codes "a\n") (splice 2 2 (codes "x") ∷ splice 2 2 (codes "y") ∷ []) ≡ Insertion 2 (codes "x\n") ∷ Insertion 4 (codes "y\n") ∷ []
+  pub and_all_lines : all_changed (codes "a\n") (edit_changes 2 (codes "a\n") (splice 2 2 (codes "x") ∷ splice 2 2 (codes "y") ∷ [])) ≡ codes "a\nx\ny\n"
+  pub last_newline_stays : edit_changes 3 (codes "ab\n") (splice 1 3 [] ∷ splice 3 3 (codes "x") ∷ []) ≡ Erasure 1 2 ∷ Insertion 2 (codes "x\n") ∷ []
+
+pub record MarkExamples : Type 0 where
+  pub both_sides_of_the_way : marks (codes "b\n") [] (Erasure 0 1 ∷ Insertion 0 (codes "a") ∷ []) ≡ only 1 ∷ only 0 ∷ []
+  pub last_change_is_main : left_by (codes "b\n") (Erasure 0 1 ∷ Insertion 0 (codes "a") ∷ []) first_alone ≡ record { list = only 0 ∷ only 1 ∷ []; main = 0 }
+  pub no_change_leaves_the_list : left_by (codes "b\n") [] first_alone ≡ first_alone
+  pub what_was_put_in : marks (codes "\n") [] (Insertion 0 (codes "abc") ∷ []) ≡ record { low = 0; high = 2; turned = false; target = None } ∷ []
+  pub end_means_the_last : marks (codes "a\nb\n") [] (Erasure 2 4 ∷ []) ≡ only 1 ∷ []
+
+-- all of them
+pub record WorkedExamples : Type 0 where
+  pub trees : TreeExamples
+  pub groups : GroupExamples
+  pub edits : EditExamples
+  pub marks_of_moves : MarkExamples
