@@ -1,11 +1,7 @@
 -- Finding a row, and putting one, by its place.
-use Rattle.std.proofs.Common.{◌≡◌, ℕ, suc, ◌<◌, ◌≤◌, List, [], ◌∷◌, ◌++◌, length, get_or, set, Bool, true, false, cond, refl, ap, sym, ◌∙◌, arith}
-use Rattle.tables.specs.Tables.{first_where, put_where}
-
--- how many rows stand before the first that passes
-abbrev pub place_where : {A : Type 0} → (A → Bool) → List A → ℕ
-place_where p [] = 0
-place_where p (x ∷ xs) = cond (p x) 0 (suc (place_where p xs))
+use Rattle.std.proofs.lemmas.List.{drop_more, drop_all, get_or_read, get_or_past}
+use Rattle.std.proofs.Common.{drop, ◌+◌, ◌≡◌, ℕ, suc, ◌<◌, ◌≤◌, List, [], ◌∷◌, ◌++◌, length, get_or, set, Bool, true, false, cond, refl, ap, sym, ◌∙◌, arith}
+use Rattle.tables.specs.Tables.{first_where, put_where, place_where}
 
 -- cases of a test
 pub by_test : (P : Bool → Type 0) (b : Bool) → (b ≡ true → P true) → (b ≡ false → P false) → P b
@@ -56,3 +52,46 @@ first-put_other p q row other (x ∷ xs) apart h =
     (λ _ e. ap (λ b. cond b row (first_where q other xs)) h ∙ ap (λ b. cond b x (first_where q other xs)) (sym (apart x (sym e))))
     (λ _ _. ap (λ rest. cond (q x) x rest) (first-put_other p q row other xs apart h))
     refl
+
+-- a place is inside or at the end
+pub place_le : {A : Type 0} (p : A → Bool) (xs : List A) → place_where p xs ≤ length xs
+place_le p [] = omega arith
+place_le p (x ∷ xs) =
+    let rest : place_where p xs ≤ length xs = place_le p xs in
+    by_test (λ b. cond b 0 (suc (place_where p xs)) ≤ suc (length xs)) (p x) (λ _. omega arith) (λ _. omega arith)
+
+-- the place in what is left of a table, one row on and at the end
+pub place-on : {A : Type 0} (p : A → Bool) (xs : List A) (i : ℕ) (d : A) → i < length xs → p (get_or xs i d) ≡ false → i + place_where p (drop i xs) ≡ i + 1 + place_where p (drop (i + 1) xs)
+place-on p xs i d h fails =
+    ap (λ ys. i + place_where p ys) (drop_more xs i d h)
+    ∙ ap (λ b. i + cond b 0 (suc (place_where p (drop (i + 1) xs)))) fails
+    ∙ omega arith
+
+pub place-here : {A : Type 0} (p : A → Bool) (xs : List A) (i : ℕ) (d : A) → i < length xs → p (get_or xs i d) ≡ true → i + place_where p (drop i xs) ≡ i
+place-here p xs i d h passes =
+    ap (λ ys. i + place_where p ys) (drop_more xs i d h)
+    ∙ ap (λ b. i + cond b 0 (suc (place_where p (drop (i + 1) xs)))) passes
+    ∙ omega arith
+
+pub place-end : {A : Type 0} (p : A → Bool) (xs : List A) (i : ℕ) → length xs ≤ i → i + place_where p (drop i xs) ≡ i
+place-end p xs i h = ap (λ ys. i + place_where p ys) (drop_all i xs h) ∙ omega arith
+
+-- the same by a place that was found
+pub put-at : {A : Type 0} (p : A → Bool) (row : A) (xs ys : List A) (n : ℕ) → xs ≡ ys → n ≡ place_where p xs → n < length xs → set xs n row ≡ put_where p row ys
+put-at p row xs ys n same found inside =
+    let below : place_where p xs < length xs = omega arith in
+    ap (λ k. set xs k row) found ∙ sym (put-place p row xs below) ∙ ap (put_where p row) same
+
+pub put-past : {A : Type 0} (p : A → Bool) (row : A) (xs ys : List A) (n : ℕ) → xs ≡ ys → n ≡ place_where p xs → length xs ≤ n → xs ++ row ∷ [] ≡ put_where p row ys
+put-past p row xs ys n same found past =
+    let above : length xs ≤ place_where p xs = omega arith in
+    sym (put-end p row xs above) ∙ ap (put_where p row) same
+
+pub first-at : {A : Type 0} (p : A → Bool) (other x : A) (xs ys : List A) (n : ℕ) → xs ≡ ys → n ≡ place_where p xs → n < length xs → x ≡ get_or xs n x → x ≡ first_where p other ys
+first-at p other x xs ys n same found inside at =
+    get_or_read xs n x inside at other ∙ ap (λ k. get_or xs k other) found ∙ sym (first-place p other xs) ∙ ap (first_where p other) same
+
+pub first-past : {A : Type 0} (p : A → Bool) (other : A) (xs ys : List A) (n : ℕ) → xs ≡ ys → n ≡ place_where p xs → length xs ≤ n → other ≡ first_where p other ys
+first-past p other xs ys n same found past =
+    let above : length xs ≤ place_where p xs = omega arith in
+    sym (get_or_past xs (place_where p xs) other above) ∙ sym (first-place p other xs) ∙ ap (first_where p other) same
