@@ -118,6 +118,15 @@ impl Words {
         Ok(())
     }
 
+    /// Adds the words of another list at the end. An `Err` leaves the words.
+    pub fn append(&mut self, more: Words) -> Result<(), AllocError>
+        ensures ok { OnOk result (self.new ≡ self.old ++ more) }
+        ensures err { OnErr result (self.new ≡ self.old) }
+    {
+        let Words { words: mut more } = more;
+        self.words.append(&mut more)
+    }
+
     /// How many words there are.
     pub fn len(&self) -> usize
         ensures { result ≡ length self.now }
