@@ -4,8 +4,8 @@ ghost use Rattle.std.specs.Prelude.{◌≡◌, ◌≤◌, ◌∷◌, ◌++◌, [
 ghost use Rattle.std.specs.Str.{chars};
 ghost use Rattle.kak_words.specs.Characters.{ends_word};
 ghost use Rattle.kak_words.specs.Closing.{up_to, plain};
-ghost use Rattle.kak_words.specs.Reading.{first_word, single_word, double_word, form_word, text_word, past_comment, command_on, begins_comment, commands_of};
-ghost use Rattle.kak_words.specs.Splits.{IsWord};
+ghost use Rattle.kak_words.specs.Reading.{first_word, single_word, double_word, text_word, past_comment, command_on, begins_comment, commands_of};
+ghost use Rattle.kak_words.specs.Splits.{IsFormWord, IsWord};
 ghost use Rattle.kak_words.specs.Errors.{IsUnclosed};
 
 use crate::closing::{Found, plain, up_to};
@@ -83,7 +83,7 @@ fn plain_word<'a>(
 
 // The word of a form.
 fn form_word<'a>(alloc: Global, form: Form<'a>) -> Result<(Word, &'a [Placed]), AllocError>
-    ensures word { IfOk result (λ r. form_word (record { kind = form.entry.kind.now; split = record { inside = form.entry.inside.items; rest = form.entry.rest.now } }) ≡ record { word = r.0; rest = r.1.now }) }
+    ensures word { IfOk result (λ r. IsFormWord form.entry.kind.now form.entry.inside.items form.entry.rest.now r.0 r.1.now) }
     ensures rest { IfOk result (λ r. r.1.now ≡ form.entry.rest.now) }
 {
     if form.kind.is_empty() {
