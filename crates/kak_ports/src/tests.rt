@@ -1,7 +1,7 @@
 use crate::memory::{FailingCalls, MemSink, MemSource};
 use crate::real::{ReadSource, WriteSink};
 use crate::sink::{Put, Sink};
-use crate::small::{Octets, Words};
+use crate::small::{Octets, Utf8Text, Words};
 use crate::source::{Source, Took};
 use std::test::Fail;
 
@@ -66,5 +66,9 @@ fn small_lists_keep_what_they_are_given(rt: HostRuntime) -> Result<(), Fail> {
     if words.len() == 2 {
         assert_eq!(rt; words.get(1), "two");
     }
+    let again = Words::of_vec(words.copy(alloc)?.into_vec());
+    assert_eq!(rt; again.len(), 2);
+    let text = Utf8Text::of_string(Utf8Text::from_str(alloc, "é")?.into_string());
+    assert_eq!(rt; text.as_str(), "é");
     Ok(())
 }

@@ -1,0 +1,12 @@
+pub mod Results
+pub mod Characters
+pub mod Closing
+pub mod Forms
+pub mod Pieces
+pub mod Reading
+pub mod Expanding
+pub mod Quoting
+pub mod Splits
+pub mod Adding
+pub mod Errors
+pub mod Examples

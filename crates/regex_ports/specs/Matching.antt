@@ -1,0 +1,24 @@
+-- What a pattern finds in a text.
+use Rattle.std.specs.Prelude.{ℕ, true, List, [], map, Option, Some, None}
+use Rattle.std.specs.Str.{chars}
+use Rattle.regex.specs.Patterns.{Re, Config, default_config, find_all_str, span}
+use Rattle.regex_syntax.specs.Brackets.{Nested}
+use Rattle.regex_syntax.specs.Grammar.{Names, read}
+use Rattle.regex_ports.specs.declared.pattern.Span.{Span}
+
+-- the options of all patterns: `^` and `$` match at the ends of lines, and `.` matches a newline
+abbrev pub options : Config
+options = record default_config { flags = record default_config.flags { multi_line = true; dot_matches_new_line = true } }
+
+-- a range of bytes
+abbrev pub span_of : ℕ × ℕ → Span
+span_of (start, end) = record { start = start; end = end }
+
+-- the matches of what a text was read as, from left to right, if it is a pattern
+abbrev pub found_by : Option (Nested Re × Names) → List ℕ → List Span
+found_by None text = []
+found_by (Some (re, names)) text = map span_of (map span (find_all_str re.value text))
+
+-- the matches of the pattern that a text is
+abbrev pub matches_of : List ℕ → List ℕ → List Span
+matches_of source text = found_by (read options (chars source)) text

@@ -1,0 +1,97 @@
+//! Patterns over the kit's regular expressions.
+
+ghost use Rattle.std.specs.Prelude.{◌≡◌, ◌++◌, [], ◌∷◌, map, IfOk, IfErr};
+ghost use Rattle.regex.specs.Patterns.{find_all_str, span};
+ghost use Rattle.regex.specs.Strings.{regex_pattern, regex_source, regex_config, IsReadFromSource};
+ghost use Rattle.regex_ports.specs.Matching.{options, span_of};
+ghost use Rattle.regex_ports.specs.Making.{Rose};
+
+use crate::maker::{Made, PatternMaker};
+use crate::pattern::{Pattern, Span};
+use regex::{Error, Regex, RegexBuilder};
+use std::alloc::{AllocError, Global};
+use std::marker::Model;
+
+/// A pattern over a regular expression. Contracts see the text that it was made of.
+#[derive(Drop)]
+pub struct RegexPattern {
+    regex: Regex,
+}
+
+impl Model for RegexPattern {
+    ghost use Rattle.std.specs.Prelude.{◌≡◌, List, ℕ};
+    ghost use Rattle.regex.specs.Strings.{regex_source, regex_config, IsReadFromSource};
+    ghost use Rattle.regex_ports.specs.Matching.{options};
+
+    ghost Value = { List ℕ };
+
+    ghost view = { λ p. regex_source p.regex };
+
+    ghost invariant = { λ p. (regex_config p.regex ≡ options) × IsReadFromSource p.regex };
+}
+
+// The matches of a regular expression in a text.
+fn spans(alloc: Global, regex: &Regex, text: &str) -> Result<Vec<Span>, AllocError>
+    ensures { IfOk result (λ v. v.items ≡ map span_of (map span (find_all_str (regex_pattern regex.now) text.now))) }
+{
+    let mut matcher = regex.matcher(alloc)?;
+    let mut found = Vec::new(alloc);
+    for m in matcher.find_iter(text) {
+        found.push(Span {
+            start: m.start(),
+            end: m.end(),
+        })?;
+    }
+    Ok(found)
+}
+
+impl Pattern for RegexPattern {
+    ghost source = { λ p. p };
+
+    fn matches(&self, alloc: Global, text: &str) -> Result<Vec<Span>, AllocError> {
+        spans(alloc, &self.regex, text)
+    }
+}
+
+/// A maker of patterns over regular expressions, which counts the texts that it refuses.
+#[derive(Drop, Debug)]
+pub struct RegexMaker {
+    refusals: u64,
+}
+
+impl RegexMaker {
+    /// A maker that has not refused yet.
+    pub fn new() -> RegexMaker
+        ensures { result.refusals ≡ 0 }
+    {
+        RegexMaker { refusals: 0 }
+    }
+
+    /// Counts one refusal; a count at the end of its range stands still.
+    pub(crate) fn refuse(&mut self)
+        ensures { Rose self.old.refusals self.new.refusals }
+    {
+        self.refusals = self.refusals.saturating_add(1);
+    }
+}
+
+impl PatternMaker for RegexMaker {
+    type P = RegexPattern;
+
+    ghost refusals = { λ m. m.refusals };
+
+    fn make(&mut self, alloc: Global, pattern: &str) -> Result<Made<RegexPattern>, AllocError> {
+        let built = RegexBuilder::new(pattern)
+            .multi_line(true)
+            .dot_matches_new_line(true)
+            .build(alloc);
+        match built {
+            Ok(regex) => Ok(Made::Built(RegexPattern { regex })),
+            Err(Error::OutOfMemory) => Err(AllocError),
+            Err(_) => {
+                self.refuse();
+                Ok(Made::Refused)
+            }
+        }
+    }
+}

@@ -1,0 +1,6 @@
+pub mod Scopes
+pub mod Values
+pub mod Settings
+pub mod Changes
+pub mod Laws
+pub mod Examples

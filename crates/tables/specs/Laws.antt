@@ -1,0 +1,10 @@
+-- What is found after a row was put.
+use Rattle.std.specs.Prelude.{◌≡◌, ℕ, List, Bool, true, false}
+use Rattle.tables.specs.Tables.{first_where, put_where}
+
+-- the laws of putting, said of rows of any numbers
+pub record PuttingLaws : Type 0 where
+  -- a row that passes its own test is found
+  pub same : (p : List ℕ → Bool) (row other : List ℕ) (rows : List (List ℕ)) → p row ≡ true → first_where p other (put_where p row rows) ≡ row
+  -- a test that passes neither the row nor any that it may replace finds what it found
+  pub others : (p q : List ℕ → Bool) (row other : List ℕ) (rows : List (List ℕ)) → ((x : List ℕ) → p x ≡ true → q x ≡ false) → q row ≡ false → first_where q other (put_where p row rows) ≡ first_where q other rows
