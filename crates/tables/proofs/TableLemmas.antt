@@ -102,14 +102,14 @@ pub find-put_same : {A : Type 0} (p : A → Bool) (row : A) (xs : List A) → p 
 find-put_same p row [] h = ap (λ b. cond b (Some row) None) h
 find-put_same p row (x ∷ xs) h =
     by_test (λ b. b ≡ p x → find p (cond b (row ∷ xs) (x ∷ put_where p row xs)) ≡ Some row) (p x)
-        (λ _ _. ap (λ b. cond b (Some row) (find p xs)) h)
-        (λ _ e. ap (λ b. cond b (Some x) (find p (put_where p row xs))) (sym e) ∙ find-put_same p row xs h)
-        refl
+    (λ _ _. ap (λ b. cond b (Some row) (find p xs)) h)
+    (λ _ e. ap (λ b. cond b (Some x) (find p (put_where p row xs))) (sym e) ∙ find-put_same p row xs h)
+    refl
 
 pub find-put_other : {A : Type 0} (p q : A → Bool) (row : A) (xs : List A) → ((x : A) → p x ≡ true → q x ≡ false) → q row ≡ false → find q (put_where p row xs) ≡ find q xs
 find-put_other p q row [] apart h = ap (λ b. cond b (Some row) None) h
 find-put_other p q row (x ∷ xs) apart h =
     by_test (λ b. b ≡ p x → find q (cond b (row ∷ xs) (x ∷ put_where p row xs)) ≡ cond (q x) (Some x) (find q xs)) (p x)
-        (λ _ e. ap (λ b. cond b (Some row) (find q xs)) h ∙ ap (λ b. cond b (Some x) (find q xs)) (sym (apart x (sym e))))
-        (λ _ _. ap (λ rest. cond (q x) (Some x) rest) (find-put_other p q row xs apart h))
-        refl
+    (λ _ e. ap (λ b. cond b (Some row) (find q xs)) h ∙ ap (λ b. cond b (Some x) (find q xs)) (sym (apart x (sym e))))
+    (λ _ _. ap (λ rest. cond (q x) (Some x) rest) (find-put_other p q row xs apart h))
+    refl
