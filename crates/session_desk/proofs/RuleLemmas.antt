@@ -44,6 +44,7 @@ module _ {O E F : Type 0} (entries : O → List E) (maker : E → ℕ) (marked :
     differ = λ i j g _ l. absurd (omega arith);
     returned = All-nil (Returned maker [] 0 (λ _. 0) []);
     marks = All-nil (HasMet None);
+    earlier = ([], refl);
   }
   opening_seat (suc j) v e = absurd (some-ne-none v (sym e))
 
@@ -71,7 +72,7 @@ module _ {O E F : Type 0} (entries : O → List E) (maker : E → ℕ) (marked :
     keeps,
     tt,
     unmoved s 0 id me.0 r at,
-    (refl, record { balance = mine.balance; differ = mine.differ; given = has_given maker d.history me.0.seen d.made d.seat_of me.0.seen mine.begins (starts_itself me.0.seen) me.0.given mine.returned; marks = mine.marks }),
+    (refl, record { balance = mine.balance; differ = mine.differ; given = has_given maker d.history me.0.seen d.made d.seat_of me.0.seen mine.begins (starts_itself me.0.seen) me.0.given mine.returned; marks = mine.marks; earlier = mine.earlier }),
   )
 
   -- the turn was free
@@ -102,6 +103,7 @@ module _ {O E F : Type 0} (entries : O → List E) (maker : E → ℕ) (marked :
           differ = mine.differ;
           returned = returned_seen maker d.history d.made d.seat_of me.0.seen (entries x) (starts_same (entries x) d.history me.0.seen home.entries_are mine.begins) me.0.given mine.returned;
           marks = marks_later me.0.mark (marked x) me.0.given (subst (Met me.0.mark) (sym home.mark_is) mine.met) mine.marks;
+          earlier = starts_through (entries x) me.0.seen me.0.earlier (starts_same (entries x) d.history me.0.seen home.entries_are mine.begins) mine.earlier;
         } (λ j v other there. turn_changes maker frame d 1 id j v (λ h. let held = (r.each_seat j v there).holding h in let t = held.turn in absurd (omega arith)) (r.each_seat j v there));
       }
 
@@ -185,6 +187,7 @@ module _ {O E F : Type 0} (entries : O → List E) (maker : E → ℕ) (marked :
             differ = mine.differ;
             returned = mine.returned;
             marks = mine.marks;
+            earlier = mine.earlier;
           }) (λ j v other there. turn_changes maker frame d 0 d.holder j v (λ h. absurd (others_free s r id me.0 at hand.holds j v other there h)) (r.each_seat j v there));
         },
         ap (λ (cs : List (ℕ × Option O)). (w, rest cs)) slot,
@@ -232,6 +235,7 @@ module _ {O E F : Type 0} (entries : O → List E) (maker : E → ℕ) (marked :
             returned = returned_seen maker (entries o) d.made d.seat_of me.0.seen (entries o) (starts_through (entries o) d.history me.0.seen more.begins mine.begins) me.0.given
                 (returned_later maker n id d.history (entries o) d.mark (marked o) d.made d.seat_of me.0.seen more knows.1 knows.2 me.0.given mine.returned);
             marks = marks_later me.0.mark (marked o) me.0.given (met_later me.0.mark d.mark (marked o) (inr (sym turn.mark)) more.mark) mine.marks;
+            earlier = starts_through (entries o) me.0.seen me.0.earlier (starts_through (entries o) d.history me.0.seen more.begins mine.begins) mine.earlier;
           } (λ j v other there. others_later maker frame d (entries o) (marked o) n id j v more knows.1 knows.2 other (others_free s r id me.0 at holds j v other there) (r.each_seat j v there));
         },
         (λ x e. ap (λ (z : O). let y : M = (seeing true (entries z) (marked z) me.0, me.1) in y) (ap (hand_or o) (sym slot ∙ e))),
@@ -264,6 +268,7 @@ module _ {O E F : Type 0} (entries : O → List E) (maker : E → ℕ) (marked :
         differ = mine.differ;
         returned = returned_seen maker d.history d.made d.seat_of me.0.seen d.history mine.begins me.0.given mine.returned;
         marks = marks_later me.0.mark d.mark me.0.given mine.met mine.marks;
+        earlier = starts_through d.history me.0.seen me.0.earlier mine.begins mine.earlier;
       } (λ j v other there. r.each_seat j v there);
     },
     (record { view = refl; word = ap (λ (ws : List ℕ). get_or ws 1 0) r.words; begins = mine.begins; met = mine.met; same_own = mine.same_own }, refl),

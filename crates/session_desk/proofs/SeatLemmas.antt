@@ -186,6 +186,7 @@ module _ {E F : Type 0} (maker : E → ℕ) (frame : F) where
     differ = f.differ;
     returned = f.returned;
     marks = f.marks;
+    earlier = f.earlier;
   }
 
   -- another seat's view says the same after the turn of the pass n
@@ -203,4 +204,5 @@ module _ {E F : Type 0} (maker : E → ℕ) (frame : F) where
     differ = f.differ;
     returned = returned_later maker n id d.history h' d.mark m' d.made d.seat_of v.seen more mine high v.given f.returned;
     marks = f.marks;
+    earlier = f.earlier;
   }

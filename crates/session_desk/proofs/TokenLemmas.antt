@@ -69,6 +69,7 @@ module _ {O E F : Type 0} (entries : O → List E) (maker : E → ℕ) (marked :
     differ = f.differ;
     returned = returned_more maker d.history d.made d.seat_of q v.seen v.given f.returned;
     marks = f.marks;
+    earlier = f.earlier;
   }
 
   keeper_more : (d : Facts E) (q id : ℕ) (v : View E F) (m k : ℕ) → v.role ≡ Admits m k → Fits maker frame d id v → Fits maker frame (one_more d q) id (admitting v)
@@ -86,6 +87,7 @@ module _ {O E F : Type 0} (entries : O → List E) (maker : E → ℕ) (marked :
         differ = f.differ;
         returned = returned_more maker d.history d.made d.seat_of q v.seen v.given f.returned;
         marks = f.marks;
+        earlier = f.earlier;
       }
 
   pass_made : (d : Facts E) (q id : ℕ) (v : View E F) (m k : ℕ) → 0 < q → All (λ e. maker e < d.made) d.history → v.role ≡ Admits m k → Fits maker frame d id v → Fits maker frame (one_more d q) q (admitted v)
@@ -102,6 +104,7 @@ module _ {O E F : Type 0} (entries : O → List E) (maker : E → ℕ) (marked :
         differ = λ i j g _ l. absurd (omega arith);
         returned = All-nil (Returned maker d.history (d.made + 1) (put d.seat_of d.made q) v.seen);
         marks = All-nil (HasMet v.mark);
+        earlier = (v.seen, refl);
       }
 
   -- a pass is made
@@ -142,6 +145,7 @@ module _ {O E F : Type 0} (entries : O → List E) (maker : E → ℕ) (marked :
     differ = f.differ;
     returned = returned_back maker d.history d.made d.seat_of n v.seen v.given f.returned;
     marks = f.marks;
+    earlier = f.earlier;
   }
 
   spent_fits : (d : Facts E) (j : ℕ) → Fits maker frame d j spent_view
@@ -157,6 +161,7 @@ module _ {O E F : Type 0} (entries : O → List E) (maker : E → ℕ) (marked :
     differ = λ a b g _ l. absurd (omega arith);
     returned = All-nil (Returned maker d.history d.made d.seat_of []);
     marks = All-nil (HasMet None);
+    earlier = ([], refl);
   }
 
   keeper_back : (d : Facts E) (id : ℕ) (v : View E F) (m k : ℕ) (q : ℕ) (w : View E F) (n : ℕ) → v.role ≡ Admits m k → w.role ≡ Plays n → 0 < d.out → Fits maker frame d id v → Fits maker frame d q w
@@ -184,6 +189,7 @@ module _ {O E F : Type 0} (entries : O → List E) (maker : E → ℕ) (marked :
             record { made_before = theirs.0; is_back = put_here d.seat_of n 0 n refl; begins = longer_begins_second d.history v.seen w.seen f.begins o.begins; own_entries = own_is });
         marks = subst (λ (gs : List (Given E)). All (HasMet mark) (v.given ++ gs)) (sym gives)
             (All-push (HasMet mark) v.given back (marks_later v.mark mark v.given (first_is_kept v.mark w.mark) f.marks) (second_is_kept v.mark w.mark d.mark f.met o.met));
+        earlier = first;
       }
 
   -- a pass is given back

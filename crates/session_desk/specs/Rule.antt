@@ -88,6 +88,7 @@ pub record Fits {E F : Type 0} (maker : E → ℕ) (frame : F) (d : Facts E) (se
   pub differ : AllPairs HasOtherNumber v.given
   pub returned : All (Returned maker d.history d.made d.seat_of v.seen) v.given
   pub marks : All (HasMet v.mark) v.given
+  pub earlier : StartsWith v.seen v.earlier
 
 -- the object is at home, and stands for the history and the mark
 pub record AtHome {O E F : Type 0} (entries : O → List E) (marked : O → Option ℕ) (frame_of : O → F) (frame : F) (d : Facts E)
@@ -142,27 +143,27 @@ given_by Spent seen mark = []
 module _ {E F : Type 0} where
   -- the keeper's view at the start
   abbrev pub opening_view : F → View E F
-  opening_view frame = record { role = Admits 0 0; holds = false; seen = []; mark = None; frame = Some frame; given = [] }
+  opening_view frame = record { role = Admits 0 0; holds = false; seen = []; mark = None; frame = Some frame; earlier = []; given = [] }
 
   -- the view of a seat that was joined
   abbrev pub spent_view : View E F
-  spent_view = record { role = Spent; holds = false; seen = []; mark = None; frame = None; given = [] }
+  spent_view = record { role = Spent; holds = false; seen = []; mark = None; frame = None; earlier = []; given = [] }
 
   -- the view with this history and mark, which has the turn or not
   abbrev pub seeing : Bool → List E → Option ℕ → View E F → View E F
-  seeing holds seen mark v = record { role = v.role; holds = holds; seen = seen; mark = mark; frame = v.frame; given = v.given }
+  seeing holds seen mark v = record { role = v.role; holds = holds; seen = seen; mark = mark; frame = v.frame; earlier = v.earlier; given = v.given }
 
   -- the keeper's view once it has admitted one more pass
   abbrev pub admitting : View E F → View E F
-  admitting v = record { role = more_out v.role; holds = false; seen = v.seen; mark = v.mark; frame = v.frame; given = v.given }
+  admitting v = record { role = more_out v.role; holds = false; seen = v.seen; mark = v.mark; frame = v.frame; earlier = v.earlier; given = v.given }
 
   -- the view of the pass that the keeper admits
   abbrev pub admitted : View E F → View E F
-  admitted v = record { role = next_pass v.role; holds = false; seen = v.seen; mark = v.mark; frame = v.frame; given = [] }
+  admitted v = record { role = next_pass v.role; holds = false; seen = v.seen; mark = v.mark; frame = v.frame; earlier = []; given = [] }
 
-  -- the keeper's view once a pass was given back
+  -- the keeper's view once a pass was given back; it remembers what it had seen before
   abbrev pub taking_back : View E F → View E F → View E F
-  taking_back v w = record { role = fewer_out v.role; holds = false; seen = longer v.seen w.seen; mark = first_mark v.mark w.mark; frame = v.frame; given = v.given ++ given_by w.role w.seen w.mark }
+  taking_back v w = record { role = fewer_out v.role; holds = false; seen = longer v.seen w.seen; mark = first_mark v.mark w.mark; frame = v.frame; earlier = v.seen; given = v.given ++ given_by w.role w.seen w.mark }
 
 abbrev pub Sat : Type 0 → Type 0 → Type 0 → Type 0
 Sat O E F = Me (Option O) (View E F)
@@ -233,6 +234,7 @@ pub record Tells {E F : Type 0} (maker : E → ℕ) (v : View E F) : Type 0 wher
   pub differ : AllPairs HasOtherNumber v.given
   pub given : All (HasGiven maker v.seen) v.given
   pub marks : All (HasMet v.mark) v.given
+  pub earlier : StartsWith v.seen v.earlier
 
 -- a load of the turn by the keeper, after a join
 abbrev pub tells : {O E F : Type 0} → (E → ℕ) → Step (Option O) → Sat O E F → ℕ → Sat O E F → Type 0

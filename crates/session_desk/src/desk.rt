@@ -139,8 +139,8 @@ impl<O: Played> Desk<O> {
         glimpse
     }
 
-    /// Gives a pass back. The keeper notes its number, its list and its mark, and has then seen the longer of both histories and met the mark that
-    /// one of both had met. It waits for nobody.
+    /// Gives a pass back. The keeper notes its number, its list and its mark, and has then seen the longer of both histories, which
+    /// begins with the other, and met the mark that one of both had met. It waits for nobody.
     pub fn leave(&self, keeper: &mut Keeper<O>, pass: Pass<O>)
         requires keeper { IsOf keeper.old.place self.now }
         requires pass { IsOf pass.place self.now }
@@ -148,6 +148,7 @@ impl<O: Played> Desk<O> {
         ensures made { keeper.new.made ≡ keeper.old.made }
         ensures given { keeper.new.given ≡ keeper.old.given ++ (pass.number, pass.seen, pass.mark) ∷ [] }
         ensures seen { keeper.new.seen ≡ longer keeper.old.seen pass.seen }
+        ensures begins { StartsWith keeper.new.seen keeper.old.seen }
         ensures mark { keeper.new.mark ≡ first_mark keeper.old.mark pass.mark }
         ensures own_entries { All (HasGiven O.maker keeper.new.seen) keeper.new.given }
         ensures marks { All (HasMet keeper.new.mark) keeper.new.given }

@@ -28,6 +28,8 @@ pub struct View<E, F> {
     /// The mark that it met.
     pub mark: Option<u64>,
     pub frame: Option<F>,
+    /// The history that it had seen before the last pass was given back to it.
+    pub earlier: LinkedList<E>,
     /// The number, the list and the mark of each pass that was given back.
     pub given: LinkedList<(u32, LinkedList<E>, Option<u64>)>,
 }

@@ -1,6 +1,6 @@
-use Rattle.std.proofs.Common.{rules, All, sym, ap, subst}
+use Rattle.std.proofs.Common.{rules, ◌∙◌, List, All, sym, ap, subst}
 use Rattle.session_desk.specs.declared.rule.View.{View}
-use Rattle.session_desk.specs.Histories.{HasGiven, HasMet}
+use Rattle.session_desk.specs.Histories.{StartsWith, HasGiven, HasMet}
 use Rattle.session_desk.proofs.RuleLemmas.{tells_kept}
 use Rattle.session_desk.proofs.TokenLemmas.{joins_kept}
 use Rattle.session_desk.proofs.desk.Desk.leave.Goals as goal
@@ -24,3 +24,7 @@ returns-clause-own_entries g c = let told = c.load-keeper-inside.ensures.2 in
 pub returns-clause-marks : goal.returns-clause-marks
 returns-clause-marks g c = let told = c.load-keeper-inside.ensures.2 in
     subst (λ (v : View g.row.O-Entry.Denot g.row.O-Frame.Denot). All (HasMet v.mark) v.given) (sym (ap (λ m. m.0) told.0)) told.1.marks
+
+pub returns-clause-begins : goal.returns-clause-begins
+returns-clause-begins g c = let told = c.load-keeper-inside.ensures.2 in let joined = c.join_seat.ensures.2 in let entries = g.row.O-Entry.Denot in
+    subst (λ (p : List entries × List entries). StartsWith p.0 p.1) (λ i. ((sym told.0 i).0.seen, (ap (λ m. m.0.earlier) joined ∙ ap (λ k. k.seen) c.keeper.view_is) i)) told.1.earlier
