@@ -1,17 +1,33 @@
 -- What the history of a closed desk says of the two passes that were given back.
-use Rattle.std.proofs.Common.{◌≡◌, ℕ, List, [], ◌∷◌, ◌++◌, All, subst, ◌∙◌, Option}
+use Rattle.std.proofs.Common.{◌≡◌, ℕ, List, [], ◌∷◌, ◌++◌, All, subst, ◌∙◌, Option, Some, None}
+use Rattle.std.specs.Prelude.{IfSome}
 use Rattle.std.proofs.lemmas.List.Elements.{All-head, All-tail}
-use Rattle.session_desk.specs.Histories.{own, Given, HasGiven}
+use Rattle.session_desk.specs.Histories.{own, Given, HasGiven, HasMet}
 use Rattle.desk_trials.specs.declared.tally.Addition.{Addition}
-use Rattle.desk_trials.specs.Tally.{who_of, HasPlayed}
+use Rattle.desk_trials.specs.declared.tally.Refusal.{Refusal}
+use Rattle.desk_trials.specs.Tally.{who_of, HasPlayed, IsRefused, WasRefused}
 
 -- what a pass played stands in a history that has its list
 pub played_in : (history seen : List Addition) (mark : Option ℕ) (number n : ℕ) (moves : List ℕ) (played : ℕ) → number ≡ n → HasGiven who_of history (number, seen, mark) → HasPlayed seen n moves played → HasPlayed history n moves played
 played_in history seen mark number n moves played is has so_far = subst (λ (m : ℕ). own who_of m history ≡ own who_of m seen) is has.own_entries ∙ so_far
 
-pub first_of_two : (history : List Addition) (given before : List (Given Addition)) (a b : Given Addition) → before ≡ [] → given ≡ (before ++ a ∷ []) ++ b ∷ [] → All (HasGiven who_of history) given → HasGiven who_of history a
-first_of_two history given before a b bare is all = All-head (HasGiven who_of history) a (b ∷ []) (subst (λ (gs : List (Given Addition)). All (HasGiven who_of history) gs) (is ∙ (λ i. (bare i ++ a ∷ []) ++ b ∷ [])) all)
+-- what refused a pass refused it in a history that has its list
+pub refused_in : (history seen : List Addition) (mark marked : Option ℕ) (number n : ℕ) (moves : List ℕ) (played : ℕ) (stop : Option Refusal) → number ≡ n
+    → HasGiven who_of history (number, seen, mark) → HasMet marked (number, seen, mark)
+    → IfSome stop (λ refusal. IsRefused seen mark n moves played refusal) → IfSome stop (λ refusal. WasRefused history marked n moves played refusal)
+refused_in history seen mark marked number n moves played None is has met refused = tt
+refused_in history seen mark marked number n moves played (Some refusal) is has met refused = record {
+  additions = seen;
+  met = mark;
+  begins = has.begins;
+  own_entries = subst (λ (m : ℕ). own who_of m history ≡ own who_of m seen) is has.own_entries;
+  mark_is = met;
+  refused = refused;
+}
 
-pub second_of_two : (history : List Addition) (given before : List (Given Addition)) (a b : Given Addition) → before ≡ [] → given ≡ (before ++ a ∷ []) ++ b ∷ [] → All (HasGiven who_of history) given → HasGiven who_of history b
-second_of_two history given before a b bare is all = All-head (HasGiven who_of history) b [] (All-tail (HasGiven who_of history) a (b ∷ [])
-    (subst (λ (gs : List (Given Addition)). All (HasGiven who_of history) gs) (is ∙ (λ i. (bare i ++ a ∷ []) ++ b ∷ [])) all))
+-- what holds for all that were given back holds for the first and the second of two
+pub first_of_two : (P : Given Addition → Type 0) (given before : List (Given Addition)) (a b : Given Addition) → before ≡ [] → given ≡ (before ++ a ∷ []) ++ b ∷ [] → All P given → P a
+first_of_two P given before a b bare is all = All-head P a (b ∷ []) (subst (λ (gs : List (Given Addition)). All P gs) (is ∙ (λ i. (bare i ++ a ∷ []) ++ b ∷ [])) all)
+
+pub second_of_two : (P : Given Addition → Type 0) (given before : List (Given Addition)) (a b : Given Addition) → before ≡ [] → given ≡ (before ++ a ∷ []) ++ b ∷ [] → All P given → P b
+second_of_two P given before a b bare is all = All-head P b [] (All-tail P a (b ∷ []) (subst (λ (gs : List (Given Addition)). All P gs) (is ∙ (λ i. (bare i ++ a ∷ []) ++ b ∷ [])) all))

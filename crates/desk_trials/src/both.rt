@@ -1,8 +1,8 @@
 //! Two threads at one desk.
-ghost use Rattle.std.specs.Prelude.{◌≡◌, ◌≤◌, ◌<◌, [], length, All, IfOk, IfNone};
+ghost use Rattle.std.specs.Prelude.{◌≡◌, ◌≤◌, ◌<◌, [], length, All, IfOk, IfSome, IfNone};
 ghost use Rattle.session_desk.specs.Histories.{own};
 ghost use Rattle.session_desk.specs.Tokens.{IsOf, IsSamePass};
-ghost use Rattle.desk_trials.specs.Tally.{who_of, HasPlayed};
+ghost use Rattle.desk_trials.specs.Tally.{who_of, HasPlayed, IsRefused, WasRefused};
 
 use crate::tally::{Refusal, Tally};
 use session_desk::{Desk, Pass};
@@ -39,6 +39,7 @@ fn play_all<R: Wait>(
     ensures played { HasPlayed pass.new.seen pass.old.number moves.now result.played }
     ensures within { result.played ≤ length moves.now }
     ensures all { IfNone result.stop (result.played ≡ length moves.now) }
+    ensures stop { IfSome result.stop (λ refusal. IsRefused pass.new.seen pass.new.mark pass.old.number moves.now result.played refusal) }
 {
     for (played, mv) in moves.iter().enumerate() {
         match desk.step(rt, alloc, pass, *mv) {
@@ -70,6 +71,7 @@ fn play_as<R: Wait>(
     ensures played { HasPlayed result.0.seen pass.number moves.now result.1.played }
     ensures within { result.1.played ≤ length moves.now }
     ensures all { IfNone result.1.stop (result.1.played ≡ length moves.now) }
+    ensures stop { IfSome result.1.stop (λ refusal. IsRefused result.0.seen result.0.mark pass.number moves.now result.1.played refusal) }
 {
     let run = play_all(rt, alloc, desk, &mut pass, moves);
     (pass, run)
@@ -89,6 +91,8 @@ pub fn tally_both<R: Threads + Wait + Sync>(
     ensures within { IfOk result (λ t. (t.first.played ≤ length first.now) × (t.second.played ≤ length second.now)) }
     ensures all_of_first { IfOk result (λ t. IfNone t.first.stop (t.first.played ≡ length first.now)) }
     ensures all_of_second { IfOk result (λ t. IfNone t.second.stop (t.second.played ≡ length second.now)) }
+    ensures stop_of_first { IfOk result (λ t. IfSome t.first.stop (λ refusal. WasRefused t.tally.additions t.tally.mark 0 first.now t.first.played refusal)) }
+    ensures stop_of_second { IfOk result (λ t. IfSome t.second.stop (λ refusal. WasRefused t.tally.additions t.tally.mark 1 second.now t.second.played refusal)) }
 {
     let (desk, mut keeper) = Desk::new(alloc, Tally::new(alloc))?;
     let one = desk.admit(&mut keeper);

@@ -25,7 +25,7 @@ pub enum Refusal {
     Zero,
     /// A move above a thousand, and each move after one.
     Stuck,
-    /// There was no memory.
+    /// There was no memory for a move that would have been taken.
     NoMemory,
 }
 
