@@ -1,66 +1,108 @@
 -- Runs that came to nothing, and runs that ended in one way or another.
-use Rattle.std.proofs.Common.{◌≡◌, ℕ, inl, inr, List, [], Ok, Err, refl, ◌∙◌, subst}
-use Rattle.std.specs.Prelude.{◌≤◌, Some, length, ⊤}
+use Rattle.std.proofs.Common.{◌≡◌, ℕ, ◌+◌, ◌≤◌, ◌<◌, ◌⊎◌, inl, inr, zero, suc, List, [], length, drop, Ok, Err, refl, ap, ◌∙◌, subst, arith}
 use Rattle.std.specs.declared.result.Result.{Result}
-use Rattle.std.specs.declared.option.Option.{Option}
 use Rattle.std.proofs.KnownBytes.{Consumes-nil, Appends-nil}
 use Rattle.session_turns.specs.Headline.{Due, Sent}
-use Rattle.kak_ports.specs.Ports.{Rose}
-use Rattle.kak_engine.specs.declared.event.Entry.{Entry}
+use Rattle.kak_ports.specs.Ports.{Inlet, Outlet}
+use Rattle.session_events.specs.declared.event.Entry.{Entry}
+use Rattle.session_events.specs.Entries.{AreOf}
+use Rattle.session_events.specs.Legal.{AreLeavings, IsLegal}
+use Rattle.session_events.specs.Meaning.{rules}
+use Rattle.session_events.specs.Seats.{Seated, IsSameSeat}
+use Rattle.session_events.proofs.LegalLemmas.{lone-length}
 use Rattle.session_lines.specs.declared.playing.Stop.{Stop}
 use Rattle.session_lines.specs.declared.playing.Stop.TheVariants as stop
 use Rattle.session_lines.specs.declared.reading.InputEnd.{InputEnd}
-use Rattle.session_lines.specs.Session.{AreOf, rules, protocol}
-use Rattle.session_lines.specs.Stops.{Causes}
-use Rattle.session_lines.specs.Connections.{WasServed}
-use Rattle.session_lines.proofs.StayingLemmas.{stopped-as}
+use Rattle.session_lines.specs.declared.reading.InputEnd.TheVariants as ending
+use Rattle.session_lines.specs.Session.{protocol}
+use Rattle.session_lines.specs.Reading.{FaultIs}
+use Rattle.session_lines.specs.Connections.{WasServed, EndCauses}
+use Rattle.kak_engine.specs.Steps.{given_by}
 use Rattle.kak_app.specs.declared.program.TheConstants.{MAX_ENTRIES}
-use Rattle.kak_app.specs.Runs.{Ran}
+use Rattle.kak_app.specs.declared.program.Status.TheVariants.{Done}
+use Rattle.kak_app.specs.Runs.{Ran, Answers, IsFull, ReadsAre, WritesAre}
 
 -- nothing was played
-pub nothing-ran : (left before : Option (List ℕ)) (faults : ℕ) → Ran (Err stop.NoMemory) left left before before faults faults
-nothing-ran left before faults = record {
+pub nothing-ran : (left : Inlet) (before : Outlet) → Ran (Err stop.NoMemory) left left before before
+nothing-ran left before = record {
   history = [];
   alone = tt;
+  legal = record { lives = λ who. refl; within = none MAX_ENTRIES };
   served = record {
     bytes = [];
-    takes = Consumes-nil left;
+    takes = Consumes-nil left.left;
+    few = omega arith;
+    lines = [];
     out = [];
-    sends = Appends-nil before;
+    sends = Appends-nil before.told;
     served = record {
-      turns = [];
       lines = inl refl;
-      stands = (record { front = []; begins = (Due protocol rules 0 [] [], refl); stands = inl refl }, (Sent protocol rules 0 [] [], refl));
+      stands = (record { front = []; begins = (Due protocol (rules given_by) 0 [] [], refl); stands = inl refl }, (Sent protocol (rules given_by) 0 [] [], refl));
     };
     end_is = tt;
   };
-  cause = tt;
-  counted = tt;
+  full = tt;
+  reads = inl refl;
+  writes = refl;
 }
+  where
+    none : (n : ℕ) → AreLeavings (drop n [])
+    none zero = tt
+    none (suc n) = tt
 
--- client 0 was served, and why that stopped
-zero-ran : (r : Result InputEnd Stop) (left rest before now : Option (List ℕ)) (a b : ℕ) (mark : Option ℕ) (history : List Entry) → AreOf 0 history → WasServed 0 history before now left rest r → Causes r MAX_ENTRIES mark history a b → Ran r left rest before now a b
-zero-ran (Ok ending) left rest before now a b mark history alone served c = record { history = history; alone = alone; served = served; cause = tt; counted = c }
-zero-ran (Err why) left rest before now a b mark history alone served c = record {
-  history = history;
-  alone = alone;
-  served = served;
-  cause = stopped-as why (MAX_ENTRIES ≤ length history) (MAX_ENTRIES ≤ length history) (λ at. mark ≡ Some at) (λ at. ⊤) (Rose a b) (Rose a b) (λ f. f) (λ at m. tt) (λ f. f) c;
-  counted = tt;
+-- a full history has its limit of entries, and the leaving
+full-length : (r : Result InputEnd Stop) (z : Seated) (before now : Outlet) → z.limit ≡ MAX_ENTRIES → AreOf 0 z.seen → IsLegal z.limit z.seen → EndCauses r z before now → IsFull r z.seen
+full-length (Ok e) z before now most o l c = tt
+full-length (Err stop.HistoryFull) z before now most o l c = omega (arith, c.0, lone-length 0 z.limit z.seen o l, most)
+full-length (Err (stop.Broken at)) z before now most o l c = tt
+full-length (Err stop.NoMemory) z before now most o l c = tt
+full-length (Err stop.WriteFault) z before now most o l c = tt
+
+reads-are : (r : Result InputEnd Stop) (left rest : Inlet) → FaultIs r left rest → ReadsAre r left rest
+reads-are (Ok ending.Left) left rest f = f
+reads-are (Ok ending.Ended) left rest f = f
+reads-are (Ok ending.ReadFault) left rest f = f
+reads-are (Ok ending.Full) left rest f = f
+reads-are (Err stop.HistoryFull) left rest f = f
+reads-are (Err (stop.Broken at)) left rest f = f
+reads-are (Err stop.NoMemory) left rest f = inl f
+reads-are (Err stop.WriteFault) left rest f = f
+
+writes-are : (r : Result InputEnd Stop) (z : Seated) (before now : Outlet) → EndCauses r z before now → WritesAre r before now
+writes-are (Ok e) z before now c = c
+writes-are (Err stop.HistoryFull) z before now c = c.1
+writes-are (Err (stop.Broken at)) z before now c = c.1
+writes-are (Err stop.NoMemory) z before now c = c
+writes-are (Err stop.WriteFault) z before now c = c
+
+-- client 0 was served
+pub served-ran : (r : Result InputEnd Stop) (x z : Seated) (left rest : Inlet) (before now : Outlet) → x.number ≡ 0 → x.limit ≡ MAX_ENTRIES → IsSameSeat x z → AreOf z.number z.seen → IsLegal z.limit z.seen
+    → WasServed given_by x.number z.seen before now left rest r → FaultIs r left rest → EndCauses r z before now → Ran r left rest before now
+served-ran r x z left rest before now first most same o l s f c = record {
+  history = z.seen;
+  alone = mine;
+  legal = subst (λ n. IsLegal n z.seen) (same.limit ∙ most) l;
+  served = subst (λ n. WasServed given_by n z.seen before now left rest r) first s;
+  full = full-length r z before now (same.limit ∙ most) mine l c;
+  reads = reads-are r left rest f;
+  writes = writes-are r z before now c;
 }
+  where
+    mine : AreOf 0 z.seen
+    mine = subst (λ n. AreOf n z.seen) (same.number ∙ first) o
 
--- the client of a new seat was served
-pub served-ran : (r : Result InputEnd Stop) (left rest before now : Option (List ℕ)) (a b who who_now limit : ℕ) (mark : Option ℕ) (history : List Entry) → who ≡ 0 → who_now ≡ who → limit ≡ MAX_ENTRIES
-    → AreOf who_now history → WasServed who history before now left rest r → Causes r limit mark history a b → Ran r left rest before now a b
-served-ran r left rest before now a b who who_now limit mark history zero same most alone served cause =
-    zero-ran r left rest before now a b mark history (subst (λ n. AreOf n history) (same ∙ zero) alone) (subst (λ n. WasServed n history before now left rest r) zero served) (subst (λ n. Causes r n mark history a b) most cause)
-
--- a session that was broken before is as lost as one without memory
-pub broken-ran : (at : ℕ) (left rest before now : Option (List ℕ)) (a b : ℕ) → Ran (Err (stop.Broken at)) left rest before now a b → Ran (Err stop.NoMemory) left rest before now a b
-broken-ran at left rest before now a b r = record {
+-- a session that broke is as lost as one without memory
+pub broken-ran : (at : ℕ) (left rest : Inlet) (before now : Outlet) → Ran (Err (stop.Broken at)) left rest before now → Ran (Err stop.NoMemory) left rest before now
+broken-ran at left rest before now r = record {
   history = r.history;
   alone = r.alone;
-  served = record { bytes = r.served.bytes; takes = r.served.takes; out = r.served.out; sends = r.served.sends; served = r.served.served; end_is = tt };
-  cause = tt;
-  counted = tt;
+  legal = r.legal;
+  served = record { bytes = r.served.bytes; takes = r.served.takes; few = r.served.few; lines = r.served.lines; out = r.served.out; sends = r.served.sends; served = r.served.served; end_is = tt };
+  full = tt;
+  reads = r.reads;
+  writes = r.writes;
 }
+
+-- a run whose input ended
+pub ended-done : (r : Result InputEnd Stop) (e : InputEnd) (left rest : Inlet) (before now : Outlet) → r ≡ Ok e → e ≡ ending.Ended → Ran r left rest before now → Answers Done left rest before now
+ended-done r e left rest before now is end ran = inr (subst (λ q. Ran q left rest before now) (is ∙ ap (λ d. Ok d) end) ran)

@@ -1,17 +1,17 @@
 -- What a run of the program did: the promise of `kak`.
-use Rattle.std.specs.Prelude.{ℕ, ◌≤◌, ◌⊎◌, List, [], ◌∷◌, length, codes, ⊤, Ok, Err, IfErr, OnOk}
-use Rattle.std.specs.declared.option.Option.{Option}
+use Rattle.std.specs.Prelude.{◌≡◌, ℕ, ◌+◌, ◌⊎◌, List, [], ◌∷◌, length, codes, ⊤, Ok, Err}
 use Rattle.std.specs.declared.result.Result.{Result}
-use Rattle.std.specs.Io.KnownBytes.{Keeps}
-use Rattle.kak_ports.specs.Ports.{Rose}
-use Rattle.kak_engine.specs.declared.event.Entry.{Entry}
+use Rattle.kak_ports.specs.Ports.{Inlet, Outlet, Rose}
+use Rattle.session_events.specs.declared.event.Entry.{Entry}
+use Rattle.session_events.specs.Entries.{AreOf}
+use Rattle.session_events.specs.Legal.{IsLegal}
 use Rattle.session_lines.specs.declared.playing.Stop.{Stop}
 use Rattle.session_lines.specs.declared.playing.Stop.TheVariants as stop
 use Rattle.session_lines.specs.declared.reading.InputEnd.{InputEnd}
 use Rattle.session_lines.specs.declared.reading.InputEnd.TheVariants as ending
-use Rattle.session_lines.specs.Session.{AreOf}
-use Rattle.session_lines.specs.Stops.{Stopped}
+use Rattle.session_lines.specs.Stops.{NoneFailed}
 use Rattle.session_lines.specs.Connections.{WasServed}
+use Rattle.kak_engine.specs.Steps.{given_by}
 use Rattle.kak_app.specs.declared.program.TheConstants.{MAX_ENTRIES}
 use Rattle.kak_app.specs.declared.program.Status.{Status}
 use Rattle.kak_app.specs.declared.program.Status.TheVariants.{Done, Usage, ReadFault, WriteFault, NoMemory, HistoryFull, InputFull}
@@ -30,24 +30,41 @@ code_of InputFull = 6
 abbrev pub ui_json : List (List ℕ)
 ui_json = codes "-ui" ∷ codes "json" ∷ []
 
--- Client 0 was served: there is a history, with no entry of anybody else, and what was read, what stands in that
--- history and what was written belong together as they do at the end of a connection. A full history has as many
--- entries as it may have, and the output counted a write that failed; where all went well, its count didn't fall.
-pub record Ran (result : Result InputEnd Stop) (left rest before now : Option (List ℕ)) (faults_before faults_now : ℕ) : Type 0 where
+-- a full history has as many entries as it may have, and the leaving
+abbrev pub IsFull : Result InputEnd Stop → List Entry → Type 0
+IsFull (Err stop.HistoryFull) history = length history ≡ MAX_ENTRIES + 1
+IsFull _ history = ⊤
+
+-- how the count of failed reads stands: it rose where a read fault is told, and stayed elsewhere; behind a loss either
+abbrev pub ReadsAre : Result InputEnd Stop → Inlet → Inlet → Type 0
+ReadsAre (Ok ending.ReadFault) left rest = Rose left.faults rest.faults
+ReadsAre (Ok _) left rest = rest.faults ≡ left.faults
+ReadsAre (Err stop.HistoryFull) left rest = rest.faults ≡ left.faults
+ReadsAre (Err stop.WriteFault) left rest = rest.faults ≡ left.faults
+ReadsAre (Err _) left rest = (rest.faults ≡ left.faults) ⊎ Rose left.faults rest.faults
+
+-- how the count of failed writes stands: it rose where a write fault is told, and stayed elsewhere
+abbrev pub WritesAre : Result InputEnd Stop → Outlet → Outlet → Type 0
+WritesAre (Err stop.WriteFault) before now = Rose before.faults now.faults
+WritesAre _ before now = NoneFailed before now
+
+-- Client 0 was served: there is a history that there can be, with no entry of anybody else, and what was read, what stands
+-- in that history and what was written belong together as they do at the end of a connection.
+pub record Ran (result : Result InputEnd Stop) (left rest : Inlet) (before now : Outlet) : Type 0 where
   pub history : List Entry
   pub alone : AreOf 0 history
-  pub served : WasServed 0 history before now left rest result
-  pub cause : IfErr result (λ why. Stopped why (MAX_ENTRIES ≤ length history) (λ at. ⊤) (Rose faults_before faults_now))
-  pub counted : OnOk result (faults_before ≤ faults_now)
+  pub legal : IsLegal MAX_ENTRIES history
+  pub served : WasServed given_by 0 history before now left rest result
+  pub full : IsFull result history
+  pub reads : ReadsAre result left rest
+  pub writes : WritesAre result before now
 
 -- what each status says of the bytes of the input and of the output, and of the counts of their faults
-abbrev pub Answers : Status → Option (List ℕ) → Option (List ℕ) → Option (List ℕ) → Option (List ℕ) → ℕ → ℕ → ℕ → ℕ → Type 0
-Answers Done left rest before now reads_before reads_now writes_before writes_now =
-    Ran (Ok ending.Left) left rest before now writes_before writes_now ⊎ Ran (Ok ending.Ended) left rest before now writes_before writes_now
-Answers Usage left rest before now reads_before reads_now writes_before writes_now = Keeps left rest × Keeps before now
-Answers ReadFault left rest before now reads_before reads_now writes_before writes_now =
-    Ran (Ok ending.ReadFault) left rest before now writes_before writes_now × Rose reads_before reads_now
-Answers WriteFault left rest before now reads_before reads_now writes_before writes_now = Ran (Err stop.WriteFault) left rest before now writes_before writes_now
-Answers NoMemory left rest before now reads_before reads_now writes_before writes_now = Ran (Err stop.NoMemory) left rest before now writes_before writes_now
-Answers HistoryFull left rest before now reads_before reads_now writes_before writes_now = Ran (Err stop.HistoryFull) left rest before now writes_before writes_now
-Answers InputFull left rest before now reads_before reads_now writes_before writes_now = Ran (Ok ending.Full) left rest before now writes_before writes_now
+abbrev pub Answers : Status → Inlet → Inlet → Outlet → Outlet → Type 0
+Answers Done left rest before now = Ran (Ok ending.Left) left rest before now ⊎ Ran (Ok ending.Ended) left rest before now
+Answers Usage left rest before now = (rest ≡ left) × (now ≡ before)
+Answers ReadFault left rest before now = Ran (Ok ending.ReadFault) left rest before now
+Answers WriteFault left rest before now = Ran (Err stop.WriteFault) left rest before now
+Answers NoMemory left rest before now = Ran (Err stop.NoMemory) left rest before now
+Answers HistoryFull left rest before now = Ran (Err stop.HistoryFull) left rest before now
+Answers InputFull left rest before now = Ran (Ok ending.Full) left rest before now

@@ -1,9 +1,12 @@
 //! The whole of the program for one client: `kak -ui json`.
 #![tactic(auto)]
 
+pub mod limits;
 pub mod program;
 
 pub use program::{MAX_ENTRIES, Status, run};
 
+#[cfg(test)]
+mod line_tests;
 #[cfg(test)]
 mod tests;

@@ -2,13 +2,13 @@
 
 ghost use Rattle.std.specs.Prelude.{◌≡◌, map, string_bytes, IsTrue, false};
 ghost use Rattle.kak_app.specs.Runs.{Ran, code_of, ui_json, Answers};
-ghost use Rattle.session_lines.specs.Reading.{FaultIs};
 
+use kak_engine::LoneSeat;
 use kak_ports::{Sink, Source};
-use session_lines::{InputEnd, LoneSeat, Stop, serve};
+use session_lines::{InputEnd, Stop, serve};
 use std::alloc::Global;
 
-/// How many entries the history may have, the leaving aside.
+/// How many entries the history may have, the leaving aside: 4,000,000.
 pub const MAX_ENTRIES: u64 = 4_000_000;
 
 /// How a run of the program ended.
@@ -64,8 +64,7 @@ fn serve_client<I: Source, K: Sink>(
     input: &mut I,
     output: &mut K,
 ) -> Result<InputEnd, Stop>
-    ensures ran { Ran result (I.left input.old) (I.left input.new) (K.told output.old) (K.told output.new) (K.faults output.old) (K.faults output.new) }
-    ensures fault { FaultIs result (I.faults input.old) (I.faults input.new) }
+    ensures { Ran result (I.inlet input.old) (I.inlet input.new) (K.outlet output.old) (K.outlet output.new) }
 {
     let mut seat = LoneSeat::new(alloc, MAX_ENTRIES, 0)?;
     serve(alloc, &mut seat, input, output)
@@ -81,7 +80,7 @@ pub fn run<I: Source, K: Sink>(
 ) -> Status
     ensures refused { (map (λ word. string_bytes word) words.now ≡ ui_json → ⊥) → result ≡ Status.Usage }
     ensures taken { map (λ word. string_bytes word) words.now ≡ ui_json → result ≡ Status.Usage → ⊥ }
-    ensures answers { Answers result (I.left input.old) (I.left input.new) (K.told output.old) (K.told output.new) (I.faults input.old) (I.faults input.new) (K.faults output.old) (K.faults output.new) }
+    ensures answers { Answers result (I.inlet input.old) (I.inlet input.new) (K.outlet output.old) (K.outlet output.new) }
 {
     if !are_ui_json(words) {
         return Status::Usage;

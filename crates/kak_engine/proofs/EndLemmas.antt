@@ -9,7 +9,7 @@ use Rattle.kak_world.specs.declared.ask.EditError.TheVariants.{TextFull, NoSuchC
 use Rattle.kak_world.specs.Flat.{Flat, with_units}
 use Rattle.kak_world.specs.Rows.{Asks, Fails, GivesUp, RowEnd, Gives, error_text}
 use Rattle.command_set.specs.Rows.{row_command}
-use Rattle.kak_engine.specs.declared.event.Answered.{Answered}
+use Rattle.session_events.specs.declared.event.Answered.{Answered}
 use Rattle.kak_engine.specs.declared.doing.Ending.{Ending}
 use Rattle.kak_engine.specs.Doing.{End, Fine, Failed, GivenUp, Moment, Outcome, Part, ends, after, unit_of, with_unit, go_on, run_text, Do, budget_spent}
 use Rattle.kak_engine.specs.Seen.{Ends, end_seen, end_of, moment_of, top}

@@ -3,7 +3,7 @@ use Rattle.std.proofs.Common.{◌≡◌, ℕ, true, false, List, [], refl, sym, 
 use Rattle.key_names.specs.declared.key.Key.{Key}
 use Rattle.kak_world.specs.declared.state.Status.TheVariants.{Quiet}
 use Rattle.kak_world.specs.Flat.{Flat, is_leaving, with_status, with_units}
-use Rattle.kak_engine.specs.declared.event.Answered.{Answered}
+use Rattle.session_events.specs.declared.event.Answered.{Answered}
 use Rattle.kak_engine.specs.declared.doing.Ending.{Ending}
 use Rattle.kak_engine.specs.Doing.{Outcome, strike}
 use Rattle.kak_engine.specs.Seen.{end_seen, moment_of, top}

@@ -1,4 +1,6 @@
+pub mod DeepLemmas
 pub mod DoingLemmas
 pub mod EndLemmas
 pub mod KeyLemmas
+pub mod LegalLemmas
 pub mod RunLemmas

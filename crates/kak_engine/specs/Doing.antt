@@ -10,7 +10,7 @@ use Rattle.kak_world.specs.Rows.{Row, Asks, Fails, GivesUp, RowEnd}
 use Rattle.normal_keys.specs.Rows.{row_normal}
 use Rattle.insert_prompt.specs.Rows.{row_insert, row_prompt}
 use Rattle.command_set.specs.Rows.{commands_of, row_command}
-use Rattle.kak_engine.specs.declared.event.Answered.{Answered}
+use Rattle.session_events.specs.declared.event.Answered.{Answered}
 
 -- How doing something ended: well, with an error, or given up. Errors and giving up have a status text.
 pub data End : Type 0 where

@@ -1,14 +1,19 @@
 -- What an engine holds, and which events it refuses.
-use Rattle.std.specs.Prelude.{◌≡◌, ℕ, Bool, true, false, not, ◌&&◌, nat_le, if◌then◌else◌, List, [], length, None, Some, Err}
+use Rattle.std.specs.Prelude.{◌≡◌, ◌≤◌, ◌<◌, ◌+◌, ℕ, Bool, true, not, ◌&&◌, nat_le, if◌then◌else◌, List, [], length, None, Some, Err}
+use Rattle.std.specs.List.{AllByRecursion}
 use Rattle.std.specs.declared.option.Option.{Option}
 use Rattle.std.specs.declared.result.Result.{Result}
-use Rattle.kak_world.specs.Flat.{Flat, is_joined}
-use Rattle.kak_engine.specs.declared.event.Event.{Event}
-use Rattle.kak_engine.specs.declared.event.Event.TheVariants.{Join, Leave}
-use Rattle.kak_engine.specs.declared.event.Entry.{Entry}
-use Rattle.kak_engine.specs.declared.event.Output.{Output}
-use Rattle.kak_engine.specs.declared.engine.StepFault.{StepFault}
-use Rattle.kak_engine.specs.declared.engine.StepFault.TheVariants.{Broken, NoClient, Joined, HistoryFull, Full, NoMemory}
+use Rattle.list_model.specs.Ranges.{Selected}
+use Rattle.list_model.specs.Settled.{IsSettledList}
+use Rattle.session_events.specs.declared.event.Event.{Event}
+use Rattle.session_events.specs.declared.event.Event.TheVariants.{Join}
+use Rattle.session_events.specs.declared.event.Entry.{Entry}
+use Rattle.session_events.specs.declared.event.Output.{Output}
+use Rattle.session_events.specs.declared.fault.StepFault.{StepFault}
+use Rattle.session_events.specs.declared.fault.StepFault.TheVariants.{Broken, NoClient, Joined, HistoryFull, Full, NoMemory}
+use Rattle.session_events.specs.Entries.{is_join, is_leave}
+use Rattle.session_events.specs.Legal.{Away, presence_from, is_here, IsLegal}
+use Rattle.kak_world.specs.Flat.{Flat, is_joined, sels_of, text_of}
 use Rattle.kak_engine.specs.Steps.{run, has_joined, is_full}
 
 -- an engine: its history, the number of entries that stood when it broke, if it did, and how many it may have
@@ -17,17 +22,22 @@ pub record Held : Type 0 where
   pub mark : Option ℕ
   pub limit : ℕ
 
--- an engine that isn't broken has the world that its history leads to
-pub record Stands (flat : Flat) (history : List Entry) (mark : Option ℕ) : Type 0 where
+-- An engine that isn't broken has the world that its history leads to, in which those clients are that have come and not
+-- gone, and one at most. Its history is one that there can be.
+pub record Stands (flat : Flat) (history : List Entry) (mark : Option ℕ) (limit : ℕ) : Type 0 where
   pub world : mark ≡ None → flat ≡ run history
+  pub known : mark ≡ None → (who : ℕ) → is_joined who flat ≡ is_here (presence_from who Away history)
+  pub few : mark ≡ None → length flat.clients ≤ 1
+  pub legal : IsLegal limit history
 
-abbrev pub is_join : Event → Bool
-is_join Join = true
-is_join _ = false
+-- a place is kept for the going of each client that is here, in a history of so many entries, with room for so many
+abbrev pub KeepsPlaces : Option ℕ → Flat → ℕ → ℕ → Type 0
+KeepsPlaces mark flat count room = mark ≡ None → count + length flat.clients ≤ room
 
-abbrev pub is_leave : Event → Bool
-is_leave Leave = true
-is_leave _ = false
+-- a client's list is settled, and lies inside the text that it sees
+pub record HasSettledList (who : ℕ) (flat : Flat) : Type 0 where
+  pub settled : IsSettledList (sels_of who flat)
+  pub inside : AllByRecursion (λ range. range.high < length (text_of who flat)) (sels_of who flat).list
 
 -- why an event of a client is refused by an engine that isn't broken: the first reason that holds
 abbrev pub refused_by : List Entry → ℕ → ℕ → Event → Option StepFault
@@ -45,10 +55,6 @@ refused_at None history limit who event = refused_by history limit who event
 
 abbrev pub refusal_of : Held → ℕ → Event → Option StepFault
 refusal_of held who event = refused_at held.mark held.history held.limit who event
-
--- the entry of an event for which the outside was asked nothing
-abbrev pub entry_of : ℕ → Event → Entry
-entry_of who event = record { who = who; event = event; answers = [] }
 
 -- the mark after a step: want of memory sets one that isn't set
 abbrev pub marked_by : Option ℕ → ℕ → Option ℕ

@@ -2,3 +2,4 @@ pub mod Doing
 pub mod Steps
 pub mod Seen
 pub mod Held
+pub mod Laws

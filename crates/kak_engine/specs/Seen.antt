@@ -6,7 +6,7 @@ use Rattle.kak_world.specs.declared.ask.EditError.{EditError}
 use Rattle.kak_world.specs.declared.ask.EditError.TheVariants.{BudgetSpent}
 use Rattle.kak_world.specs.Rows.{error_text}
 use Rattle.kak_world.specs.Flat.{Flat}
-use Rattle.kak_engine.specs.declared.event.Answered.{Answered}
+use Rattle.session_events.specs.declared.event.Answered.{Answered}
 use Rattle.kak_engine.specs.declared.doing.Ending.{Ending}
 use Rattle.kak_engine.specs.declared.doing.Ending.TheVariants as code
 use Rattle.kak_engine.specs.Doing.{End, Fine, Failed, GivenUp, Moment, Part, Place, budget_spent}

@@ -3,13 +3,14 @@ use Rattle.std.specs.Prelude.{ℕ, Bool, true, false, not, ◌&&◌, ◌==◌, n
 use Rattle.std.specs.List.{list_any}
 use Rattle.key_names.specs.declared.key.Key.{Key}
 use Rattle.kak_world.specs.declared.state.Status.TheVariants.{Quiet, Refused}
-use Rattle.kak_world.specs.Flat.{Flat, opening, joined_by, left_by, is_leaving, with_status, with_units, with_drawn}
+use Rattle.kak_world.specs.Flat.{Flat, opening, is_joined, joined_by, left_by, is_leaving, with_status, with_units, with_drawn}
 use Rattle.draw_model.specs.Drawings.{drawing_of, after_following}
-use Rattle.kak_engine.specs.declared.event.Event.{Event}
-use Rattle.kak_engine.specs.declared.event.Event.TheVariants.{Join, Key as Struck, Refresh, Leave}
-use Rattle.kak_engine.specs.declared.event.Answered.{Answered}
-use Rattle.kak_engine.specs.declared.event.Entry.{Entry}
-use Rattle.kak_engine.specs.declared.event.Output.{Output}
+use Rattle.session_events.specs.declared.event.Event.{Event}
+use Rattle.session_events.specs.declared.event.Event.TheVariants.{Join, Key as Struck, Refresh, Leave}
+use Rattle.session_events.specs.declared.event.Answered.{Answered}
+use Rattle.session_events.specs.declared.event.Entry.{Entry}
+use Rattle.session_events.specs.declared.event.Output.{Output}
+use Rattle.session_events.specs.Entries.{is_join}
 use Rattle.kak_engine.specs.Doing.{End, Fine, Failed, GivenUp, Moment, Outcome, strike}
 
 -- a client's status after its key: what went wrong, if anything did
@@ -63,10 +64,6 @@ run history = run_from opening history
 -- whether an entry is that client's joining
 abbrev pub is_join_of : ℕ → Entry → Bool
 is_join_of who entry = entry.who == who && is_join entry.event
-  where
-    is_join : Event → Bool
-    is_join Join = true
-    is_join _ = false
 
 -- whether a client joined before
 abbrev pub has_joined : ℕ → List Entry → Bool
@@ -75,3 +72,11 @@ has_joined who history = list_any (is_join_of who) history
 -- whether no further client may join: for now one is all there may be
 abbrev pub is_full : Flat → Bool
 is_full flat = nat_le 1 (length flat.clients)
+
+-- what an entry gives its client, behind the entries before it
+abbrev pub given_by : List Entry → Entry → Output
+given_by before entry = output_of entry.who entry.event entry.answers (run before)
+
+-- whether a client is joined behind some entries
+abbrev pub is_in : List Entry → ℕ → Bool
+is_in history who = is_joined who (run history)

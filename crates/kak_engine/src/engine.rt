@@ -1,39 +1,26 @@
 //! The engine: the world, and the history that led to it.
 
-ghost use Rattle.std.specs.Prelude.{◌≡◌, ◌<◌, ◌≤◌, ◌^◌, [], ◌∷◌, ◌++◌, length, true, None, Some, Err, IfOk, IfErr, IfSome, OnErr, OnOk, IsNone, false, ◌&&◌, not};
+ghost use Rattle.std.specs.Prelude.{◌≡◌, ◌<◌, ◌≤◌, ◌^◌, [], ◌∷◌, ◌++◌, length, true, None, Some, Err, IfOk, IfErr, IfSome, OnErr, OnOk, IsNone, IsOk, false, ◌&&◌, ◌+◌, not, vec_len, vec_capacity};
 ghost use Rattle.kak_world.specs.Flat.{is_joined, is_leaving};
 ghost use Rattle.kak_engine.specs.Steps.{after_key, after_event, output_of, has_joined, run, told};
 ghost use Rattle.kak_engine.specs.Seen.{end_seen};
-ghost use Rattle.kak_engine.specs.Held.{refusal_of, refused_by, entry_of, marked_after, marked_by, CanRun, is_join, is_leave};
+ghost use Rattle.kak_engine.specs.Held.{refusal_of, refused_by, marked_after, marked_by, CanRun, HasSettledList};
+ghost use Rattle.session_events.specs.declared.event.Event.TheVariants.{Leave};
+ghost use Rattle.session_events.specs.declared.fault.StepFault.TheVariants.{NoMemory};
+ghost use Rattle.session_events.specs.Entries.{entry_of, is_leave};
+ghost use Rattle.session_events.specs.Legal.{IsLegal};
 ghost use Rattle.draw_model.specs.Drawings.{drawing_of, after_following};
 ghost use Rattle.kak_world.specs.Flat.{with_drawn};
 
 use crate::doing::{Ending, strike};
-use crate::event::{Answers, Entry, Event, Output};
 use draw_model::{draw, follow_cursor};
 use json_ui::Drawing;
 use kak_text::Chars;
 use kak_world::{Status, World};
 use key_names::Key;
+use session_events::{Answers, Entry, Event, Output, StepFault, is_join, is_leave};
 use std::alloc::{AllocError, Global};
 use std::marker::Model;
-
-/// Why a step was refused. It changed nothing but the mark.
-#[derive(Clone, Copy, PartialEq, Eq, Debug)]
-pub enum StepFault {
-    /// An earlier step found no memory, when so many entries stood. No step is taken any more.
-    Broken(u64),
-    /// That client isn't joined.
-    NoClient(u32),
-    /// That client has joined before.
-    Joined(u32),
-    /// The history has as many entries as it may have; only leaving is still possible.
-    HistoryFull,
-    /// As many clients are joined as may be.
-    Full,
-    /// Memory ran out. The engine is broken from now on.
-    NoMemory,
-}
 
 /// The engine. Contracts see its history, its mark and its limit; the world follows from the history.
 #[derive(Drop, Debug)]
@@ -45,13 +32,14 @@ pub struct Engine {
 }
 
 impl Model for Engine {
-    ghost use Rattle.kak_engine.specs.Held.{Held, Stands};
+    ghost use Rattle.std.specs.Prelude.{vec_len, vec_capacity};
+    ghost use Rattle.kak_engine.specs.Held.{Held, Stands, KeepsPlaces};
 
     ghost Value = { Held };
 
     ghost view = { λ e. record { history = e.history.items; mark = e.mark; limit = e.limit } };
 
-    ghost invariant = { λ e. Stands e.world.flat e.history.items e.mark };
+    ghost invariant = { λ e. Stands e.world.flat e.history.items e.mark e.limit × KeepsPlaces e.mark e.world.flat (vec_len e.history) (vec_capacity e.history) };
 }
 
 // Tells a client what went wrong with its key, if anything did.
@@ -175,21 +163,27 @@ fn refusal_by(
     None
 }
 
-// Whether an event is a client's coming.
-fn is_join(event: Event) -> bool
-    ensures { result ≡ is_join event }
+// Lets a client go, and adds the entry, for which a place was kept when it came.
+fn keep_leaving(alloc: Global, world: &mut World, history: &mut Vec<Entry>, who: u32) -> Output
+    requires joined { is_joined who world.old.flat ≡ true }
+    requires few { length world.old.flat.clients ≤ 1 }
+    requires places { vec_len history.old + length world.old.flat.clients ≤ vec_capacity history.old }
+    ensures gives { result ≡ output_of who Leave [] world.old.flat }
+    ensures leads { world.new.flat ≡ after_event who Leave [] world.old.flat }
+    ensures keeps { history.new.items ≡ history.old.items ++ entry_of who Leave ∷ [] }
+    ensures gone { world.new.flat.clients ≡ [] }
+    ensures places { vec_len history.new ≤ vec_capacity history.new }
 {
-    matches!(event, Event::Join)
+    world.leave(who);
+    history.push_reserved(Entry {
+        who,
+        event: Event::Leave,
+        answers: Answers::none(alloc),
+    });
+    Output::nothing()
 }
 
-// Whether an event is a client's going.
-fn is_leave(event: Event) -> bool
-    ensures { result ≡ is_leave event }
-{
-    matches!(event, Event::Leave)
-}
-
-// Runs an event that is not refused, and adds its entry. Room for the entry is taken first.
+// Runs an event that is not refused, and adds its entry. Places for the entry and for the client's going are taken first.
 fn keep(
     alloc: Global,
     world: &mut World,
@@ -197,15 +191,20 @@ fn keep(
     who: u32,
     event: Event,
 ) -> Result<Output, AllocError>
-    requires { CanRun event who world.old.flat }
+    requires runs { CanRun event who world.old.flat }
+    requires stays { is_leave event ≡ false }
     ensures gives { IfOk result (λ output. output ≡ output_of who event [] world.old.flat) }
     ensures leads { OnOk result (world.new.flat ≡ after_event who event [] world.old.flat) }
     ensures keeps { OnOk result (history.new.items ≡ history.old.items ++ entry_of who event ∷ []) }
-    ensures joined { OnOk result (is_leave event ≡ false → is_joined who world.new.flat ≡ true) }
+    ensures joined { OnOk result (is_joined who world.new.flat ≡ true) }
+    ensures few { OnOk result (length world.new.flat.clients ≤ 1) }
+    ensures places { OnOk result (vec_len history.new + length world.new.flat.clients ≤ vec_capacity history.new) }
     ensures err { OnErr result (history.new.items ≡ history.old.items) }
 {
-    history.reserve(1)?;
+    history.reserve(2)?;
     let output = run_event(alloc, world, who, event)?;
+    // its contract says that one client is here at most
+    let _few = world.joined();
     history.push_reserved(Entry {
         who,
         event,
@@ -227,11 +226,24 @@ impl Engine {
         })
     }
 
-    /// The entries, in order.
+    /// The entries, in order. Each client comes first and once, and makes nothing behind its going; behind as many entries
+    /// as there may be, there are leavings alone.
     pub fn history(&self) -> &[Entry]
-        ensures { result.now ≡ self.now.history }
+        ensures value { result.now ≡ self.now.history }
+        ensures legal { IsLegal self.now.limit self.now.history }
     {
         self.history.as_slice()
+    }
+
+    /// A law: where the engine isn't broken, the list of a client that is joined is settled, and lies inside the text that
+    /// it sees; and no more clients are joined than may be.
+    pub fn lists_are_settled(&self, who: u32)
+        ensures lists { self.now.mark ≡ None → is_joined who (run self.now.history) ≡ true → HasSettledList who (run self.now.history) }
+        ensures few { self.now.mark ≡ None → length (run self.now.history).clients ≤ 1 }
+    {
+        if self.world.is_joined(who) {
+            let _sels = self.world.sels(who);
+        }
     }
 
     /// How many entries there are.
@@ -244,6 +256,7 @@ impl Engine {
     // Why an event of a client is refused, if it is.
     fn refusal(&self, who: u32, event: Event) -> Option<StepFault>
         ensures refused { result ≡ refusal_of self.now who event }
+        ensures legal { IsLegal self.now.limit self.now.history }
     {
         if let Some(at) = self.mark {
             return Some(StepFault::Broken(at));
@@ -251,14 +264,19 @@ impl Engine {
         refusal_by(&self.world, self.history.as_slice(), self.limit, who, event)
     }
 
-    // Runs an event that is not refused, and keeps its entry.
+    // Runs an event that is not refused, and keeps its entry. It can't fail where a client leaves.
     fn run_and_keep(&mut self, alloc: Global, who: u32, event: Event) -> Result<Output, AllocError>
         requires allowed { refusal_of self.old who event ≡ None }
         ensures gives { IfOk result (λ output. output ≡ output_of who event [] (run self.old.history)) }
         ensures keeps { OnOk result (self.new ≡ record { history = self.old.history ++ entry_of who event ∷ []; mark = self.old.mark; limit = self.old.limit }) }
         ensures joined { OnOk result (is_leave event ≡ false → is_joined who (run self.new.history) ≡ true) }
         ensures err { OnErr result (self.new ≡ record { history = self.old.history; mark = marked_by self.old.mark (length self.old.history); limit = self.old.limit }) }
+        ensures leaves { is_leave event ≡ true → IsOk result }
+        ensures legal { IsLegal self.new.limit self.new.history }
     {
+        if is_leave(event) {
+            return Ok(keep_leaving(alloc, &mut self.world, &mut self.history, who));
+        }
         match keep(alloc, &mut self.world, &mut self.history, who, event) {
             Ok(output) => Ok(output),
             Err(error) => {
@@ -269,17 +287,19 @@ impl Engine {
     }
 
     /// Takes one event of a client. On Ok it stands as the last entry of the history, and the output is what the event
-    /// gives on the world that the history led to; unless it left, the client is joined. Refusals are tested in the order `Broken`, `NoClient`, `Joined`,
-    /// `HistoryFull`, `Full`; they change nothing. `NoMemory` adds no entry, and breaks the engine.
+    /// gives on the world that the history led to; unless it left, the client is joined. Refusals are tested in the order
+    /// `Broken`, `NoClient`, `Joined`, `HistoryFull`, `Full`; they change nothing. `NoMemory` adds no entry, and breaks the
+    /// engine; a client's going never wants memory.
     pub fn step(&mut self, alloc: Global, who: u32, event: Event) -> Result<Output, StepFault>
         ensures refused { IfSome (refusal_of self.old who event) (λ fault. result ≡ Err fault) }
-        ensures answered { refusal_of self.old who event ≡ None → IfErr result (λ fault. fault ≡ StepFault.NoMemory) }
+        ensures answered { refusal_of self.old who event ≡ None → IfErr result (λ fault. (fault ≡ NoMemory) × (is_leave event ≡ false)) }
         ensures gives { IfOk result (λ output. output ≡ output_of who event [] (run self.old.history)) }
         ensures keeps { OnOk result (self.new.history ≡ self.old.history ++ entry_of who event ∷ []) }
         ensures joined { OnOk result (is_leave event ≡ false → is_joined who (run self.new.history) ≡ true) }
         ensures err { OnErr result (self.new.history ≡ self.old.history) }
         ensures mark { self.new.mark ≡ marked_after result self.old }
         ensures limit { self.new.limit ≡ self.old.limit }
+        ensures legal { IsLegal self.new.limit self.new.history }
     {
         if let Some(fault) = self.refusal(who, event) {
             return Err(fault);

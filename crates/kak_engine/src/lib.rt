@@ -3,10 +3,11 @@
 
 pub mod doing;
 pub mod engine;
-pub mod event;
+pub mod laws;
+pub mod seat;
 
-pub use engine::{Engine, StepFault};
-pub use event::{Answered, Answers, Entry, Event, Output};
+pub use engine::Engine;
+pub use seat::LoneSeat;
 
 #[cfg(test)]
 mod tests;

@@ -1,7 +1,8 @@
-use crate::{Engine, Entry, Event, Output, StepFault};
+use crate::Engine;
 use StepFault::{Full, HistoryFull, Joined, NoClient};
 use Told::{Drew, MayLeave, Ran, Refused};
 use key_names::{Base, Key, read_keys};
+use session_events::{Entry, Event, Output, StepFault};
 use std::alloc::Global;
 use std::test::Fail;
 

@@ -60,6 +60,7 @@ impl MemSource {
     pub fn new(bytes: Vec<u8>, piece: usize, plan: FailingCalls) -> MemSource
         requires { 0 < piece }
         ensures left { drop result.at result.bytes ≡ bytes.items }
+        ensures piece { result.piece ≡ piece }
         ensures faults { result.faults ≡ 0 }
     {
         MemSource {
@@ -82,9 +83,7 @@ fn copy_front(into: &mut [u8], from: &[u8], count: usize)
 }
 
 impl Source for MemSource {
-    ghost left = { λ s. Some (drop s.at s.bytes) };
-
-    ghost faults = { λ s. s.faults };
+    ghost inlet = { λ s. record { left = Some (drop s.at s.bytes); most = s.piece; faults = s.faults } };
 
     fn take(&mut self, into: &mut [u8]) -> Took {
         if self.plan.is_next() {
@@ -112,7 +111,8 @@ pub struct MemSink {
 }
 
 impl MemSink {
-    /// A sink with room for so many bytes. A put that doesn't fit fails, and what fits of it is added.
+    /// A sink with room for so many bytes. A put that doesn't fit fails, as one does that is planned to; a front of it
+    /// is then added, which is at most its first half.
     pub fn new(alloc: Global, room: usize, plan: FailingCalls) -> Result<MemSink, AllocError>
         ensures told { IfOk result (λ s. s.bytes.items ≡ []) }
         ensures room { IfOk result (λ s. s.room ≡ room) }
@@ -161,9 +161,7 @@ impl MemSink {
 }
 
 impl Sink for MemSink {
-    ghost told = { λ s. Some s.bytes.items };
-
-    ghost faults = { λ s. s.faults };
+    ghost outlet = { λ s. record { told = Some s.bytes.items; faults = s.faults } };
 
     fn put(&mut self, bytes: &[u8]) -> Put {
         let room = self.room.saturating_sub(self.bytes.len());

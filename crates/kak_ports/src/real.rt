@@ -1,6 +1,6 @@
 //! Ports over std's readers and writers: the edge of what is proved.
 
-ghost use Rattle.std.specs.Prelude.{◌≡◌, ◌≤◌, length, drop};
+ghost use Rattle.std.specs.Prelude.{◌≡◌, ◌≤◌, ◌^◌, length, drop};
 ghost use Rattle.kak_ports.specs.Ports.{Rose};
 
 use crate::sink::{Put, Sink};
@@ -25,9 +25,7 @@ impl<R: Read> ReadSource<R> {
 }
 
 impl<R: Read> Source for ReadSource<R> {
-    ghost left = { λ s. R.remaining s.reader };
-
-    ghost faults = { λ s. s.faults };
+    ghost inlet = { λ s. record { left = R.remaining s.reader; most = 2 ^ 64; faults = s.faults } };
 
     fn take(&mut self, into: &mut [u8]) -> Took {
         match self.reader.read(into) {
@@ -77,9 +75,7 @@ impl<W: Write> WriteSink<W> {
 }
 
 impl<W: Write> Sink for WriteSink<W> {
-    ghost told = { λ s. W.contents s.writer };
-
-    ghost faults = { λ s. s.faults };
+    ghost outlet = { λ s. record { told = W.contents s.writer; faults = s.faults } };
 
     fn put(&mut self, bytes: &[u8]) -> Put {
         let mut rest = bytes;

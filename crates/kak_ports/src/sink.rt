@@ -1,8 +1,6 @@
 //! Where bytes go.
 
-ghost use Rattle.std.specs.Prelude.{ℕ, List};
-ghost use Rattle.std.specs.declared.option.Option.{Option};
-ghost use Rattle.kak_ports.specs.Ports.{Puts, PutIsCounted};
+ghost use Rattle.kak_ports.specs.Ports.{Outlet, Puts, PutIsCounted};
 
 /// What a `put` answers.
 #[derive(Clone, Copy, Debug, PartialEq, Eq)]
@@ -15,14 +13,11 @@ pub enum Put {
 
 /// A sink for bytes.
 pub trait Sink {
-    // The bytes that were put so far, where they are told.
-    ghost told: { Self → Option (List ℕ) };
-
-    // How often it has failed. It never falls.
-    ghost faults: { Self → ℕ };
+    // The bytes that were put so far, where they are told, and how often a put failed.
+    ghost outlet: { Self → Outlet };
 
     /// Adds bytes at the end.
     fn put(&mut self, bytes: &[u8]) -> Put
-        ensures puts { Puts result (told self.old) (told self.new) bytes.now }
-        ensures counted { PutIsCounted result (faults self.old) (faults self.new) };
+        ensures puts { Puts result (outlet self.old) (outlet self.new) bytes.now }
+        ensures counted { PutIsCounted result (outlet self.old) (outlet self.new) };
 }

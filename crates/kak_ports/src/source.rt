@@ -1,8 +1,7 @@
 //! Where bytes come from.
 
-ghost use Rattle.std.specs.Prelude.{◌≡◌, ℕ, ◌<◌, List, length};
-ghost use Rattle.std.specs.declared.option.Option.{Option};
-ghost use Rattle.kak_ports.specs.Ports.{Takes, TakeIsCounted};
+ghost use Rattle.std.specs.Prelude.{◌≡◌, ◌<◌, length};
+ghost use Rattle.kak_ports.specs.Ports.{Inlet, Takes, TakeIsCounted};
 
 /// What a `take` answers.
 #[derive(Clone, Copy, Debug, PartialEq, Eq)]
@@ -17,15 +16,13 @@ pub enum Took {
 
 /// A source of bytes.
 pub trait Source {
-    // The bytes that takes will give from here on, where they are told.
-    ghost left: { Self → Option (List ℕ) };
-
-    // How often it has failed. It never falls.
-    ghost faults: { Self → ℕ };
+    // What is left of its bytes, where they are told, the most that one take gives, and how often one failed.
+    ghost inlet: { Self → Inlet };
 
     /// Takes the next bytes into the front of `into`, which isn't empty. What stands behind them is left open.
     fn take(&mut self, into: &mut [u8]) -> Took
         requires { 0 < length into.old }
-        ensures takes { Takes result (left self.old) (left self.new) into.new }
-        ensures counted { TakeIsCounted result (faults self.old) (faults self.new) };
+        ensures takes { Takes result (inlet self.old) (inlet self.new) into.new }
+        ensures counted { TakeIsCounted result (inlet self.old) (inlet self.new) }
+        ensures most { (inlet self.new).most ≡ (inlet self.old).most };
 }

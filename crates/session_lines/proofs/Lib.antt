@@ -1,5 +1,4 @@
 pub mod Indices
-pub mod RefusalLemmas
 pub mod StayingLemmas
 pub mod TakingLemmas
 pub mod OpeningLemmas

@@ -1,23 +1,21 @@
 -- The opening of a connection, whose client has joined and done nothing else.
-use Rattle.std.proofs.Common.{◌≡◌, ℕ, Bool, true, false, List, [], ◌∷◌, ◌++◌, drop, get_or, Ok, Err, refl, sym, ap, ◌∙◌, subst}
+use Rattle.std.proofs.Common.{◌≡◌, ℕ, Bool, true, false, List, [], ◌∷◌, ◌++◌, drop, get_or, Ok, Err, refl, sym, ap, ◌∙◌, append-nil}
 use Rattle.std.specs.Prelude.{if◌then◌else◌, ◌==◌, None}
-use Rattle.std.specs.declared.option.Option.{Option}
 use Rattle.std.specs.declared.result.Result.{Result}
-use Rattle.session_turns.specs.Histories.{Answer, own, answers_from}
-use Rattle.session_turns.specs.Turns.{Opens}
-use Rattle.session_turns.proofs.HistoryLemmas.{answers_from-others}
-use Rattle.kak_world.specs.Flat.{Flat, opening}
-use Rattle.kak_engine.specs.declared.event.Event.{Event}
-use Rattle.kak_engine.specs.declared.event.Event.TheVariants.{Join, Refresh}
-use Rattle.kak_engine.specs.declared.event.Entry.{Entry}
-use Rattle.kak_engine.specs.Steps.{after_entry, output_of}
-use Rattle.kak_engine.specs.Held.{is_leave}
+use Rattle.kak_ports.specs.Ports.{Outlet}
+use Rattle.session_turns.specs.Histories.{Answer, own, answers_behind}
+use Rattle.session_turns.specs.Turns.{Opening}
+use Rattle.session_turns.proofs.HistoryLemmas.{answers_behind-others}
+use Rattle.session_events.specs.declared.event.Event.{Event}
+use Rattle.session_events.specs.declared.event.Event.TheVariants.{Join, Refresh}
+use Rattle.session_events.specs.declared.event.Answered.{Answered}
+use Rattle.session_events.specs.declared.event.Entry.{Entry}
+use Rattle.session_events.specs.Entries.{entry_with, is_leave}
+use Rattle.session_events.specs.Meaning.{Gives, IsMeaning, rules, answer_of, answers_to}
+use Rattle.session_events.specs.Seats.{Seated}
 use Rattle.session_lines.specs.declared.playing.Stop.{Stop}
-use Rattle.session_lines.specs.Session.{rules, answer_of, answers_to}
-use Rattle.session_lines.specs.Sending.{Sends, Counts}
-use Rattle.session_lines.specs.Serving.{AreTaken, AreCut, Serves, how_opened}
-use Rattle.session_lines.specs.Stops.{Causes}
-use Rattle.session_lines.proofs.StayingLemmas.{write-caused}
+use Rattle.session_lines.specs.Sending.{Sends}
+use Rattle.session_lines.specs.Serving.{AreTaken, AreCut, Serves, how_opened, unseen}
 use Rattle.session_lines.proofs.TakingLemmas.{taken-more, cut-after}
 use Rattle.session_lines.proofs.ServingLemmas.{serves-sent-as, serves-failed}
 
@@ -25,10 +23,8 @@ use Rattle.session_lines.proofs.ServingLemmas.{serves-sent-as, serves-failed}
 abbrev join_answer : Answer Event
 join_answer = answer_of Join (record { drawing = None; leaving = false })
 
-answers-join : (entry : Entry) (flat : Flat) → entry.event ≡ Join → answers_to entry flat ≡ join_answer ∷ []
-answers-join entry flat e =
-    let P : Event → Type 0 = λ event. (if is_leave event then [] else answer_of event (output_of entry.who event entry.answers flat) ∷ []) ≡ join_answer ∷ [] in
-    subst P (sym e) refl
+answers-join : (g : Gives) (before : List Entry) (who : ℕ) (event : Event) (answers : List Answered) → IsMeaning g → event ≡ Join → answers_to g before (entry_with who event answers) ≡ join_answer ∷ []
+answers-join g before who event answers m e = rw e (ap (λ o. answer_of Join o ∷ []) (m.joins before who answers))
 
 joined-step : (t : Bool) (e : Event) (es : List Event) (g h : List (Answer Event)) → (e ≡ Join → g ≡ join_answer ∷ []) → (es ≡ [] → h ≡ []) → (es ≡ Join ∷ [] → h ≡ join_answer ∷ [])
     → (if t then e ∷ es else es) ≡ Join ∷ [] → (if t then g ++ h else h) ≡ join_answer ∷ []
@@ -39,40 +35,31 @@ no-join : {A : Type 0} (x : A) → [] ≡ x ∷ [] → ⊥
 no-join x e = cc
 
 -- a client whose only event is its joining was answered that
-joined-answers : (who : ℕ) (flat : Flat) (history : List Entry) → own rules who history ≡ Join ∷ [] → answers_from rules who flat history ≡ join_answer ∷ []
-joined-answers who flat [] e = absurd (no-join Join e)
-joined-answers who flat (n ∷ history) e =
-    joined-step (n.who == who) n.event (own rules who history) (answers_to n flat) (answers_from rules who (after_entry n flat) history)
-    (answers-join n flat) (answers_from-others rules who (after_entry n flat) history) (joined-answers who (after_entry n flat) history) e
+joined-answers : (g : Gives) (who : ℕ) (before history : List Entry) → IsMeaning g → own (rules g) who history ≡ Join ∷ [] → answers_behind (rules g) who before history ≡ join_answer ∷ []
+joined-answers g who before [] m e = absurd (no-join Join e)
+joined-answers g who before (n ∷ history) m e =
+    joined-step (n.who == who) n.event (own (rules g) who history) (answers_to g before n) (answers_behind (rules g) who (before ++ n ∷ []) history)
+    (answers-join g before n.who n.event n.answers m) (answers_behind-others (rules g) who (before ++ n ∷ []) history) (joined-answers g who (before ++ n ∷ []) history m) e
 
 -- the joining was taken
-joined-taken : (who : ℕ) (history : List Entry) (x : List ℕ) → own rules who history ≡ Join ∷ [] → AreTaken who [] history (Join ∷ []) x x false
-joined-taken who history x e = record {
+joined-taken : (g : Gives) (x : Seated) (out : List ℕ) → IsMeaning g → own (rules g) x.number x.seen ≡ Join ∷ [] → AreTaken g (unseen x) x (Join ∷ []) out out false
+joined-taken g x out m e = record {
   got = join_answer ∷ [];
-  adds = record { more = history; grows = refl; answered = joined-answers who opening history e; events = e };
+  adds = record { more = x.seen; grows = refl; answered = joined-answers g x.number [] x.seen m e; events = e };
   events_are = refl;
-  bytes = sym (append-nil x);
+  bytes = sym (append-nil out);
   leaving_is = refl;
 }
-  where
-    append-nil : (x : List ℕ) → x ++ [] ≡ x
-    append-nil [] = refl
-    append-nil (b ∷ x) = ap (λ r. b ∷ r) (append-nil x)
 
-opening-taken : (who : ℕ) (a b : List Entry) (x y : List ℕ) → own rules who a ≡ Join ∷ [] → AreTaken who a b (Refresh true ∷ []) x y false → AreTaken who [] b (Join ∷ Refresh true ∷ []) x y false
-opening-taken who a b x y new t = taken-more who [] a b (Join ∷ []) (Refresh true ∷ []) x x y false false (joined-taken who a x new) t
+opening-taken : (g : Gives) (x y : Seated) (before out : List ℕ) → IsMeaning g → own (rules g) x.number x.seen ≡ Join ∷ [] → AreTaken g x y (Refresh true ∷ []) before out false → AreTaken g (unseen x) y (Join ∷ Refresh true ∷ []) before out false
+opening-taken g x y before out m new t = taken-more g (unseen x) x y (Join ∷ []) (Refresh true ∷ []) before before out false false (record { number = refl; limit = refl }) (joined-taken g x before m new) t
 
 -- the drawing was refused or lost
-pub opening-cut : (who : ℕ) (a b : List Entry) (why : Stop) → own rules who a ≡ Join ∷ [] → AreCut who a b (Refresh true ∷ []) why → AreCut who [] b (Join ∷ Refresh true ∷ []) why
-opening-cut who a b why new t = cut-after who [] a b (Join ∷ []) (Refresh true ∷ []) [] [] false why (joined-taken who a [] new) t
+pub opening-cut : (g : Gives) (x y : Seated) (why : Stop) → IsMeaning g → own (rules g) x.number x.seen ≡ Join ∷ [] → AreCut g x y (Refresh true ∷ []) why → AreCut g (unseen x) y (Join ∷ Refresh true ∷ []) why
+opening-cut g x y why m new t = cut-after g (unseen x) x y (Join ∷ []) (Refresh true ∷ []) [] [] false why (record { number = refl; limit = refl }) (joined-taken g x [] m new) t
 
 -- the drawing was sent, or a front of it
-pub opening-sent : {A : Type 0} (r : Result A Stop) (who : ℕ) (a b : List Entry) (x y put : List ℕ) (before now : Option (List ℕ)) → own rules who a ≡ Join ∷ [] → AreTaken who a b (Refresh true ∷ []) x y false → x ≡ [] → put ≡ y
-    → Sends r before now put → Serves who [] b before now (how_opened r) (Opens ∷ [])
-opening-sent (Ok done) who a b x y put before now new t e same s = serves-sent-as who [] b before now Opens (Join ∷ Refresh true ∷ []) x y put false (opening-taken who a b x y new t) refl e refl same s
-opening-sent (Err why) who a b x y put before now new t e same s = serves-failed who [] b before now Opens (Join ∷ Refresh true ∷ []) x y put false why (opening-taken who a b x y new t) refl e refl same s
-
--- and the sink counted its fault
-pub send-causes : {A : Type 0} (r : Result A Stop) (limit : ℕ) (mark : Option ℕ) (seen : List Entry) (before now : Option (List ℕ)) (put : List ℕ) (a b : ℕ) → Sends r before now put → Counts r a b → Causes r limit mark seen a b
-send-causes (Ok done) limit mark seen before now put a b s c = c
-send-causes (Err why) limit mark seen before now put a b s c = write-caused why limit mark seen a b s.0 c
+pub opening-sent : {A : Type 0} (r : Result A Stop) (g : Gives) (x y : Seated) (before out put : List ℕ) (a b : Outlet) → IsMeaning g → own (rules g) x.number x.seen ≡ Join ∷ [] → AreTaken g x y (Refresh true ∷ []) before out false → before ≡ [] → put ≡ out
+    → Sends r a b put → Serves g (unseen x) y a b (how_opened r) (Opening ∷ [])
+opening-sent (Ok done) g x y before out put a b m new t e same s = serves-sent-as g (unseen x) y a b Opening (Join ∷ Refresh true ∷ []) before out put false (opening-taken g x y before out m new t) refl e refl same s
+opening-sent (Err why) g x y before out put a b m new t e same s = serves-failed g (unseen x) y a b Opening (Join ∷ Refresh true ∷ []) before out put false why (opening-taken g x y before out m new t) refl e refl same s

@@ -1,43 +1,97 @@
 -- What stays, and why playing stops, over calls one after another.
-use Rattle.std.proofs.Common.{◌≡◌, ℕ, ◌≤◌, List, length, refl, sym, ◌∙◌, subst, arith}
-use Rattle.std.specs.Prelude.{Some}
-use Rattle.std.specs.declared.option.Option.{Option}
-use Rattle.kak_ports.specs.Ports.{Rose}
-use Rattle.kak_engine.specs.declared.event.Entry.{Entry}
+use Rattle.std.proofs.Common.{◌≡◌, ℕ, ◌+◌, ◌≤◌, ◌<◌, Bool, true, false, List, [], ◌∷◌, ◌++◌, length, Ok, Err, refl, sym, ap, ◌∙◌, subst, arith, length-append}
+use Rattle.std.specs.Prelude.{Some, IfSome}
+use Rattle.std.specs.declared.result.Result.{Result}
+use Rattle.kak_ports.specs.Ports.{Outlet, Rose}
+use Rattle.session_events.specs.declared.event.Event.TheVariants.{Leave}
+use Rattle.session_events.specs.declared.event.Entry.{Entry}
+use Rattle.session_events.specs.Entries.{entry_with}
+use Rattle.session_events.specs.Meaning.{Gives}
+use Rattle.session_events.specs.Seats.{Seated, IsSameSeat}
 use Rattle.session_lines.specs.declared.playing.Stop.{Stop}
 use Rattle.session_lines.specs.declared.playing.Stop.TheVariants.{HistoryFull, Broken, NoMemory, WriteFault}
-use Rattle.session_lines.specs.Stops.{IsIn, Stays, Stopped}
+use Rattle.session_lines.specs.declared.reading.InputEnd.{InputEnd}
+use Rattle.session_lines.specs.Connections.{is_unwritten, EndCauses}
+use Rattle.session_lines.specs.Sending.{Counts}
+use Rattle.session_lines.specs.Serving.{HasGone, unseen}
+use Rattle.session_lines.specs.Stops.{IsReady, Stays, NoneFailed, StopsFor, Stops, CausedBy, Causes, IsLoss}
+
+pub same-then : {x y z : Seated} → IsSameSeat x y → IsSameSeat y z → IsSameSeat x z
+same-then s t = record { number = t.number ∙ s.number; limit = t.limit ∙ s.limit }
+
+-- a seat from which nothing was seen yet is that seat
+pub unseen-same : {x y : Seated} → IsSameSeat x y → IsSameSeat (unseen x) y
+unseen-same s = record { number = s.number; limit = s.limit }
 
 -- nothing happened
-pub stays-still : (who limit : ℕ) (seen : List Entry) → IsIn who seen → Stays who limit who limit seen
-stays-still who limit seen joined = record { number = refl; limit = refl; joined = joined }
+pub stays-still : {i : List Entry → ℕ → Bool} (x : Seated) → IsReady i x → Stays i x x
+stays-still x ready = record { same = record { number = refl; limit = refl }; ready = ready }
 
 -- one call after another
-pub stays-then : (who limit w l n m : ℕ) (a b : List Entry) → Stays who limit w l a → Stays w l n m b → Stays who limit n m b
-stays-then who limit w l n m a b s t = record { number = t.number ∙ s.number; limit = t.limit ∙ s.limit; joined = subst (λ k. IsIn k b) s.number t.joined }
+pub stays-then : {i : List Entry → ℕ → Bool} {x y z : Seated} → Stays i x y → Stays i y z → Stays i x z
+stays-then s t = record { same = same-then s.same t.same; ready = t.ready }
 
--- the client is joined for the next call
-pub stays-in : (who limit w l : ℕ) (a : List Entry) → Stays who limit w l a → IsIn w a
-stays-in who limit w l a s = subst (λ k. IsIn k a) (sym s.number) s.joined
+-- where nothing is written
+stopped-quiet : (why : Stop) (x : Seated) (a : Outlet) → StopsFor why x → CausedBy why x a a
+stopped-quiet HistoryFull x a s = (s, refl)
+stopped-quiet (Broken at) x a s = (s, refl)
+stopped-quiet NoMemory x a s = refl
+stopped-quiet WriteFault x a s = absurd s
 
--- what a stop means, by what each of its causes means
-pub stopped-as : (why : Stop) (full full_now : Type 0) (broken broken_now : ℕ → Type 0) (unwritten unwritten_now : Type 0)
-    → (full → full_now) → ((at : ℕ) → broken at → broken_now at) → (unwritten → unwritten_now)
-    → Stopped why full broken unwritten → Stopped why full_now broken_now unwritten_now
-stopped-as HistoryFull full full_now broken broken_now unwritten unwritten_now f b u s = f s
-stopped-as (Broken at) full full_now broken broken_now unwritten unwritten_now f b u s = b at s
-stopped-as NoMemory full full_now broken broken_now unwritten unwritten_now f b u s = tt
-stopped-as WriteFault full full_now broken broken_now unwritten unwritten_now f b u s = u s
+pub quiet-causes : {A : Type 0} (r : Result A Stop) (x : Seated) (a : Outlet) → Stops r x → Causes r x a a
+quiet-causes (Ok done) x a s = refl
+quiet-causes (Err why) x a s = stopped-quiet why x a s
 
--- behind calls that stopped nothing
-pub stopped-behind : (why : Stop) (limit l : ℕ) (mark : Option ℕ) (seen : List Entry) → l ≡ limit
-    → Stopped why (l ≤ length seen) (λ at. mark ≡ Some at) ⊥ → Stopped why (limit ≤ length seen) (λ at. mark ≡ Some at) ⊥
-stopped-behind why limit l mark seen e s = subst (λ k. Stopped why (k ≤ length seen) (λ at. mark ≡ Some at) ⊥) e s
+-- behind writes that didn't fail
+caused-behind : (why : Stop) (x : Seated) (a b c : Outlet) → NoneFailed a b → CausedBy why x b c → CausedBy why x a c
+caused-behind HistoryFull x a b c n s = (s.0, s.1 ∙ n)
+caused-behind (Broken at) x a b c n s = (s.0, s.1 ∙ n)
+caused-behind NoMemory x a b c n s = s ∙ n
+caused-behind WriteFault x a b c n s = subst (λ k. Rose k c.faults) n s
 
--- a write that failed
-pub write-caused : (why : Stop) (limit : ℕ) (mark : Option ℕ) (seen : List Entry) (a b : ℕ) → why ≡ WriteFault → Rose a b
-    → Stopped why (limit ≤ length seen) (λ at. mark ≡ Some at) (Rose a b)
-write-caused why limit mark seen a b e r = subst (λ w. Stopped w (limit ≤ length seen) (λ at. mark ≡ Some at) (Rose a b)) (sym e) r
+pub causes-behind : {A : Type 0} (r : Result A Stop) (x : Seated) (a b c : Outlet) → NoneFailed a b → Causes r x b c → Causes r x a c
+causes-behind (Ok done) x a b c n s = s ∙ n
+causes-behind (Err why) x a b c n s = caused-behind why x a b c n s
 
-pub counted-then : (a b c : ℕ) → a ≤ b → b ≤ c → a ≤ c
-counted-then a b c x y = omega (arith, x, y)
+-- a write that failed, or one that didn't
+pub write-causes : {A : Type 0} (r : Result A Stop) (x : Seated) (a b : Outlet) → ((why : Stop) → r ≡ Err why → why ≡ WriteFault) → Counts r a b → Causes r x a b
+write-causes (Ok done) x a b w c = c
+write-causes (Err why) x a b w c = subst (λ q. CausedBy q x a b) (sym (w why refl)) c
+
+-- why a connection ended, behind its leaving: the history is more than full, and a mark still set
+pub causes-later : {g : Gives} (r : Result InputEnd Stop) (x y : Seated) (a b : Outlet) → IsSameSeat x y → HasGone g x y → IfSome x.mark (λ at. y.mark ≡ Some at) → Causes r x a b → EndCauses r y a b
+causes-later (Ok done) x y a b same g m c = c
+causes-later (Err HistoryFull) x y a b same g m c = (longer, c.1)
+  where
+    longer : y.limit < length y.seen
+    longer =
+        let n : length y.seen ≡ length (x.seen ++ g.between) + 1 = ap length g.stands ∙ length-append (x.seen ++ g.between) (entry_with x.number Leave g.answers ∷ []) in
+        omega (arith, n, length-append x.seen g.between, c.0, same.limit)
+causes-later (Err (Broken at)) x y a b same g m c = (subst (λ q. IfSome q (λ n. y.mark ≡ Some n)) c.0 m, c.1)
+causes-later (Err NoMemory) x y a b same g m c = c
+causes-later (Err WriteFault) x y a b same g m c = c
+
+-- a write that failed, behind which nothing was played
+pub unwritten-causes : (r : Result InputEnd Stop) (x : Seated) (a b : Outlet) → is_unwritten r ≡ true → Causes r x a b → EndCauses r x a b
+unwritten-causes (Ok done) x a b w c = cc
+unwritten-causes (Err HistoryFull) x a b w c = cc
+unwritten-causes (Err (Broken at)) x a b w c = cc
+unwritten-causes (Err NoMemory) x a b w c = cc
+unwritten-causes (Err WriteFault) x a b w c = c
+
+-- a leaving that failed behind phases in which no write did
+loss-caused : (why : Stop) (y : Seated) (a b : Outlet) → NoneFailed a b → IsLoss why y → EndCauses (Err why) y a b
+loss-caused HistoryFull y a b n l = absurd l
+loss-caused (Broken at) y a b n l = (l, n)
+loss-caused NoMemory y a b n l = absurd l
+loss-caused WriteFault y a b n l = absurd l
+
+none-failed : (r : Result InputEnd Stop) (x : Seated) (a b : Outlet) → is_unwritten r ≡ false → Causes r x a b → NoneFailed a b
+none-failed (Ok ending) x a b w c = c
+none-failed (Err HistoryFull) x a b w c = c.1
+none-failed (Err (Broken at)) x a b w c = c.1
+none-failed (Err NoMemory) x a b w c = c
+none-failed (Err WriteFault) x a b w c = cc
+
+pub loss-causes : (r : Result InputEnd Stop) (why : Stop) (x y : Seated) (a b : Outlet) → is_unwritten r ≡ false → Causes r x a b → IsLoss why y → EndCauses (Err why) y a b
+loss-causes r why x y a b w c l = loss-caused why y a b (none-failed r x a b w c) l

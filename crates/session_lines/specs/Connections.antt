@@ -1,18 +1,23 @@
 -- A whole connection: what was read of its input, what its history is, and what it was sent.
-use Rattle.std.specs.Prelude.{ℕ, List, ◌++◌, map, Ok, Err}
-use Rattle.std.specs.declared.option.Option.{Option}
+use Rattle.std.specs.Prelude.{ℕ, ◌≤◌, ◌<◌, Bool, true, false, List, [], ◌∷◌, ◌++◌, length, Ok, Err}
 use Rattle.std.specs.declared.result.Result.{Result}
 use Rattle.std.specs.Io.KnownBytes.{Appends, Consumes}
-use Rattle.session_turns.specs.Turns.{Turn, Line}
-use Rattle.session_turns.specs.Headline.{End, Left as WasLeft, Closed, Cut, Refused, Lost, LinesRead, IsServed}
-use Rattle.kak_engine.specs.declared.event.Entry.{Entry}
+use Rattle.kak_ports.specs.Ports.{Inlet, Outlet}
+use Rattle.session_turns.specs.Histories.{answers}
+use Rattle.session_turns.specs.Turns.{Phase, Opening, turns_of}
+use Rattle.session_turns.specs.Headline.{End, Left as WasLeft, Closed, Cut, Refused, Unwritten, Lost, LinesRead, IsServed}
+use Rattle.session_events.specs.declared.event.Entry.{Entry}
+use Rattle.session_events.specs.Meaning.{Gives, rules}
+use Rattle.session_events.specs.Seats.{Seated}
 use Rattle.session_lines.specs.declared.playing.Stop.{Stop}
-use Rattle.session_lines.specs.declared.playing.Stop.TheVariants.{HistoryFull}
+use Rattle.session_lines.specs.declared.playing.Stop.TheVariants.{HistoryFull, WriteFault}
+use Rattle.session_lines.specs.declared.reading.TheConstants.{MAX_INPUT}
 use Rattle.session_lines.specs.declared.reading.InputEnd.{InputEnd}
 use Rattle.session_lines.specs.declared.reading.InputEnd.TheVariants.{Left, Ended, ReadFault, Full}
-use Rattle.session_lines.specs.Session.{rules, protocol}
-use Rattle.session_lines.specs.Serving.{Serves}
-use Rattle.session_lines.specs.Reading.{how_read, EndIs}
+use Rattle.session_lines.specs.Session.{protocol}
+use Rattle.session_lines.specs.Stops.{NoneFailed, Causes}
+use Rattle.session_lines.specs.Serving.{Serves, line_phases}
+use Rattle.session_lines.specs.Reading.{how_read, IsAll, EndIs}
 
 -- how a connection ended
 abbrev pub end_of : Result InputEnd Stop → End
@@ -21,22 +26,37 @@ end_of (Ok Ended) = Closed
 end_of (Ok ReadFault) = Cut
 end_of (Ok Full) = Cut
 end_of (Err HistoryFull) = Refused
+end_of (Err WriteFault) = Unwritten
 end_of (Err _) = Lost
 
--- Behind some first turns the lines of an input were played.
-pub record Plays (first : List Turn) (who : ℕ) (old new : List Entry) (before now left rest : Option (List ℕ)) (result : Result InputEnd Stop) : Type 0 where
-  pub bytes : List ℕ
-  pub takes : Consumes left rest bytes
-  pub lines : List (List ℕ)
-  pub lines_are : LinesRead (end_of result) bytes lines
-  pub serves : Serves who old new before now (how_read result) (first ++ map (λ line. Line line) lines)
-  pub end_is : EndIs result left bytes
+-- whether a write failed
+abbrev pub is_unwritten : Result InputEnd Stop → Bool
+is_unwritten (Err WriteFault) = true
+is_unwritten _ = false
 
--- A connection was served: these bytes were read, these were sent, and the history is what serving them makes.
-pub record WasServed (who : ℕ) (history : List Entry) (before now left rest : Option (List ℕ)) (result : Result InputEnd Stop) : Type 0 where
+-- Behind some first phases the lines of an input were played.
+pub record Plays (first : List Phase) (gives : Gives) (old new : Seated) (before now : Outlet) (left rest : Inlet) (result : Result InputEnd Stop) : Type 0 where
   pub bytes : List ℕ
-  pub takes : Consumes left rest bytes
+  pub takes : Consumes left.left rest.left bytes
+  pub few : length bytes ≤ MAX_INPUT
+  pub lines : List (List ℕ)
+  pub lines_are : LinesRead (end_of result) (IsAll left bytes) bytes lines
+  pub serves : Serves gives old new before now (how_read result) (first ++ line_phases lines)
+  pub end_is : EndIs first serves.got result left bytes
+
+-- A connection was served: these bytes were read, no more than may be, these were sent, and the history is what serving
+-- the lines that were read makes, with no drawing that nobody asked for.
+pub record WasServed (gives : Gives) (who : ℕ) (history : List Entry) (before now : Outlet) (left rest : Inlet) (result : Result InputEnd Stop) : Type 0 where
+  pub bytes : List ℕ
+  pub takes : Consumes left.left rest.left bytes
+  pub few : length bytes ≤ MAX_INPUT
+  pub lines : List (List ℕ)
   pub out : List ℕ
-  pub sends : Appends before now out
-  pub served : IsServed protocol rules (end_of result) who history bytes out
-  pub end_is : EndIs result left bytes
+  pub sends : Appends before.told now.told out
+  pub served : IsServed protocol (rules gives) (end_of result) who history (turns_of lines) (IsAll left bytes) bytes out
+  pub end_is : EndIs (Opening ∷ []) (answers (rules gives) who history) result left bytes
+
+-- why a connection ended, behind the client's leaving: a full history has more entries than it may have by that leaving
+abbrev pub EndCauses : Result InputEnd Stop → Seated → Outlet → Outlet → Type 0
+EndCauses (Err HistoryFull) seat before now = (seat.limit < length seat.seen) × NoneFailed before now
+EndCauses result seat before now = Causes result seat before now

@@ -1,42 +1,53 @@
--- What stays over the playing of turns, and why playing stops.
-use Rattle.std.specs.Prelude.{◌≡◌, ℕ, ◌≤◌, true, List, length, ⊤, Some, Ok, Err}
-use Rattle.std.specs.declared.option.Option.{Option}
+-- What stays over the playing of phases, and why playing stops.
+use Rattle.std.specs.Prelude.{◌≡◌, ℕ, ◌≤◌, Bool, List, length, ⊤, Some, Ok, Err}
 use Rattle.std.specs.declared.result.Result.{Result}
-use Rattle.kak_ports.specs.Ports.{Rose}
-use Rattle.kak_world.specs.Flat.{is_joined}
-use Rattle.kak_engine.specs.declared.event.Entry.{Entry}
-use Rattle.kak_engine.specs.Steps.{run}
+use Rattle.kak_ports.specs.Ports.{Outlet, Rose}
+use Rattle.session_events.specs.declared.event.Entry.{Entry}
+use Rattle.session_events.specs.Seats.{Seated, IsSameSeat, IsIn, IsLegalSeat}
 use Rattle.session_lines.specs.declared.playing.Stop.{Stop}
 use Rattle.session_lines.specs.declared.playing.Stop.TheVariants.{HistoryFull, Broken, NoMemory, WriteFault}
 
--- a client is joined in the world that the entries seen lead to
-abbrev pub IsIn : ℕ → List Entry → Type 0
-IsIn who seen = is_joined who (run seen) ≡ true
+-- The client is joined, behind entries that are a history that there can be.
+pub record IsReady (is_in : List Entry → ℕ → Bool) (seat : Seated) : Type 0 where
+  pub joined : IsIn is_in seat
+  pub legal : IsLegalSeat seat
 
 -- The seat is that client's still, with the limit that it had, and the client is joined.
-pub record Stays (who bound who_now bound_now : ℕ) (seen : List Entry) : Type 0 where
-  pub number : who_now ≡ who
-  pub limit : bound_now ≡ bound
-  pub joined : IsIn who seen
+pub record Stays (is_in : List Entry → ℕ → Bool) (old new : Seated) : Type 0 where
+  pub same : IsSameSeat old new
+  pub ready : IsReady is_in new
 
--- why playing stops, where what a full history, a broken session and a failed write mean is handed in; of memory
--- nothing is said
-abbrev pub Stopped : Stop → Type 0 → (ℕ → Type 0) → Type 0 → Type 0
-Stopped HistoryFull full broken unwritten = full
-Stopped (Broken at) full broken unwritten = broken at
-Stopped NoMemory full broken unwritten = ⊤
-Stopped WriteFault full broken unwritten = unwritten
+-- the history has as many entries as it may have
+abbrev pub IsFull : Seated → Type 0
+IsFull seat = seat.limit ≤ length seat.seen
+
+-- no write failed
+abbrev pub NoneFailed : Outlet → Outlet → Type 0
+NoneFailed before now = now.faults ≡ before.faults
 
 -- why events are stopped: the history is full, the session is broken, or memory was wanting; nothing is written here
-abbrev pub Stops : {A : Type 0} → Result A Stop → ℕ → Option ℕ → List Entry → Type 0
-Stops (Ok _) limit mark seen = ⊤
-Stops (Err why) limit mark seen = Stopped why (limit ≤ length seen) (λ at. mark ≡ Some at) ⊥
+abbrev pub StopsFor : Stop → Seated → Type 0
+StopsFor HistoryFull seat = IsFull seat
+StopsFor (Broken at) seat = seat.mark ≡ Some at
+StopsFor NoMemory seat = ⊤
+StopsFor WriteFault seat = ⊥
 
--- why turns are stopped: as events are, or by a write that failed, which the sink counted
-abbrev pub Causes : {A : Type 0} → Result A Stop → ℕ → Option ℕ → List Entry → ℕ → ℕ → Type 0
-Causes (Ok _) limit mark seen before now = before ≤ now
-Causes (Err why) limit mark seen before now = Stopped why (limit ≤ length seen) (λ at. mark ≡ Some at) (Rose before now)
+abbrev pub Stops : {A : Type 0} → Result A Stop → Seated → Type 0
+Stops (Ok _) seat = ⊤
+Stops (Err why) seat = StopsFor why seat
 
--- why a leaving fails: the session is broken, or memory was wanting
-abbrev pub IsLoss : Stop → Option ℕ → Type 0
-IsLoss why mark = Stopped why ⊥ (λ at. mark ≡ Some at) ⊥
+-- why phases are stopped: as events are, and then no write failed; or by a write that did, which the sink counted
+abbrev pub CausedBy : Stop → Seated → Outlet → Outlet → Type 0
+CausedBy HistoryFull seat before now = IsFull seat × NoneFailed before now
+CausedBy (Broken at) seat before now = (seat.mark ≡ Some at) × NoneFailed before now
+CausedBy NoMemory seat before now = NoneFailed before now
+CausedBy WriteFault seat before now = Rose before.faults now.faults
+
+abbrev pub Causes : {A : Type 0} → Result A Stop → Seated → Outlet → Outlet → Type 0
+Causes (Ok _) seat before now = NoneFailed before now
+Causes (Err why) seat before now = CausedBy why seat before now
+
+-- why a leaving fails: the session is broken
+abbrev pub IsLoss : Stop → Seated → Type 0
+IsLoss (Broken at) seat = seat.mark ≡ Some at
+IsLoss _ seat = ⊥

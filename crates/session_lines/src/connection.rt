@@ -1,21 +1,22 @@
 //! A connection, from its first drawing to its leaving.
 
-ghost use Rattle.std.specs.Prelude.{◌≡◌, ◌∷◌, [], map};
-ghost use Rattle.kak_engine.specs.declared.event.Event.TheVariants.{Join};
+ghost use Rattle.std.specs.Prelude.{◌≡◌, ◌∷◌, []};
 ghost use Rattle.session_turns.specs.Histories.{own};
 ghost use Rattle.session_turns.specs.Lines.{as_line};
-ghost use Rattle.session_turns.specs.Turns.{Line, Opens};
-ghost use Rattle.session_lines.specs.Connections.{Plays, WasServed};
+ghost use Rattle.session_turns.specs.Turns.{Opening};
+ghost use Rattle.session_events.specs.declared.event.Event.TheVariants.{Join};
+ghost use Rattle.session_events.specs.Meaning.{rules};
+ghost use Rattle.session_events.specs.Seats.{IsSameSeat, IsLegalSeat};
+ghost use Rattle.session_lines.specs.Connections.{Plays, WasServed, EndCauses, is_unwritten};
 ghost use Rattle.session_lines.specs.Reading.{FaultIs};
-ghost use Rattle.session_lines.specs.Serving.{Serves, how_of};
-ghost use Rattle.session_lines.specs.Session.{rules};
-ghost use Rattle.session_lines.specs.Stops.{IsIn, Stays, Causes};
+ghost use Rattle.session_lines.specs.Serving.{Serves, how_of, line_phases, unseen};
+ghost use Rattle.session_lines.specs.Stops.{IsReady, Stays, Causes};
 
 use crate::playing::{Stop, leave};
 use crate::reading::{InputEnd, play_source};
-use crate::seat::Seat;
 use crate::turns::{open, play_line};
 use kak_ports::{Sink, Source};
+use session_events::Seat;
 use std::alloc::Global;
 
 // Plays what has come of a last line, if anything has.
@@ -26,10 +27,10 @@ fn play_last<S: Seat, K: Sink>(
     out: &mut Vec<u8>,
     part: &[u8],
 ) -> Result<bool, Stop>
-    requires { IsIn (S.number seat.old) (S.seen seat.old) }
-    ensures stays { Stays (S.number seat.old) (S.limit seat.old) (S.number seat.new) (S.limit seat.new) (S.seen seat.new) }
-    ensures serves { Serves (S.number seat.old) (S.seen seat.old) (S.seen seat.new) (K.told sink.old) (K.told sink.new) (how_of result) (map (λ line. Line line) (as_line part.now)) }
-    ensures cause { Causes result (S.limit seat.old) (S.mark seat.new) (S.seen seat.new) (K.faults sink.old) (K.faults sink.new) }
+    requires { IsReady S.is_in (S.seated seat.old) }
+    ensures stays { Stays S.is_in (S.seated seat.old) (S.seated seat.new) }
+    ensures serves { Serves S.gives (S.seated seat.old) (S.seated seat.new) (K.outlet sink.old) (K.outlet sink.new) (how_of result) (line_phases (as_line part.now)) }
+    ensures cause { Causes result (S.seated seat.new) (K.outlet sink.old) (K.outlet sink.new) }
 {
     if part.is_empty() {
         return Ok(false);
@@ -45,11 +46,11 @@ fn play_input<S: Seat, I: Source, K: Sink>(
     sink: &mut K,
     out: &mut Vec<u8>,
 ) -> Result<InputEnd, Stop>
-    requires { IsIn (S.number seat.old) (S.seen seat.old) }
-    ensures stays { Stays (S.number seat.old) (S.limit seat.old) (S.number seat.new) (S.limit seat.new) (S.seen seat.new) }
-    ensures plays { Plays [] (S.number seat.old) (S.seen seat.old) (S.seen seat.new) (K.told sink.old) (K.told sink.new) (I.left source.old) (I.left source.new) result }
-    ensures fault { FaultIs result (I.faults source.old) (I.faults source.new) }
-    ensures cause { Causes result (S.limit seat.old) (S.mark seat.new) (S.seen seat.new) (K.faults sink.old) (K.faults sink.new) }
+    requires { IsReady S.is_in (S.seated seat.old) }
+    ensures stays { Stays S.is_in (S.seated seat.old) (S.seated seat.new) }
+    ensures plays { Plays [] S.gives (S.seated seat.old) (S.seated seat.new) (K.outlet sink.old) (K.outlet sink.new) (I.inlet source.old) (I.inlet source.new) result }
+    ensures fault { FaultIs result (I.inlet source.old) (I.inlet source.new) }
+    ensures cause { Causes result (S.seated seat.new) (K.outlet sink.old) (K.outlet sink.new) }
 {
     let mut part = Vec::new(alloc);
     match play_source(alloc, seat, source, sink, out, &mut part)? {
@@ -63,41 +64,53 @@ fn play_input<S: Seat, I: Source, K: Sink>(
     }
 }
 
-// Opens a connection and plays its input.
-fn play_connection<S: Seat, I: Source, K: Sink>(
+/// Plays a connection whose client has joined and done nothing else: it is drawn, and its input is read and played line
+/// by line, a last part without a newline too. It doesn't leave yet.
+pub fn play_connection<S: Seat, I: Source, K: Sink>(
     alloc: Global,
     seat: &mut S,
     source: &mut I,
     sink: &mut K,
 ) -> Result<InputEnd, Stop>
-    requires joined { IsIn (S.number seat.old) (S.seen seat.old) }
-    requires new { own rules (S.number seat.old) (S.seen seat.old) ≡ Join ∷ [] }
-    ensures stays { Stays (S.number seat.old) (S.limit seat.old) (S.number seat.new) (S.limit seat.new) (S.seen seat.new) }
-    ensures plays { Plays (Opens ∷ []) (S.number seat.old) [] (S.seen seat.new) (K.told sink.old) (K.told sink.new) (I.left source.old) (I.left source.new) result }
-    ensures fault { FaultIs result (I.faults source.old) (I.faults source.new) }
-    ensures cause { Causes result (S.limit seat.old) (S.mark seat.new) (S.seen seat.new) (K.faults sink.old) (K.faults sink.new) }
+    requires ready { IsReady S.is_in (S.seated seat.old) }
+    requires new { own (rules S.gives) (S.seated seat.old).number (S.seated seat.old).seen ≡ Join ∷ [] }
+    ensures stays { Stays S.is_in (S.seated seat.old) (S.seated seat.new) }
+    ensures plays { Plays (Opening ∷ []) S.gives (unseen (S.seated seat.old)) (S.seated seat.new) (K.outlet sink.old) (K.outlet sink.new) (I.inlet source.old) (I.inlet source.new) result }
+    ensures fault { FaultIs result (I.inlet source.old) (I.inlet source.new) }
+    ensures cause { Causes result (S.seated seat.new) (K.outlet sink.old) (K.outlet sink.new) }
 {
     let mut out = Vec::new(alloc);
     open(alloc, seat, sink, &mut out)?;
     play_input(alloc, seat, source, sink, &mut out)
 }
 
-/// Serves a connection whose client has joined and done nothing else: it is drawn, its input is read and played line
-/// by line, a last part without a newline too, and it leaves. Where leaving fails, that is told, whatever came before.
+// Whether a write failed.
+fn is_unwritten(played: Result<InputEnd, Stop>) -> bool
+    ensures { result ≡ is_unwritten played }
+{
+    matches!(played, Err(Stop::WriteFault))
+}
+
+/// Serves a connection whose client has joined and done nothing else: what it plays is played, and then it leaves. Where
+/// a write failed, nothing more is played, not even its leaving; where leaving fails, that is told, whatever came before.
 pub fn serve<S: Seat, I: Source, K: Sink>(
     alloc: Global,
     seat: &mut S,
     source: &mut I,
     sink: &mut K,
 ) -> Result<InputEnd, Stop>
-    requires joined { IsIn (S.number seat.old) (S.seen seat.old) }
-    requires new { own rules (S.number seat.old) (S.seen seat.old) ≡ Join ∷ [] }
-    ensures number { S.number seat.new ≡ S.number seat.old }
-    ensures served { WasServed (S.number seat.old) (S.seen seat.new) (K.told sink.old) (K.told sink.new) (I.left source.old) (I.left source.new) result }
-    ensures fault { FaultIs result (I.faults source.old) (I.faults source.new) }
-    ensures cause { Causes result (S.limit seat.old) (S.mark seat.new) (S.seen seat.new) (K.faults sink.old) (K.faults sink.new) }
+    requires ready { IsReady S.is_in (S.seated seat.old) }
+    requires new { own (rules S.gives) (S.seated seat.old).number (S.seated seat.old).seen ≡ Join ∷ [] }
+    ensures same { IsSameSeat (S.seated seat.old) (S.seated seat.new) }
+    ensures legal { IsLegalSeat (S.seated seat.new) }
+    ensures served { WasServed S.gives (S.seated seat.old).number (S.seated seat.new).seen (K.outlet sink.old) (K.outlet sink.new) (I.inlet source.old) (I.inlet source.new) result }
+    ensures fault { FaultIs result (I.inlet source.old) (I.inlet source.new) }
+    ensures cause { EndCauses result (S.seated seat.new) (K.outlet sink.old) (K.outlet sink.new) }
 {
     let played = play_connection(alloc, seat, source, sink);
+    if is_unwritten(played) {
+        return played;
+    }
     leave(alloc, seat)?;
     played
 }

@@ -1,19 +1,16 @@
-//! A connection's lines: cut from its bytes, played as events over a seat, and answered over a sink.
+//! A connection's lines: cut from its bytes, played as events over a seat, and answered over a sink. What an entry of
+//! the history means is the seat's: nothing here knows the editor.
 #![tactic(auto)]
 
 pub mod connection;
+pub mod limits;
 pub mod lines;
 pub mod playing;
 pub mod reading;
-pub mod seat;
 pub mod turns;
 
-pub use connection::serve;
+pub use connection::{play_connection, serve};
 pub use lines::play_bytes;
 pub use playing::{Stop, leave};
-pub use reading::{InputEnd, MAX_INPUT, play_source};
-pub use seat::{LoneSeat, Seat};
+pub use reading::{InputEnd, MAX_INPUT, MAX_PIECE, play_source};
 pub use turns::{open, play_line};
-
-#[cfg(test)]
-mod tests;

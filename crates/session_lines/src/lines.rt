@@ -1,15 +1,14 @@
 //! Lines, cut from a connection's bytes and played one after another.
 
-ghost use Rattle.std.specs.Prelude.{◌≡◌, ◌++◌, ◌∷◌, [], map, OnOk};
+ghost use Rattle.std.specs.Prelude.{◌≡◌, ◌++◌, ◌∷◌, [], OnOk};
 ghost use Rattle.session_turns.specs.Lines.{whole_lines, last_part};
-ghost use Rattle.session_turns.specs.Turns.{Line};
-ghost use Rattle.session_lines.specs.Serving.{Serves, how_of, KeepsPart};
-ghost use Rattle.session_lines.specs.Stops.{IsIn, Stays, Causes};
+ghost use Rattle.session_lines.specs.Serving.{Serves, how_of, line_phases, KeepsPart};
+ghost use Rattle.session_lines.specs.Stops.{IsReady, Stays, Causes};
 
 use crate::playing::Stop;
-use crate::seat::Seat;
 use crate::turns::play_line;
 use kak_ports::Sink;
+use session_events::Seat;
 use std::alloc::{AllocError, Global};
 
 // Adds a byte at the end.
@@ -30,11 +29,11 @@ pub fn play_bytes<S: Seat, K: Sink>(
     part: &mut Vec<u8>,
     bytes: &[u8],
 ) -> Result<bool, Stop>
-    requires { IsIn (S.number seat.old) (S.seen seat.old) }
-    ensures stays { Stays (S.number seat.old) (S.limit seat.old) (S.number seat.new) (S.limit seat.new) (S.seen seat.new) }
-    ensures serves { Serves (S.number seat.old) (S.seen seat.old) (S.seen seat.new) (K.told sink.old) (K.told sink.new) (how_of result) (map (λ line. Line line) (whole_lines part.old.items bytes.now)) }
+    requires { IsReady S.is_in (S.seated seat.old) }
+    ensures stays { Stays S.is_in (S.seated seat.old) (S.seated seat.new) }
+    ensures serves { Serves S.gives (S.seated seat.old) (S.seated seat.new) (K.outlet sink.old) (K.outlet sink.new) (how_of result) (line_phases (whole_lines part.old.items bytes.now)) }
     ensures part { KeepsPart result part.new.items (last_part part.old.items bytes.now) }
-    ensures cause { Causes result (S.limit seat.old) (S.mark seat.new) (S.seen seat.new) (K.faults sink.old) (K.faults sink.new) }
+    ensures cause { Causes result (S.seated seat.new) (K.outlet sink.old) (K.outlet sink.new) }
 {
     for &byte in bytes {
         if byte != b'\n' {

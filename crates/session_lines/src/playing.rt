@@ -1,16 +1,17 @@
 //! Events of a client that is joined, played over a seat.
 
 ghost use Rattle.std.specs.Prelude.{◌≡◌, ◌++◌, ◌∷◌, [], true, false, Some, IfOk, IfErr, IfSome, OnOk, OnErr};
-ghost use Rattle.kak_engine.specs.declared.event.Event.TheVariants.{Key as Struck};
-ghost use Rattle.kak_engine.specs.Held.{is_join, is_leave};
-ghost use Rattle.session_lines.specs.Session.{Steps, Sees, drawn_bytes, keys_played};
+ghost use Rattle.session_events.specs.declared.event.Event.TheVariants.{Key as Struck};
+ghost use Rattle.session_events.specs.Entries.{is_join, is_leave};
+ghost use Rattle.session_events.specs.Meaning.{IsMeaning, drawn_bytes};
+ghost use Rattle.session_events.specs.Seats.{IsIn, IsSameSeat, IsLegalSeat, Steps, Sees};
+ghost use Rattle.session_lines.specs.Session.{keys_played};
 ghost use Rattle.session_lines.specs.Serving.{Takes, TakesDrawing, Leaves};
-ghost use Rattle.session_lines.specs.Stops.{IsIn, Stays, Stops, IsLoss};
+ghost use Rattle.session_lines.specs.Stops.{IsReady, Stays, Stops, IsLoss};
 
-use crate::seat::Seat;
 use json_ui::{Drawing, encode_drawing};
-use kak_engine::{Event, Output, StepFault};
 use key_names::Key;
+use session_events::{Event, Output, Seat, StepFault};
 use std::alloc::{AllocError, Global};
 
 /// Why playing stopped before its end.
@@ -38,16 +39,17 @@ impl From<AllocError> for Stop {
 
 // Takes an event of a client that is joined: a full history alone refuses it, and leaving is never refused.
 fn take<S: Seat>(alloc: Global, seat: &mut S, event: Event) -> Result<Output, Stop>
-    requires joined { IsIn (S.number seat.old) (S.seen seat.old) }
+    requires joined { IsIn S.is_in (S.seated seat.old) }
     requires joins_no_more { is_join event ≡ false }
-    ensures number { S.number seat.new ≡ S.number seat.old }
-    ensures limit { S.limit seat.new ≡ S.limit seat.old }
-    ensures joined { is_leave event ≡ false → IsIn (S.number seat.old) (S.seen seat.new) }
-    ensures ok { IfOk result (λ output. Steps (S.number seat.old) (S.seen seat.old) (S.seen seat.new) event output) }
-    ensures err { OnErr result (Sees (S.number seat.old) (S.seen seat.old) (S.seen seat.new)) }
-    ensures stops { is_leave event ≡ false → Stops result (S.limit seat.old) (S.mark seat.new) (S.seen seat.new) }
-    ensures leaves { is_leave event ≡ true → IfErr result (λ stop. IsLoss stop (S.mark seat.new)) }
-    ensures marked { IfSome (S.mark seat.old) (λ at. S.mark seat.new ≡ Some at) }
+    ensures meaning { IsMeaning S.gives }
+    ensures same { IsSameSeat (S.seated seat.old) (S.seated seat.new) }
+    ensures legal { IsLegalSeat (S.seated seat.new) }
+    ensures joined { is_leave event ≡ false → IsIn S.is_in (S.seated seat.new) }
+    ensures ok { IfOk result (λ output. Steps S.gives (S.seated seat.old) (S.seated seat.new) event output) }
+    ensures err { OnErr result (Sees S.gives (S.seated seat.old) (S.seated seat.new)) }
+    ensures stops { is_leave event ≡ false → Stops result (S.seated seat.new) }
+    ensures leaves { is_leave event ≡ true → IfErr result (λ stop. IsLoss stop (S.seated seat.new)) }
+    ensures marked { IfSome (S.seated seat.old).mark (λ at. (S.seated seat.new).mark ≡ Some at) }
 {
     match seat.step(alloc, event) {
         Ok(output) => Ok(output),
@@ -72,10 +74,10 @@ fn add_drawing(drawing: &Option<Drawing>, out: &mut Vec<u8>) -> Result<(), Alloc
 
 // Strikes a key, which gives no drawing. Tells whether the client may leave by it.
 fn strike<S: Seat>(alloc: Global, seat: &mut S, key: Key) -> Result<bool, Stop>
-    requires { IsIn (S.number seat.old) (S.seen seat.old) }
-    ensures stays { Stays (S.number seat.old) (S.limit seat.old) (S.number seat.new) (S.limit seat.new) (S.seen seat.new) }
-    ensures takes { Takes (S.number seat.old) (S.seen seat.old) (S.seen seat.new) (Struck key ∷ []) [] [] result }
-    ensures stops { Stops result (S.limit seat.old) (S.mark seat.new) (S.seen seat.new) }
+    requires { IsReady S.is_in (S.seated seat.old) }
+    ensures stays { Stays S.is_in (S.seated seat.old) (S.seated seat.new) }
+    ensures takes { Takes S.gives (S.seated seat.old) (S.seated seat.new) (Struck key ∷ []) [] [] result }
+    ensures stops { Stops result (S.seated seat.new) }
 {
     let output = take(alloc, seat, Event::Key(key))?;
     Ok(output.leaving)
@@ -83,10 +85,11 @@ fn strike<S: Seat>(alloc: Global, seat: &mut S, key: Key) -> Result<bool, Stop>
 
 /// Draws the client; the bytes of the drawing are added.
 pub fn play_drawing<S: Seat>(alloc: Global, seat: &mut S, out: &mut Vec<u8>) -> Result<(), Stop>
-    requires { IsIn (S.number seat.old) (S.seen seat.old) }
-    ensures stays { Stays (S.number seat.old) (S.limit seat.old) (S.number seat.new) (S.limit seat.new) (S.seen seat.new) }
-    ensures takes { TakesDrawing (S.number seat.old) (S.seen seat.old) (S.seen seat.new) out.old.items out.new.items result }
-    ensures stops { Stops result (S.limit seat.old) (S.mark seat.new) (S.seen seat.new) }
+    requires { IsReady S.is_in (S.seated seat.old) }
+    ensures meaning { IsMeaning S.gives }
+    ensures stays { Stays S.is_in (S.seated seat.old) (S.seated seat.new) }
+    ensures takes { TakesDrawing S.gives (S.seated seat.old) (S.seated seat.new) out.old.items out.new.items result }
+    ensures stops { Stops result (S.seated seat.new) }
 {
     let output = take(alloc, seat, Event::Refresh(true))?;
     add_drawing(&output.drawing, out)?;
@@ -100,10 +103,10 @@ pub fn play_keys<S: Seat>(
     keys: &[Key],
     out: &mut Vec<u8>,
 ) -> Result<bool, Stop>
-    requires { IsIn (S.number seat.old) (S.seen seat.old) }
-    ensures stays { Stays (S.number seat.old) (S.limit seat.old) (S.number seat.new) (S.limit seat.new) (S.seen seat.new) }
-    ensures takes { Takes (S.number seat.old) (S.seen seat.old) (S.seen seat.new) (keys_played keys.now) out.old.items out.new.items result }
-    ensures stops { Stops result (S.limit seat.old) (S.mark seat.new) (S.seen seat.new) }
+    requires { IsReady S.is_in (S.seated seat.old) }
+    ensures stays { Stays S.is_in (S.seated seat.old) (S.seated seat.new) }
+    ensures takes { Takes S.gives (S.seated seat.old) (S.seated seat.new) (keys_played keys.now) out.old.items out.new.items result }
+    ensures stops { Stops result (S.seated seat.new) }
 {
     let mut leaving = false;
     for &key in keys {
@@ -115,10 +118,11 @@ pub fn play_keys<S: Seat>(
 
 /// Lets the client go.
 pub fn leave<S: Seat>(alloc: Global, seat: &mut S) -> Result<(), Stop>
-    requires { IsIn (S.number seat.old) (S.seen seat.old) }
-    ensures number { S.number seat.new ≡ S.number seat.old }
-    ensures leaves { Leaves (S.number seat.old) (S.seen seat.old) (S.seen seat.new) (S.mark seat.new) result }
-    ensures marked { IfSome (S.mark seat.old) (λ at. S.mark seat.new ≡ Some at) }
+    requires { IsReady S.is_in (S.seated seat.old) }
+    ensures same { IsSameSeat (S.seated seat.old) (S.seated seat.new) }
+    ensures legal { IsLegalSeat (S.seated seat.new) }
+    ensures leaves { Leaves S.gives (S.seated seat.old) (S.seated seat.new) result }
+    ensures marked { IfSome (S.seated seat.old).mark (λ at. (S.seated seat.new).mark ≡ Some at) }
 {
     match take(alloc, seat, Event::Leave) {
         Ok(_output) => Ok(()),

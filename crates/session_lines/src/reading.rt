@@ -1,18 +1,21 @@
 //! A connection's input, read to its end and played as it comes.
 
 ghost use Rattle.std.specs.Prelude.{◌≡◌, ◌<◌, ◌≤◌, [], length, take};
-ghost use Rattle.session_lines.specs.Reading.{Reads, FaultIs};
-ghost use Rattle.session_lines.specs.Stops.{IsIn, Stays, Causes};
 ghost use Rattle.kak_ports.specs.Ports.{Takes, TakeIsCounted};
+ghost use Rattle.session_lines.specs.Reading.{Reads, FaultIs};
+ghost use Rattle.session_lines.specs.Stops.{IsReady, Stays, Causes};
 
 use crate::lines::play_bytes;
 use crate::playing::Stop;
-use crate::seat::Seat;
 use kak_ports::{Sink, Source, Took};
+use session_events::Seat;
 use std::alloc::Global;
 
 /// How many bytes of input are taken at most: 2^30.
 pub const MAX_INPUT: u64 = 1_073_741_824;
+
+/// How many bytes of input are taken at once at most: 4,096.
+pub const MAX_PIECE: u64 = 4_096;
 
 /// How the reading of an input ended.
 #[derive(Clone, Copy, PartialEq, Eq, Debug)]
@@ -31,8 +34,9 @@ pub enum InputEnd {
 fn take_front<I: Source>(source: &mut I, piece: &mut [u8], room: usize) -> Took
     requires some { 0 < room }
     requires inside { room ≤ length piece.old }
-    ensures takes { Takes result (I.left source.old) (I.left source.new) (take room piece.new) }
-    ensures counted { TakeIsCounted result (I.faults source.old) (I.faults source.new) }
+    ensures takes { Takes result (I.inlet source.old) (I.inlet source.new) (take room piece.new) }
+    ensures counted { TakeIsCounted result (I.inlet source.old) (I.inlet source.new) }
+    ensures most { (I.inlet source.new).most ≡ (I.inlet source.old).most }
     ensures size { length piece.new ≡ length piece.old }
 {
     source.take(&mut piece[..room])
@@ -48,17 +52,17 @@ pub fn play_source<S: Seat, I: Source, K: Sink>(
     out: &mut Vec<u8>,
     part: &mut Vec<u8>,
 ) -> Result<InputEnd, Stop>
-    requires joined { IsIn (S.number seat.old) (S.seen seat.old) }
+    requires ready { IsReady S.is_in (S.seated seat.old) }
     requires part { part.old.items ≡ [] }
-    ensures stays { Stays (S.number seat.old) (S.limit seat.old) (S.number seat.new) (S.limit seat.new) (S.seen seat.new) }
-    ensures reads { Reads (S.number seat.old) (S.seen seat.old) (S.seen seat.new) (K.told sink.old) (K.told sink.new) (I.left source.old) (I.left source.new) result part.new.items }
-    ensures fault { FaultIs result (I.faults source.old) (I.faults source.new) }
-    ensures cause { Causes result (S.limit seat.old) (S.mark seat.new) (S.seen seat.new) (K.faults sink.old) (K.faults sink.new) }
+    ensures stays { Stays S.is_in (S.seated seat.old) (S.seated seat.new) }
+    ensures reads { Reads S.gives (S.seated seat.old) (S.seated seat.new) (K.outlet sink.old) (K.outlet sink.new) (I.inlet source.old) (I.inlet source.new) result part.new.items }
+    ensures fault { FaultIs result (I.inlet source.old) (I.inlet source.new) }
+    ensures cause { Causes result (S.seated seat.new) (K.outlet sink.old) (K.outlet sink.new) }
 {
     let mut piece = [0; 4096];
     let mut taken: u64 = 0;
     while taken < MAX_INPUT {
-        let room = (MAX_INPUT - taken).min(4096) as usize;
+        let room = (MAX_INPUT - taken).min(MAX_PIECE) as usize;
         match take_front(source, &mut piece, room) {
             Took::Got(count) => {
                 taken += count as u64;

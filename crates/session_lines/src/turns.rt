@@ -1,26 +1,27 @@
-//! The turns of a connection: what it plays is played, and what that gives is sent at the end of the turn.
+//! The phases of a connection: what it plays is played, and what that gives is sent at the end of the phase.
 
 ghost use Rattle.std.specs.Prelude.{◌≡◌, ◌∷◌, [], Err};
 ghost use Rattle.json_ui.specs.Requests.{read_request};
 ghost use Rattle.session_turns.specs.Histories.{own};
-ghost use Rattle.session_turns.specs.Turns.{Line, Opens};
-ghost use Rattle.kak_engine.specs.declared.event.Event.TheVariants.{Join};
-ghost use Rattle.session_lines.specs.Session.{rules, keys_played, played_by, refused_by};
-ghost use Rattle.session_lines.specs.Serving.{Serves, how_of, how_opened};
+ghost use Rattle.session_turns.specs.Turns.{Opening};
+ghost use Rattle.session_events.specs.declared.event.Event.TheVariants.{Join};
+ghost use Rattle.session_events.specs.Meaning.{rules};
+ghost use Rattle.session_lines.specs.Session.{keys_played, played_by, refused_by};
+ghost use Rattle.session_lines.specs.Serving.{Serves, how_of, how_opened, line_phases, unseen};
 ghost use Rattle.session_lines.specs.Sending.{Sends, Counts};
-ghost use Rattle.session_lines.specs.Stops.{IsIn, Stays, Causes};
+ghost use Rattle.session_lines.specs.Stops.{IsReady, Stays, Causes};
 
 use crate::playing::{Stop, play_drawing, play_keys};
-use crate::seat::Seat;
 use json_ui::{LineError, Refusal, Request, decode_line, encode_refusal};
 use kak_ports::{Put, Sink};
 use key_names::Key;
+use session_events::Seat;
 use std::alloc::Global;
 
 // Sends bytes.
 fn send<K: Sink>(sink: &mut K, bytes: &[u8]) -> Result<(), Stop>
-    ensures sends { Sends result (K.told sink.old) (K.told sink.new) bytes.now }
-    ensures counted { Counts result (K.faults sink.old) (K.faults sink.new) }
+    ensures sends { Sends result (K.outlet sink.old) (K.outlet sink.new) bytes.now }
+    ensures counted { Counts result (K.outlet sink.old) (K.outlet sink.new) }
 {
     match sink.put(bytes) {
         Put::Done => Ok(()),
@@ -37,8 +38,8 @@ fn refuse_line<S: Seat, K: Sink>(
     refusal: Refusal,
 ) -> Result<bool, Stop>
     requires refused { read_request line.now ≡ Err refusal }
-    ensures serves { Serves (S.number seat.now) (S.seen seat.now) (S.seen seat.now) (K.told sink.old) (K.told sink.new) (how_of result) (Line line.now ∷ []) }
-    ensures cause { Causes result (S.limit seat.now) (S.mark seat.now) (S.seen seat.now) (K.faults sink.old) (K.faults sink.new) }
+    ensures serves { Serves S.gives (S.seated seat.now) (S.seated seat.now) (K.outlet sink.old) (K.outlet sink.new) (how_of result) (line_phases (line.now ∷ [])) }
+    ensures cause { Causes result (S.seated seat.now) (K.outlet sink.old) (K.outlet sink.new) }
 {
     out.clear();
     encode_refusal(refusal, out)?;
@@ -55,12 +56,12 @@ fn play_keys_line<S: Seat, K: Sink>(
     line: &[u8],
     keys: &[Key],
 ) -> Result<bool, Stop>
-    requires joined { IsIn (S.number seat.old) (S.seen seat.old) }
+    requires ready { IsReady S.is_in (S.seated seat.old) }
     requires asked { played_by (read_request line.now) ≡ keys_played keys.now }
     requires accepted { refused_by (read_request line.now) ≡ [] }
-    ensures stays { Stays (S.number seat.old) (S.limit seat.old) (S.number seat.new) (S.limit seat.new) (S.seen seat.new) }
-    ensures serves { Serves (S.number seat.old) (S.seen seat.old) (S.seen seat.new) (K.told sink.old) (K.told sink.new) (how_of result) (Line line.now ∷ []) }
-    ensures cause { Causes result (S.limit seat.old) (S.mark seat.new) (S.seen seat.new) (K.faults sink.old) (K.faults sink.new) }
+    ensures stays { Stays S.is_in (S.seated seat.old) (S.seated seat.new) }
+    ensures serves { Serves S.gives (S.seated seat.old) (S.seated seat.new) (K.outlet sink.old) (K.outlet sink.new) (how_of result) (line_phases (line.now ∷ [])) }
+    ensures cause { Causes result (S.seated seat.new) (K.outlet sink.old) (K.outlet sink.new) }
 {
     out.clear();
     let leaving = play_keys(alloc, seat, keys, out)?;
@@ -76,10 +77,10 @@ pub fn play_line<S: Seat, K: Sink>(
     out: &mut Vec<u8>,
     line: &[u8],
 ) -> Result<bool, Stop>
-    requires { IsIn (S.number seat.old) (S.seen seat.old) }
-    ensures stays { Stays (S.number seat.old) (S.limit seat.old) (S.number seat.new) (S.limit seat.new) (S.seen seat.new) }
-    ensures serves { Serves (S.number seat.old) (S.seen seat.old) (S.seen seat.new) (K.told sink.old) (K.told sink.new) (how_of result) (Line line.now ∷ []) }
-    ensures cause { Causes result (S.limit seat.old) (S.mark seat.new) (S.seen seat.new) (K.faults sink.old) (K.faults sink.new) }
+    requires { IsReady S.is_in (S.seated seat.old) }
+    ensures stays { Stays S.is_in (S.seated seat.old) (S.seated seat.new) }
+    ensures serves { Serves S.gives (S.seated seat.old) (S.seated seat.new) (K.outlet sink.old) (K.outlet sink.new) (how_of result) (line_phases (line.now ∷ [])) }
+    ensures cause { Causes result (S.seated seat.new) (K.outlet sink.old) (K.outlet sink.new) }
 {
     match decode_line(alloc, line) {
         Ok(Request::Nothing) => Ok(false),
@@ -96,11 +97,11 @@ pub fn open<S: Seat, K: Sink>(
     sink: &mut K,
     out: &mut Vec<u8>,
 ) -> Result<(), Stop>
-    requires joined { IsIn (S.number seat.old) (S.seen seat.old) }
-    requires new { own rules (S.number seat.old) (S.seen seat.old) ≡ Join ∷ [] }
-    ensures stays { Stays (S.number seat.old) (S.limit seat.old) (S.number seat.new) (S.limit seat.new) (S.seen seat.new) }
-    ensures serves { Serves (S.number seat.old) [] (S.seen seat.new) (K.told sink.old) (K.told sink.new) (how_opened result) (Opens ∷ []) }
-    ensures cause { Causes result (S.limit seat.old) (S.mark seat.new) (S.seen seat.new) (K.faults sink.old) (K.faults sink.new) }
+    requires ready { IsReady S.is_in (S.seated seat.old) }
+    requires new { own (rules S.gives) (S.seated seat.old).number (S.seated seat.old).seen ≡ Join ∷ [] }
+    ensures stays { Stays S.is_in (S.seated seat.old) (S.seated seat.new) }
+    ensures serves { Serves S.gives (unseen (S.seated seat.old)) (S.seated seat.new) (K.outlet sink.old) (K.outlet sink.new) (how_opened result) (Opening ∷ []) }
+    ensures cause { Causes result (S.seated seat.new) (K.outlet sink.old) (K.outlet sink.new) }
 {
     out.clear();
     play_drawing(alloc, seat, out)?;

@@ -19,9 +19,15 @@ pub record Said : Type 0 where
   pub who : ℕ
   pub what : Act
 
-abbrev pub sum_after : Act → ℕ → ℕ
-sum_after (Add n) sum = sum + n
-sum_after _ sum = sum
+-- what an act adds
+abbrev pub added : Act → ℕ
+added (Add n) = n
+added _ = 0
+
+-- the sum that some entries lead to
+abbrev pub sum_of : List Said → ℕ
+sum_of [] = 0
+sum_of (said ∷ before) = added said.what + sum_of before
 
 -- Show and Unasked send the sum; leaving is granted where the sum is above 9
 abbrev pub answer_to : Act → ℕ → List (Answer Act)
@@ -31,8 +37,8 @@ answer_to Unasked sum = record { event = Unasked; bytes = sum ∷ []; leaving = 
 answer_to Ask sum = record { event = Ask; bytes = []; leaving = nat_lt 9 sum } ∷ []
 answer_to act sum = record { event = act; bytes = []; leaving = false } ∷ []
 
-abbrev pub sums : Rules Said Act ℕ
-sums = record { maker = λ said. said.who; event = λ said. said.what; opening = 0; after = λ said sum. sum_after said.what sum; answer = λ said sum. answer_to said.what sum }
+abbrev pub sums : Rules Said Act
+sums = record { maker = λ said. said.who; event = λ said. said.what; answer = λ before said. answer_to said.what (sum_of before) }
 
 -- each byte of a line adds its number and 33 asks to leave; a line that begins with 63 is refused
 abbrev pub act_of : ℕ → Act

@@ -1,6 +1,6 @@
 use Rattle.std.proofs.Common.{true, refl}
 use Rattle.std.proofs.lemmas.Result.{err_from_is_err_and}
-use Rattle.kak_engine.specs.declared.event.Event.TheVariants.{Refresh}
+use Rattle.session_events.specs.declared.event.Event.TheVariants.{Refresh}
 use Rattle.session_lines.proofs.TakingLemmas.{one-refused, one-lost, drawing-taken}
 use Rattle.session_lines.proofs.playing.play_drawing.Goals as goal
 
@@ -15,4 +15,4 @@ returns-in_err-add_drawing-clause-takes g c =
     rw (p.1, p.2) (one-lost _ _ _ (Refresh true) c.in_ok-output.output refl c.in_ok-output.ensures.ok)
 
 pub returns-clause-takes : goal.returns-clause-takes
-returns-clause-takes g c = drawing-taken _ _ _ c.in_ok-output.output c.args.out.now.items c.add_drawing.new.out.items c.in_ok-output.ensures.ok c.in_ok-add_drawing.ensures
+returns-clause-takes g c = drawing-taken _ _ _ c.in_ok-output.output c.args.out.now.items c.add_drawing.new.out.items c.in_ok-output.ensures.meaning c.in_ok-output.ensures.ok c.in_ok-add_drawing.ensures

@@ -1,45 +1,26 @@
 use Rattle.std.proofs.lemmas.Result.{err_from_is_err_and}
-use Rattle.session_lines.proofs.StayingLemmas.{stays-still, stays-then, stopped-behind}
+use Rattle.session_lines.proofs.StayingLemmas.{stays-still, stays-then}
 use Rattle.session_lines.proofs.TakingLemmas.{none-taken, struck-more, keys-cut, draw-cut, keys-taken}
 use Rattle.session_lines.proofs.playing.play_keys.Goals as goal
 
 pub loop-key-init : goal.loop-key-init
-loop-key-init g c = record { stays = stays-still _ _ _ c.requires; so_far = none-taken _ _ _ }
+loop-key-init g c = record { stays = stays-still _ c.requires; so_far = none-taken _ _ _ }
 
 pub loop-key-preserved : goal.loop-key-preserved
 loop-key-preserved g c = record {
-  stays = stays-then _ _ _ _ _ _ _ _ c.loop-key.invariant.stays c.strike.ensures.stays;
-  so_far = struck-more _ _ _ _ _ c.args.keys.now c.loop-key.key-index _ _ _ c.loop-key-test.true c.loop-key.invariant.stays.number c.loop-key.invariant.so_far c.in_ok-leaving.ensures.takes;
+  stays = stays-then c.loop-key.invariant.stays c.strike.ensures.stays;
+  so_far = struck-more _ _ _ _ c.args.keys.now c.loop-key.key-index _ _ _ c.loop-key-test.true c.loop-key.invariant.stays.same c.loop-key.invariant.so_far c.in_ok-leaving.ensures.takes;
 }
-
-pub returns-in_err-leaving-clause-stays : goal.returns-in_err-leaving-clause-stays
-returns-in_err-leaving-clause-stays g c = stays-then _ _ _ _ _ _ _ _ c.loop-key.invariant.stays c.strike.ensures.stays
 
 pub returns-in_err-leaving-clause-takes : goal.returns-in_err-leaving-clause-takes
 returns-in_err-leaving-clause-takes g c =
     let p = err_from_is_err_and c.from_residual.result c.from_residual.ensures.1 in
-    rw (p.1, p.2) (keys-cut _ _ _ _ _ c.args.keys.now c.loop-key.key-index _ _ _ _ _ c.loop-key-test.true c.loop-key.invariant.stays.number c.loop-key.invariant.so_far c.in_err-leaving.ensures.takes)
-
-pub returns-in_err-leaving-clause-stops : goal.returns-in_err-leaving-clause-stops
-returns-in_err-leaving-clause-stops g c =
-    let p = err_from_is_err_and c.from_residual.result c.from_residual.ensures.1 in
-    rw (p.1, p.2) (stopped-behind _ _ _ _ _ c.loop-key.invariant.stays.limit c.in_err-leaving.ensures.stops)
-
-pub returns-in_err-play_drawing-clause-stays : goal.returns-in_err-play_drawing-clause-stays
-returns-in_err-play_drawing-clause-stays g c = stays-then _ _ _ _ _ _ _ _ c.loop-key.invariant.stays c.play_drawing.ensures.stays
+    rw (p.1, p.2) (keys-cut _ _ _ _ c.args.keys.now c.loop-key.key-index _ _ _ _ _ c.loop-key-test.true c.loop-key.invariant.stays.same c.loop-key.invariant.so_far c.in_err-leaving.ensures.takes)
 
 pub returns-in_err-play_drawing-clause-takes : goal.returns-in_err-play_drawing-clause-takes
 returns-in_err-play_drawing-clause-takes g c =
     let p = err_from_is_err_and c.from_residual-in_err-play_drawing.result c.from_residual-in_err-play_drawing.ensures.1 in
-    rw (p.1, p.2) (draw-cut _ _ _ _ _ c.args.keys.now c.loop-key.key-index _ _ _ _ c.loop-key-test.false c.loop-key.invariant.stays.number c.loop-key.invariant.so_far c.in_err-play_drawing.ensures.takes)
-
-pub returns-in_err-play_drawing-clause-stops : goal.returns-in_err-play_drawing-clause-stops
-returns-in_err-play_drawing-clause-stops g c =
-    let p = err_from_is_err_and c.from_residual-in_err-play_drawing.result c.from_residual-in_err-play_drawing.ensures.1 in
-    rw (p.1, p.2) (stopped-behind _ _ _ _ _ c.loop-key.invariant.stays.limit c.in_err-play_drawing.ensures.stops)
-
-pub returns-clause-stays : goal.returns-clause-stays
-returns-clause-stays g c = stays-then _ _ _ _ _ _ _ _ c.loop-key.invariant.stays c.play_drawing.ensures.stays
+    rw (p.1, p.2) (draw-cut _ _ _ _ c.args.keys.now c.loop-key.key-index _ _ _ _ c.loop-key-test.false c.loop-key.invariant.stays.same c.loop-key.invariant.so_far c.in_err-play_drawing.ensures.takes)
 
 pub returns-clause-takes : goal.returns-clause-takes
-returns-clause-takes g c = keys-taken _ _ _ _ _ c.args.keys.now c.loop-key.key-index _ _ _ c.loop-key-test.false c.loop-key.invariant.stays.number c.loop-key.invariant.so_far c.in_ok-play_drawing.ensures.takes
+returns-clause-takes g c = keys-taken _ _ _ _ c.args.keys.now c.loop-key.key-index _ _ _ c.loop-key-test.false c.loop-key.invariant.stays.same c.loop-key.invariant.so_far c.in_ok-play_drawing.ensures.takes

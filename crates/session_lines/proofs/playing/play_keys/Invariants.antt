@@ -1,5 +1,5 @@
 use Rattle.std.proofs.Common.{[], take, map}
-use Rattle.kak_engine.specs.declared.event.Event.TheVariants.{Key as Struck}
+use Rattle.session_events.specs.declared.event.Event.TheVariants.{Key as Struck}
 use Rattle.session_lines.specs.Serving.{AreTaken}
 use Rattle.session_lines.specs.Stops.{Stays}
 use Rattle.session_lines.proofs.playing.play_keys.Given as goal
@@ -7,6 +7,6 @@ use Rattle.session_lines.proofs.playing.play_keys.Given as goal
 -- the keys so far were struck
 abbrev pub invariant-loop-key : goal.invariant-loop-key
 invariant-loop-key g l = record {
-  stays : Stays (g.S.Seat.number l.fn.seat) (g.S.Seat.limit l.fn.seat) (g.S.Seat.number l.seat) (g.S.Seat.limit l.seat) (g.S.Seat.seen l.seat);
-  so_far : AreTaken (g.S.Seat.number l.fn.seat) (g.S.Seat.seen l.fn.seat) (g.S.Seat.seen l.seat) (map (λ key. Struck key) (take l.key-index l.keys)) [] [] l.leaving;
+  stays : Stays g.S.Seat.is_in (g.S.Seat.seated l.fn.seat) (g.S.Seat.seated l.seat);
+  so_far : AreTaken g.S.Seat.gives (g.S.Seat.seated l.fn.seat) (g.S.Seat.seated l.seat) (map (λ key. Struck key) (take l.key-index l.keys)) [] [] l.leaving;
 }

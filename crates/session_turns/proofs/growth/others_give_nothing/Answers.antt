@@ -1,5 +1,5 @@
-use Rattle.session_turns.proofs.HistoryLemmas.{answers_from-others}
+use Rattle.session_turns.proofs.HistoryLemmas.{answers_behind-others}
 use Rattle.session_turns.proofs.growth.others_give_nothing.Goals as goal
 
 pub returns : goal.returns
-returns g c = answers_from-others
+returns g c = answers_behind-others

@@ -1,0 +1,104 @@
+ghost use Rattle.std.specs.Prelude.{◌<◌};
+
+use kak_engine::LoneSeat;
+use kak_ports::{FailingCalls, MemSink, MemSource};
+use session_lines::{InputEnd, open, play_source};
+use std::alloc::Global;
+use std::test::Fail;
+
+const OPTIONS: &str = "{\"jsonrpc\":\"2.0\",\"method\":\"set_ui_options\",\"params\":[{}]}\n";
+
+const DRAW: &str =
+    "{\"jsonrpc\":\"2.0\",\"method\":\"draw\",\"params\":[[[{\"contents\":\"\\n\",\"face\":{\"attributes\":[],\"bg\":\"cyan\",\"fg\":\"black\",\"underline\":\"default\"}}]],{\"attributes\":[],\"bg\":\"default\",\"fg\":\"default\",\"underline\":\"default\"},{\"attributes\":[],\"bg\":\"default\",\"fg\":\"blue\",\"underline\":\"default\"}]}\n";
+
+const STATUS: &str =
+    "{\"jsonrpc\":\"2.0\",\"method\":\"draw_status\",\"params\":[[],[{\"contents\":\"*scratch* 1:1 normal 1/1 - client0\",\"face\":{\"attributes\":[],\"bg\":\"default\",\"fg\":\"cyan\",\"underline\":\"default\"}}],{\"attributes\":[],\"bg\":\"default\",\"fg\":\"cyan\",\"underline\":\"default\"}]}\n";
+
+const CURSOR: &str =
+    "{\"jsonrpc\":\"2.0\",\"method\":\"set_cursor\",\"params\":[\"buffer\",{\"column\":0,\"line\":0}]}\n";
+
+const REFRESH: &str = "{\"jsonrpc\":\"2.0\",\"method\":\"refresh\",\"params\":[false]}\n";
+
+const INVALID: &str =
+    "{\"error\":{\"code\":-32600,\"message\":\"Invalid\"},\"id\":null,\"jsonrpc\":\"2.0\"}\n";
+
+// Keys that move nothing, a refused line, a leave, and a line that isn't read any more.
+const INPUT: &str =
+    "{\"jsonrpc\": \"2.0\", \"method\": \"keys\", \"params\": [\"hjh\", \"j\"]}\n{\"jsonrpc\": \"2.0\", \"method\": \"keys\", \"params\": [\"hj\", \"hh\"]}\n[]\n{\"jsonrpc\": \"2.0\", \"method\": \"keys\", \"params\": [\":quit<ret>\"]}\n{\"jsonrpc\": \"2.0\", \"method\": \"keys\", \"params\": [\"l\"]}";
+
+// What a session was sent, how its input ended, and what had come of a last line.
+#[derive(Drop)]
+struct Session {
+    sent: Vec<u8>,
+    ending: InputEnd,
+    part: Vec<u8>,
+}
+
+// Plays an input that comes in pieces.
+fn play(alloc: Global, input: &str, piece: usize) -> Result<Session, Fail>
+    requires { 0 < piece }
+{
+    let mut bytes = Vec::new(alloc);
+    bytes.extend_from_slice(input.as_bytes())?;
+    let mut source = MemSource::new(bytes, piece, FailingCalls::none(alloc));
+    let mut sink = MemSink::new(alloc, 100_000, FailingCalls::none(alloc))?;
+    let mut seat = LoneSeat::new(alloc, 1_000, 0)?;
+    let mut out = Vec::new(alloc);
+    let mut part = Vec::new(alloc);
+    open(alloc, &mut seat, &mut sink, &mut out)?;
+    let ending = play_source(
+        alloc,
+        &mut seat,
+        &mut source,
+        &mut sink,
+        &mut out,
+        &mut part,
+    )?;
+    let mut sent = Vec::new(alloc);
+    sent.extend_from_slice(sink.contents())?;
+    Ok(Session { sent, ending, part })
+}
+
+// Adds the lines of a drawing of the empty buffer.
+fn push_drawing(wanted: &mut Vec<u8>) -> Result<(), Fail> {
+    for line in [DRAW, STATUS, CURSOR, REFRESH] {
+        wanted.extend_from_slice(line.as_bytes())?;
+    }
+    Ok(())
+}
+
+#[test]
+fn an_empty_input_is_sent_the_first_drawing(rt: HostRuntime) -> Result<(), Fail> {
+    let mut wanted = Vec::new(rt.alloc());
+    wanted.extend_from_slice(OPTIONS.as_bytes())?;
+    push_drawing(&mut wanted)?;
+    let session = play(rt.alloc(), "", 4096)?;
+    assert!(rt; session.sent.as_slice() == wanted.as_slice());
+    assert_eq!(rt; session.ending, InputEnd::Ended);
+    Ok(())
+}
+
+#[test]
+fn lines_are_answered_in_order_up_to_the_leave(rt: HostRuntime) -> Result<(), Fail> {
+    let mut wanted = Vec::new(rt.alloc());
+    wanted.extend_from_slice(OPTIONS.as_bytes())?;
+    push_drawing(&mut wanted)?;
+    push_drawing(&mut wanted)?;
+    push_drawing(&mut wanted)?;
+    wanted.extend_from_slice(INVALID.as_bytes())?;
+    push_drawing(&mut wanted)?;
+    for piece in [1, 7, 4096] {
+        let session = play(rt.alloc(), INPUT, piece)?;
+        assert!(rt; session.sent.as_slice() == wanted.as_slice());
+        assert_eq!(rt; session.ending, InputEnd::Left);
+    }
+    Ok(())
+}
+
+#[test]
+fn a_last_part_is_kept(rt: HostRuntime) -> Result<(), Fail> {
+    let session = play(rt.alloc(), "\n{\"js", 2)?;
+    assert!(rt; session.part.as_slice() == b"{\"js".as_slice());
+    assert_eq!(rt; session.ending, InputEnd::Ended);
+    Ok(())
+}

@@ -1,0 +1,194 @@
+-- One more event that wasn't refused leaves a history that there can be.
+use Rattle.std.proofs.Common.{◌≡◌, ℕ, zero, suc, ◌+◌, ◌≤◌, ◌<◌, Bool, true, false, ◌||◌, List, [], ◌∷◌, ◌++◌, length, drop, refl, sym, ap, ◌∙◌, subst, arith, length-append}
+use Rattle.std.specs.Prelude.{if◌then◌else◌, ◌&&◌, not, ◌==◌, nat_le, Some, None}
+use Rattle.std.specs.List.{list_any, filter, AllByRecursion}
+use Rattle.std.specs.declared.option.Option.{Option}
+use Rattle.std.proofs.lemmas.List.{drop-append-le}
+use Rattle.std.proofs.lemmas.Bool.{eqb-true, leb-true, leb-false}
+use Rattle.kak_world.specs.Flat.{Flat, Client, newcomer, least_free, is_here as is_among, is_joined, joined_by, left_by}
+use Rattle.session_events.specs.declared.event.Event.{Event}
+use Rattle.session_events.specs.declared.event.Event.TheVariants.{Join, Key as Struck, Refresh, Leave}
+use Rattle.session_events.specs.declared.event.Entry.{Entry}
+use Rattle.session_events.specs.declared.fault.StepFault.{StepFault}
+use Rattle.session_events.specs.Entries.{is_join, is_leave, entry_of}
+use Rattle.session_events.specs.Legal.{Presence, Away, Here, Gone, is_here, moved_by, may_make, presence_from, may_make_all, KeepsLimit, AreLeavings}
+use Rattle.session_events.proofs.LegalLemmas.{presence-append, may-append}
+use Rattle.kak_engine.specs.Steps.{run, has_joined, is_full, after_event}
+use Rattle.kak_engine.specs.Held.{refused_by}
+
+-- the first of two choices gave nothing, and so did the second
+chosen-none : (b : Bool) (x : StepFault) (rest : Option StepFault) → (if b then Some x else rest) ≡ None → b ≡ false
+chosen-none true x rest e = cc
+chosen-none false x rest e = refl
+
+rest-none : (b : Bool) (x : StepFault) (rest : Option StepFault) → (if b then Some x else rest) ≡ None → rest ≡ None
+rest-none true x rest e = cc
+rest-none false x rest e = e
+
+both-not : (a b : Bool) → (not a && not b) ≡ false → a ≡ false → b ≡ true
+both-not true b e f = cc
+both-not false true e f = refl
+both-not false false e f = cc
+
+second-false : (a b : Bool) → (a && b) ≡ false → a ≡ true → b ≡ false
+second-false true b e f = e
+second-false false b e f = cc
+
+not-second : (a b : Bool) → (not a && b) ≡ false → a ≡ false → b ≡ false
+not-second true b e f = cc
+not-second false b e f = e
+
+no-client : (cs : List Client) → nat_le 1 (length cs) ≡ false → cs ≡ []
+no-client [] e = refl
+no-client (c ∷ cs) e = absurd (below (length cs) (leb-false 1 (suc (length cs)) e))
+  where
+    below : (n : ℕ) → suc n < 1 → ⊥
+    below n lt = omega (arith, lt)
+
+-- what an event that isn't refused tells of its client and of the room
+pub record IsAllowed (history : List Entry) (limit who : ℕ) (event : Event) : Type 0 where
+  pub joined : is_join event ≡ false → is_joined who (run history) ≡ true
+  pub fresh : is_join event ≡ true → has_joined who history ≡ false
+  pub room : is_leave event ≡ false → nat_le limit (length history) ≡ false
+  pub empty : is_join event ≡ true → (run history).clients ≡ []
+
+pub allowed : (history : List Entry) (limit who : ℕ) (event : Event) → refused_by history limit who event ≡ None → IsAllowed history limit who event
+allowed history limit who event e =
+    let second = rest-none _ _ _ e in
+    let third = rest-none _ _ _ second in
+    record {
+      joined = both-not (is_join event) (is_joined who (run history)) (chosen-none _ _ _ e);
+      fresh = second-false (is_join event) (has_joined who history) (chosen-none _ _ _ second);
+      room = not-second (is_leave event) (nat_le limit (length history)) (chosen-none _ _ _ third);
+      empty = λ j. no-client (run history).clients (second-false (is_join event) (is_full (run history)) (chosen-none _ _ _ (rest-none _ _ _ third)) j);
+    }
+
+-- a client that never joined hasn't come
+never-step : (k : ℕ) (e : Event) (h : List Entry) (t b : Bool) → is_join e ≡ b → (may_make_all k Away h ≡ true → has_joined k h ≡ false → presence_from k Away h ≡ Away)
+    → (if t then is_join e && may_make_all k (moved_by e Away) h else may_make_all k Away h) ≡ true
+    → ((t && is_join e) || has_joined k h) ≡ false
+    → presence_from k (if t then moved_by e Away else Away) h ≡ Away
+never-step k e h true true i next l j = let no : (true || has_joined k h) ≡ false = subst (λ q. (q || has_joined k h) ≡ false) i j in cc
+never-step k e h true false i next l j = let no : (false && may_make_all k (moved_by e Away) h) ≡ true = subst (λ q. (q && may_make_all k (moved_by e Away) h) ≡ true) i l in cc
+never-step k e h false b i next l j = next l j
+
+pub never-came : (k : ℕ) (h : List Entry) → may_make_all k Away h ≡ true → has_joined k h ≡ false → presence_from k Away h ≡ Away
+never-came k [] l j = refl
+never-came k (e ∷ h) l j = never-step k e.event h (e.who == k) (is_join e.event) refl (λ m n. never-came k h m n) l j
+
+-- a client that is here may go on, and one that never came may come
+here-may : (p : Presence) (event : Event) → is_here p ≡ true → is_join event ≡ false → may_make p event ≡ true
+here-may Away event h j = cc
+here-may Here event h j = rw j refl
+here-may Gone event h j = cc
+
+one-may : (k who : ℕ) (p : Presence) (event : Event) → (who ≡ k → may_make p event ≡ true) → may_make_all k p (entry_of who event ∷ []) ≡ true
+one-may k who p event m = by (who == k) refl
+  where
+    by : (t : Bool) → (who == k) ≡ t → (if t then may_make p event && true else true) ≡ true
+    by true e = rw (m (eqb-true who k e)) refl
+    by false e = refl
+
+-- the longer history is one that each client may have
+pub lives-more : (h : List Entry) (limit who : ℕ) (event : Event) → ((k : ℕ) → may_make_all k Away h ≡ true) → ((k : ℕ) → is_joined k (run h) ≡ is_here (presence_from k Away h)) → IsAllowed h limit who event
+    → (k : ℕ) → may_make_all k Away (h ++ entry_of who event ∷ []) ≡ true
+lives-more h limit who event l known a k =
+    may-append k Away h (entry_of who event ∷ []) (l k) (one-may k who (presence_from k Away h) event (λ e. by e (is_join event) refl))
+  where
+    by : who ≡ k → (t : Bool) → is_join event ≡ t → may_make (presence_from k Away h) event ≡ true
+    by e true j = rw (never-came k h (l k) (subst (λ q. has_joined q h ≡ false) e (a.fresh j))) j
+    by e false j = here-may (presence_from k Away h) event (sym (known k) ∙ subst (λ q. is_joined q (run h) ≡ true) e (a.joined j)) j
+
+-- behind the limit there are leavings alone
+leavings-append : (a b : List Entry) → AreLeavings a → AreLeavings b → AreLeavings (a ++ b)
+leavings-append [] b l m = m
+leavings-append (e ∷ a) b l m = (l.0, leavings-append a b l.1 m)
+
+drop-all : {A : Type 0} (n : ℕ) (a : List A) → length a ≤ n → drop n a ≡ []
+drop-all zero [] le = refl
+drop-all zero (x ∷ a) le = absurd (none (length a) le)
+  where
+    none : (n : ℕ) → suc n ≤ 0 → ⊥
+    none n le = omega (arith, le)
+drop-all (suc n) [] le = refl
+drop-all (suc n) (x ∷ a) le = drop-all n a (omega (arith, le))
+
+pub within-more : (h : List Entry) (limit who : ℕ) (event : Event) → KeepsLimit limit h → IsAllowed h limit who event → KeepsLimit limit (h ++ entry_of who event ∷ [])
+within-more h limit who event w a = by (nat_le limit (length h)) (is_leave event) refl refl
+  where
+    by : (t l : Bool) → nat_le limit (length h) ≡ t → is_leave event ≡ l → KeepsLimit limit (h ++ entry_of who event ∷ [])
+    by true true e f = subst AreLeavings (sym (drop-append-le limit h (entry_of who event ∷ []) (leb-true limit (length h) e))) (leavings-append (drop limit h) (entry_of who event ∷ []) w (f, tt))
+    by true false e f = let no : true ≡ false = sym e ∙ a.room f in cc
+    by false l e f = subst AreLeavings (sym (drop-all limit (h ++ entry_of who event ∷ []) (short (leb-false limit (length h) e)))) tt
+      where
+        short : length h < limit → length (h ++ entry_of who event ∷ []) ≤ limit
+        short lt = omega (arith, lt, length-append h (entry_of who event ∷ []))
+
+-- a list of clients that has one at most, and one of a number, has just that one
+pub only-one : (who : ℕ) (cs : List Client) → length cs ≤ 1 → is_among who cs ≡ true → (k : ℕ) → is_among k cs ≡ (who == k)
+only-one who [] few j k = cc
+only-one who (c ∷ []) few j k = or-none (c.who == k) ∙ ap (λ q. q == k) (eqb-true c.who who (sym (or-none (c.who == who)) ∙ j))
+  where
+    or-none : (b : Bool) → (b || false) ≡ b
+    or-none true = refl
+    or-none false = refl
+only-one who (c ∷ d ∷ cs) few j k = absurd (two (length cs) few)
+  where
+    two : (n : ℕ) → suc (suc n) ≤ 1 → ⊥
+    two n le = omega (arith, le)
+
+-- and without that one it is empty
+pub none-left : (who : ℕ) (cs : List Client) → length cs ≤ 1 → is_among who cs ≡ true → filter (λ c. not (c.who == who)) cs ≡ []
+none-left who [] few j = refl
+none-left who (c ∷ []) few j = by (c.who == who) j
+  where
+    by : (t : Bool) → (t || false) ≡ true → (if not t then c ∷ [] else []) ≡ []
+    by true e = refl
+    by false e = cc
+none-left who (c ∷ d ∷ cs) few j = absurd (two (length cs) few)
+  where
+    two : (n : ℕ) → suc (suc n) ≤ 1 → ⊥
+    two n le = omega (arith, le)
+
+-- where a client is behind one entry more
+presence-more : (k who : ℕ) (h : List Entry) (event : Event) → presence_from k Away (h ++ entry_of who event ∷ []) ≡ (if who == k then moved_by event (presence_from k Away h) else presence_from k Away h)
+presence-more k who h event = presence-append k Away h (entry_of who event ∷ [])
+
+chosen-same : (t : Bool) (p : Presence) → (if t then p else p) ≡ p
+chosen-same true p = refl
+chosen-same false p = refl
+
+-- the clients that are in the world are those that have come and not gone
+pub known-more : (old new : Flat) (h : List Entry) (who : ℕ) (event : Event) → length old.clients ≤ 1 → length new.clients ≤ 1
+    → ((k : ℕ) → is_joined k old ≡ is_here (presence_from k Away h))
+    → (is_join event ≡ false → is_joined who old ≡ true) → (is_join event ≡ true → old.clients ≡ [])
+    → (is_leave event ≡ false → is_joined who new ≡ true) → (is_leave event ≡ true → new.clients ≡ [])
+    → (k : ℕ) → is_joined k new ≡ is_here (presence_from k Away (h ++ entry_of who event ∷ []))
+known-more old new h who event few few_now known here none there gone k =
+    by event here none there gone ∙ ap is_here (sym (presence-more k who h event))
+  where
+    before : is_joined who old ≡ true → is_here (presence_from k Away h) ≡ (who == k)
+    before j = sym (known k) ∙ only-one who old.clients few j k
+
+    same : (event : Event) → (moved_by event (presence_from k Away h) ≡ presence_from k Away h) → is_joined who old ≡ true → is_joined who new ≡ true
+        → is_joined k new ≡ is_here (if who == k then moved_by event (presence_from k Away h) else presence_from k Away h)
+    same event m j n = only-one who new.clients few_now n k ∙ sym (before j) ∙ ap is_here (sym (chosen-same (who == k) (presence_from k Away h)) ∙ ap (λ q. if who == k then q else presence_from k Away h) (sym m))
+
+    come : (t : Bool) → (who == k) ≡ t → is_here (presence_from k Away h) ≡ false → (who == k) ≡ is_here (if t then Here else presence_from k Away h)
+    come true e f = e
+    come false e f = e ∙ sym f
+
+    went : (t : Bool) → (who == k) ≡ t → is_here (presence_from k Away h) ≡ (who == k) → false ≡ is_here (if t then Gone else presence_from k Away h)
+    went true e f = refl
+    went false e f = sym e ∙ sym f
+
+    by : (event : Event) → (is_join event ≡ false → is_joined who old ≡ true) → (is_join event ≡ true → old.clients ≡ []) → (is_leave event ≡ false → is_joined who new ≡ true) → (is_leave event ≡ true → new.clients ≡ [])
+        → is_joined k new ≡ is_here (if who == k then moved_by event (presence_from k Away h) else presence_from k Away h)
+    by Join here none there gone = only-one who new.clients few_now (there refl) k ∙ come (who == k) refl (sym (known k) ∙ ap (is_among k) (none refl))
+    by (Struck key) here none there gone = same (Struck key) refl (here refl) (there refl)
+    by (Refresh asked) here none there gone = same (Refresh asked) refl (here refl) (there refl)
+    by Leave here none there gone = ap (is_among k) (gone refl) ∙ went (who == k) refl (before (here refl))
+
+-- no client is left behind the going of the only one
+pub none-behind : (who : ℕ) (old new : Flat) → new ≡ left_by who old → length old.clients ≤ 1 → is_joined who old ≡ true → new.clients ≡ []
+none-behind who old new e few j = ap (λ f. f.clients) e ∙ none-left who old.clients few j

@@ -1,0 +1,50 @@
+//! The one seat at an engine that nobody else uses.
+
+ghost use Rattle.std.specs.Prelude.{◌≡◌, ◌<◌, ◌∷◌, [], IfOk, None};
+ghost use Rattle.std.proofs.Props.{props};
+ghost use Rattle.session_events.specs.declared.event.Event.TheVariants.{Join};
+ghost use Rattle.session_events.specs.Entries.{AreOf, entry_of};
+ghost use Rattle.session_events.specs.Legal.{IsLegal};
+ghost use Rattle.kak_engine.specs.Steps.{given_by, is_in};
+
+use crate::engine::Engine;
+use session_events::{Event, Output, Seat, StepFault};
+use std::alloc::{AllocError, Global};
+
+/// The one seat at an engine that nobody else uses.
+#[derive(Drop, Debug)]
+pub struct LoneSeat {
+    engine: Engine,
+    who: u32,
+    ghost alone: { AreOf who engine.history } by { Prim.hlevel props },
+}
+
+impl LoneSeat {
+    /// A seat at a new engine, for a client that has just come. The history may have so many entries, leavings aside.
+    pub fn new(alloc: Global, limit: u64, who: u32) -> Result<LoneSeat, AllocError>
+        requires { 0 < limit }
+        ensures who { IfOk result (λ s. s.who ≡ who) }
+        ensures limit { IfOk result (λ s. s.engine.limit ≡ limit) }
+        ensures mark { IfOk result (λ s. s.engine.mark ≡ None) }
+        ensures joined { IfOk result (λ s. s.engine.history ≡ entry_of who Join ∷ []) }
+        ensures legal { IfOk result (λ s. IsLegal s.engine.limit s.engine.history) }
+    {
+        let mut engine = Engine::new(alloc, limit)?;
+        match engine.step(alloc, who, Event::Join) {
+            Ok(_output) => Ok(LoneSeat { engine, who }),
+            Err(_) => Err(AllocError),
+        }
+    }
+}
+
+impl Seat for LoneSeat {
+    ghost gives = { given_by };
+
+    ghost is_in = { is_in };
+
+    ghost seated = { λ s. record { number = s.who; limit = s.engine.limit; mark = s.engine.mark; seen = s.engine.history } };
+
+    fn step(&mut self, alloc: Global, event: Event) -> Result<Output, StepFault> {
+        self.engine.step(alloc, self.who, event)
+    }
+}

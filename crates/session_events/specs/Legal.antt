@@ -1,0 +1,55 @@
+-- Which histories there can be.
+use Rattle.std.specs.Prelude.{◌≡◌, ℕ, Bool, true, false, not, ◌&&◌, ◌==◌, if◌then◌else◌, List, [], ◌∷◌, drop}
+use Rattle.std.specs.List.{AllByRecursion}
+use Rattle.session_events.specs.declared.event.Event.{Event}
+use Rattle.session_events.specs.declared.event.Event.TheVariants.{Join, Leave}
+use Rattle.session_events.specs.declared.event.Entry.{Entry}
+use Rattle.session_events.specs.Entries.{is_join, is_leave}
+
+-- Where a client is: it hasn't come yet, it is here, or it has gone.
+pub data Presence : Type 0 where
+  Away : Presence
+  Here : Presence
+  Gone : Presence
+
+abbrev pub is_here : Presence → Bool
+is_here Here = true
+is_here _ = false
+
+-- where a client is after an event of its own
+abbrev pub moved_by : Event → Presence → Presence
+moved_by Join p = Here
+moved_by Leave p = Gone
+moved_by _ p = p
+
+-- whether a client may make an event: its coming is first and comes once, and nothing comes behind its going
+abbrev pub may_make : Presence → Event → Bool
+may_make Away event = is_join event
+may_make Here event = not (is_join event)
+may_make Gone event = false
+
+-- where a client is behind some entries, from where it was before them
+abbrev pub presence_from : ℕ → Presence → List Entry → Presence
+presence_from who p [] = p
+presence_from who p (entry ∷ entries) = presence_from who (if entry.who == who then moved_by entry.event p else p) entries
+
+-- whether a client may make all of its events among some entries, one after another
+abbrev pub may_make_all : ℕ → Presence → List Entry → Bool
+may_make_all who p [] = true
+may_make_all who p (entry ∷ entries) =
+    if entry.who == who
+    then may_make p entry.event && may_make_all who (moved_by entry.event p) entries
+    else may_make_all who p entries
+
+-- each entry is a client's going
+abbrev pub AreLeavings : List Entry → Type 0
+AreLeavings entries = AllByRecursion (λ entry. is_leave entry.event ≡ true) entries
+
+-- a history keeps its limit: behind so many entries there are leavings alone
+abbrev pub KeepsLimit : ℕ → List Entry → Type 0
+KeepsLimit limit history = AreLeavings (drop limit history)
+
+-- A history that there can be: each client comes first, once, and makes nothing behind its going; and the limit is kept.
+pub record IsLegal (limit : ℕ) (history : List Entry) : Type 0 where
+  pub lives : (who : ℕ) → may_make_all who Away history ≡ true
+  pub within : KeepsLimit limit history

@@ -1,0 +1,113 @@
+//! What happens in a session, and what it gives.
+
+ghost use Rattle.std.specs.Prelude.{◌≡◌, [], None, false};
+ghost use Rattle.session_events.specs.Entries.{is_join, is_leave};
+
+use json_ui::Drawing;
+use kak_ports::Octets;
+use key_names::Key;
+use std::alloc::Global;
+use std::marker::Model;
+
+/// One event of a client.
+#[derive(Clone, Copy, Debug)]
+pub enum Event {
+    /// The client comes.
+    Join,
+    /// The client strikes a key.
+    Key(Key),
+    /// The client is drawn; the flag says whether it asked to be.
+    Refresh(bool),
+    /// The client goes.
+    Leave,
+}
+
+/// What the outside answered in a step.
+#[derive(Drop, Debug)]
+pub enum Answered {
+    /// A file was read.
+    Read(Octets),
+    /// There is no such file.
+    NotThere,
+    /// The file has more bytes than were asked for.
+    TooBig,
+    /// The read failed.
+    ReadFailed,
+    /// A file was written.
+    Wrote,
+    /// The write failed.
+    WriteFailed,
+    /// A pattern was built.
+    Built,
+    /// A pattern was refused.
+    Refused,
+}
+
+/// The outside's answers in one step, in order. Contracts see the list of them.
+#[derive(Drop, Debug)]
+pub struct Answers {
+    items: Vec<Answered>,
+}
+
+impl Model for Answers {
+    ghost use Rattle.std.specs.Prelude.{List};
+    ghost use Rattle.session_events.specs.declared.event.Answered.{Answered};
+
+    ghost Value = { List Answered };
+
+    ghost view = { λ a. a.items.items };
+}
+
+impl Answers {
+    /// No answers; takes no memory.
+    pub fn none(alloc: Global) -> Answers
+        ensures { result ≡ [] }
+    {
+        Answers {
+            items: Vec::new(alloc),
+        }
+    }
+}
+
+/// One entry of a history: whose event it is, and what the outside answered in its step.
+#[derive(Drop, Debug)]
+pub struct Entry {
+    pub who: u32,
+    pub event: Event,
+    pub answers: Answers,
+}
+
+/// What a step gives its client.
+#[derive(Drop, Debug)]
+pub struct Output {
+    /// The drawing, after a refresh.
+    pub drawing: Option<Drawing>,
+    /// Whether the client was granted to leave in this step.
+    pub leaving: bool,
+}
+
+impl Output {
+    /// Nothing to draw, and no leave.
+    pub fn nothing() -> Output
+        ensures { result ≡ record { drawing = None; leaving = false } }
+    {
+        Output {
+            drawing: None,
+            leaving: false,
+        }
+    }
+}
+
+/// Whether an event is a client's coming.
+pub fn is_join(event: Event) -> bool
+    ensures { result ≡ is_join event }
+{
+    matches!(event, Event::Join)
+}
+
+/// Whether an event is a client's going.
+pub fn is_leave(event: Event) -> bool
+    ensures { result ≡ is_leave event }
+{
+    matches!(event, Event::Leave)
+}

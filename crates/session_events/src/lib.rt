@@ -1,0 +1,13 @@
+//! The words of a session: what happens in it and stands in its history, what a step gives its client or why it is
+//! refused, and the place from which one client takes its steps. What an entry means is handed in by whoever plays
+//! entries, so that whoever reads this can forget the editor.
+#![tactic(auto)]
+
+pub mod event;
+pub mod fault;
+pub mod laws;
+pub mod seat;
+
+pub use event::{Answered, Answers, Entry, Event, Output, is_join, is_leave};
+pub use fault::StepFault;
+pub use seat::Seat;
