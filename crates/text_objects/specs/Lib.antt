@@ -1,0 +1,10 @@
+pub mod Runs
+pub mod RunObjects
+pub mod LineObjects
+pub mod Sentences
+pub mod Pairs
+pub mod Objects
+pub mod RunExamples
+pub mod LineExamples
+pub mod SentenceExamples
+pub mod PairExamples
