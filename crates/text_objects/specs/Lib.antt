@@ -1,6 +1,8 @@
 pub mod Runs
 pub mod RunObjects
 pub mod LineObjects
+pub mod CharKinds
+pub mod LineKinds
 pub mod Sentences
 pub mod Pairs
 pub mod Objects

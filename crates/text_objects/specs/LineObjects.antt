@@ -33,15 +33,20 @@ paragraph_to text n = run_end (is_full text) (n + 1) (line_count text)
 abbrev pub behind_empty : List ℕ → ℕ → ℕ
 behind_empty text n = run_end (is_empty text) n (line_count text)
 
--- the paragraph of a line: the run of lines that aren't empty
-abbrev pub inner_paragraph : List ℕ → ℕ → Option Ends
-inner_paragraph text o =
-    if is_full text (line_of text o) then Some (lines_between text (paragraph_from text (line_of text o)) (paragraph_to text (line_of text o))) else None
+-- the paragraph that a line is in: the run of lines that aren't empty
+abbrev pub paragraph : List ℕ → ℕ → Option Ends
+paragraph text n = if is_full text n then Some (lines_between text (paragraph_from text n) (paragraph_to text n)) else None
 
 -- and with the empty lines behind it
+abbrev pub paragraph_and_behind : List ℕ → ℕ → Option Ends
+paragraph_and_behind text n = if is_full text n then Some (lines_between text (paragraph_from text n) (behind_empty text (paragraph_to text n))) else None
+
+-- the same for the line of an offset
+abbrev pub inner_paragraph : List ℕ → ℕ → Option Ends
+inner_paragraph text o = paragraph text (line_of text o)
+
 abbrev pub around_paragraph : List ℕ → ℕ → Option Ends
-around_paragraph text o =
-    if is_full text (line_of text o) then Some (lines_between text (paragraph_from text (line_of text o)) (behind_empty text (paragraph_to text (line_of text o)))) else None
+around_paragraph text o = paragraph_and_behind text (line_of text o)
 
 -- the indentation of a line: the display column of its first character that is no blank, with a tab stop at each so
 -- many columns
@@ -65,11 +70,17 @@ abbrev pub indent_to : List ℕ → ℕ → ℕ → ℕ
 indent_to text tabstop n = run_end (is_indented text tabstop (indent_at text tabstop n)) (n + 1) (line_count text)
 
 -- all of them
-abbrev pub around_indent : List ℕ → ℕ → ℕ → Option Ends
-around_indent text o tabstop =
-    if is_full text (line_of text o) then Some (lines_between text (indent_from text tabstop (line_of text o)) (indent_to text tabstop (line_of text o))) else None
+abbrev pub indented_lines : List ℕ → ℕ → ℕ → Option Ends
+indented_lines text tabstop n = if is_full text n then Some (lines_between text (indent_from text tabstop n) (indent_to text tabstop n)) else None
 
 -- and without the empty lines at their ends
+abbrev pub indented_inside : List ℕ → ℕ → ℕ → Option Ends
+indented_inside text tabstop n =
+    if is_full text n then Some (lines_between text (behind_empty text (indent_from text tabstop n)) (run_begin (is_empty text) (indent_to text tabstop n))) else None
+
+-- the same for the line of an offset
 abbrev pub inner_indent : List ℕ → ℕ → ℕ → Option Ends
-inner_indent text o tabstop =
-    if is_full text (line_of text o) then Some (lines_between text (behind_empty text (indent_from text tabstop (line_of text o))) (run_begin (is_empty text) (indent_to text tabstop (line_of text o)))) else None
+inner_indent text o tabstop = indented_inside text tabstop (line_of text o)
+
+abbrev pub around_indent : List ℕ → ℕ → ℕ → Option Ends
+around_indent text o tabstop = indented_lines text tabstop (line_of text o)

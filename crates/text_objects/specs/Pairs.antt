@@ -1,5 +1,5 @@
 -- Pairs of brackets and of quotes, and the innermost that holds a cursor.
-use Rattle.std.specs.Prelude.{ℕ, ◌+◌, ◌-◌, ◌%◌, ◌==◌, nat_lt, nat_le, Bool, false, ◌&&◌, if◌then◌else◌, List, length, slice_index, slice_range, count_by, None, Some, option_map, option_and_then}
+use Rattle.std.specs.Prelude.{ℕ, ◌+◌, ◌-◌, ◌%◌, ◌==◌, nat_lt, nat_le, Bool, false, ◌&&◌, if◌then◌else◌, List, length, slice_range, count_by, None, Some, option_map, option_and_then}
 use Rattle.std.specs.declared.option.Option.{Option}
 use Rattle.motion_keys.specs.Extremes.{least_between, greatest_below}
 use Rattle.motion_keys.specs.Jumps.{are_even, holds, line_end}

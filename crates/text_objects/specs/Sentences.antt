@@ -1,6 +1,6 @@
 -- Sentences. Each paragraph is searched by itself: a sentence begins where its paragraph does, and at each first
 -- character behind blanks and newlines that stand behind a stop.
-use Rattle.std.specs.Prelude.{ℕ, ◌+◌, ◌-◌, ◌==◌, nat_lt, nat_le, Bool, false, not, ◌&&◌, ◌||◌, if◌then◌else◌, List, length, slice_index, None, Some, unwrap_or, option_map}
+use Rattle.std.specs.Prelude.{ℕ, ◌+◌, ◌-◌, ◌==◌, nat_le, Bool, false, not, ◌&&◌, ◌||◌, if◌then◌else◌, List, length, slice_index, None, Some, unwrap_or, option_map}
 use Rattle.std.specs.declared.option.Option.{Option}
 use Rattle.motion_keys.specs.Extremes.{least_between, greatest_below}
 use Rattle.motion_keys.specs.Landmarks.{line_begin, line_of}

@@ -4,5 +4,13 @@
 
 pub mod kinds;
 pub mod laws;
+pub mod line_objects;
+mod line_runs;
+pub mod run_objects;
+mod runs;
 
 pub use kinds::Object;
+pub use line_objects::{around_indent, around_paragraph, inner_indent, inner_paragraph};
+pub use run_objects::{
+    around_blanks, around_number, around_word, inner_blanks, inner_number, inner_word,
+};
