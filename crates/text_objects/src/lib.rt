@@ -14,3 +14,8 @@ pub use line_objects::{around_indent, around_paragraph, inner_indent, inner_para
 pub use run_objects::{
     around_blanks, around_number, around_word, inner_blanks, inner_number, inner_word,
 };
+
+#[cfg(test)]
+mod line_tests;
+#[cfg(test)]
+mod tests;
