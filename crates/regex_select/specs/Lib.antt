@@ -1,0 +1,4 @@
+pub mod Rows
+pub mod Causes
+pub mod Flags
+pub mod Examples
