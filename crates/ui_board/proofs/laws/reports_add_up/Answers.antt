@@ -1,0 +1,10 @@
+use Rattle.std.proofs.Common.{refl}
+use Rattle.ui_board.proofs.ReportLemmas.{lines-more}
+use Rattle.ui_board.proofs.laws.reports_add_up.Goals as goal
+
+pub returns : goal.returns
+returns c = record {
+  first = refl;
+  json = λ what told. lines-more told what;
+  silent = λ told. refl;
+}

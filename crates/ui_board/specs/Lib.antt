@@ -1,0 +1,5 @@
+pub mod Told
+pub mod Notes
+pub mod Boards
+pub mod Laws
+pub mod Examples

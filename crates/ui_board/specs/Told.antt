@@ -1,0 +1,50 @@
+-- What a user interface was told, and what it reports of that.
+use Rattle.std.specs.Prelude.{ℕ, List, [], ◌∷◌, ◌++◌}
+use Rattle.json_ui.specs.declared.drawing.Drawing.{Drawing}
+use Rattle.json_ui.specs.declared.request.Refusal.{Refusal}
+use Rattle.json_ui.specs.Drawings.{drawing_bytes}
+use Rattle.json_ui.specs.Refusals.{refusal_bytes}
+
+-- One thing that a user interface is told: what is drawn for its client, or why a line of its client is refused.
+pub data Told : Type 0 where
+  Drawn : (drawing : Drawing) → Told
+  Refused : (refusal : Refusal) → Told
+
+-- The kinds of user interfaces: one reports the JSON lines of all that it was told, another reports nothing.
+pub data Kind : Type 0 where
+  Json : Kind
+  Silent : Kind
+
+-- What a user interface has shown.
+pub record Shown : Type 0 where
+  -- its kind, which never changes
+  pub kind : Kind
+  -- all that it was told, in order
+  pub told : List Told
+
+-- a user interface that was told nothing yet
+abbrev pub untold : Kind → Shown
+untold kind = record { kind = kind; told = [] }
+
+-- after it was told one thing more
+abbrev pub telling : Told → Shown → Shown
+telling what shown = record { kind = shown.kind; told = shown.told ++ what ∷ [] }
+
+-- the JSON lines of one thing that was told
+abbrev pub told_bytes : Told → List ℕ
+told_bytes (Drawn drawing) = drawing_bytes drawing
+told_bytes (Refused refusal) = refusal_bytes refusal
+
+-- the JSON lines of all that was told, in order
+abbrev pub json_lines : List Told → List ℕ
+json_lines [] = []
+json_lines (what ∷ more) = told_bytes what ++ json_lines more
+
+-- what a kind of user interface reports of what it was told
+abbrev pub kind_report : Kind → List Told → List ℕ
+kind_report Json told = json_lines told
+kind_report Silent told = []
+
+-- what a user interface reports
+abbrev pub report_of : Shown → List ℕ
+report_of shown = kind_report shown.kind shown.told

@@ -1,0 +1,44 @@
+//! What a user interface is told, and what it reports.
+
+ghost use Rattle.std.specs.Prelude.{◌≡◌, IfOk, OnOk, OnErr};
+ghost use Rattle.ui_board.specs.Told.{Shown, Drawn, Refused, telling, report_of};
+
+use json_ui::{Drawing, Refusal};
+use std::alloc::{AllocError, Global};
+
+/// A user interface, which shows one client what it is told.
+pub trait Ui: Drop {
+    // Its kind, and all that it was told, in order.
+    ghost shown: { Self → Shown };
+
+    /// Shows a drawing. An error is want of memory; then nothing was shown.
+    fn show(&mut self, alloc: Global, drawing: &Drawing) -> Result<(), AllocError>
+        ensures ok { OnOk result (shown self.new ≡ telling (Drawn drawing.now) (shown self.old)) }
+        ensures err { OnErr result (shown self.new ≡ shown self.old) };
+
+    /// Tells why a line of the client is refused. An error is want of memory; then nothing was told.
+    fn refuse(&mut self, alloc: Global, refusal: Refusal) -> Result<(), AllocError>
+        ensures ok { OnOk result (shown self.new ≡ telling (Refused refusal) (shown self.old)) }
+        ensures err { OnErr result (shown self.new ≡ shown self.old) };
+
+    /// What it reports of all that it was told, by its kind. An error is want of memory.
+    fn report(&self, alloc: Global) -> Result<Vec<u8>, AllocError>
+        ensures { IfOk result (λ bytes. bytes.items ≡ report_of (shown self.now)) };
+}
+
+/// A box is the user interface in it.
+impl Ui for Box<dyn Ui> {
+    ghost shown = { λ ui. (Ui-box ui).shown ui.value };
+
+    fn show(&mut self, alloc: Global, drawing: &Drawing) -> Result<(), AllocError> {
+        (**self).show(alloc, drawing)
+    }
+
+    fn refuse(&mut self, alloc: Global, refusal: Refusal) -> Result<(), AllocError> {
+        (**self).refuse(alloc, refusal)
+    }
+
+    fn report(&self, alloc: Global) -> Result<Vec<u8>, AllocError> {
+        (**self).report(alloc)
+    }
+}
