@@ -16,7 +16,7 @@ use Rattle.selection_set.proofs.HeldLemmas.{zero_sel, nth-inside, nth-range}
 use Rattle.kak_text.specs.Cells.{cells_of, column_behind, display_column}
 use Rattle.window_view.specs.View.{View}
 use Rattle.kak_faces.specs.declared.face.Face.{Face}
-use Rattle.json_ui.specs.declared.drawing.Atom.{Atom}
+use Rattle.json_writing.specs.declared.drawing.Atom.{Atom}
 use Rattle.kak_world.specs.declared.state.TheConstants.{TABSTOP}
 use Rattle.draw_model.specs.declared.parts.Parts.{Parts}
 use Rattle.draw_model.specs.Atoms.{Shown, shown_in, with_all_shown}

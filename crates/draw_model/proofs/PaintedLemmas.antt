@@ -6,7 +6,7 @@ use Rattle.std.proofs.lemmas.List.{get_or-take, get_or-drop}
 use Rattle.list_model.specs.Ranges.{Range, Selected, cursor, IsRange}
 use Rattle.kak_text.specs.Cells.{column_behind}
 use Rattle.window_view.specs.View.{View}
-use Rattle.json_ui.specs.declared.drawing.Atom.{Atom}
+use Rattle.json_writing.specs.declared.drawing.Atom.{Atom}
 use Rattle.kak_world.specs.declared.state.TheConstants.{TABSTOP}
 use Rattle.draw_model.specs.declared.paint.Colors.{Colors}
 use Rattle.draw_model.specs.Atoms.{shown_in, with_all_shown}

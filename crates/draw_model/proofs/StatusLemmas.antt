@@ -3,7 +3,7 @@ use Rattle.std.proofs.Common.{◌≡◌, ℕ, List, [], ◌∷◌, ◌++◌, sym
 use Rattle.kak_faces.specs.declared.face.Face.{Face}
 use Rattle.kak_faces.specs.declared.standard.StandardFace.TheVariants as name
 use Rattle.kak_faces.specs.Standard.{standard_face}
-use Rattle.json_ui.specs.declared.drawing.Atom.{Atom}
+use Rattle.json_writing.specs.declared.drawing.Atom.{Atom}
 use Rattle.draw_model.specs.Atoms.{shown_in, with_shown, with_all_shown, atoms_of}
 use Rattle.draw_model.specs.Drawings.{prompt_shown}
 use Rattle.draw_model.proofs.AtomLemmas.{three_steps}

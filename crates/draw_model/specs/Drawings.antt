@@ -11,10 +11,10 @@ use Rattle.kak_faces.specs.declared.standard.StandardFace.{StandardFace}
 use Rattle.kak_faces.specs.declared.standard.StandardFace.TheVariants as name
 use Rattle.kak_faces.specs.Faces.{merged}
 use Rattle.kak_faces.specs.Standard.{standard_face}
-use Rattle.json_ui.specs.declared.drawing.DrawnLine.{DrawnLine}
-use Rattle.json_ui.specs.declared.drawing.Cursor.{Cursor}
-use Rattle.json_ui.specs.declared.drawing.Info.TheVariants.{Keep}
-use Rattle.json_ui.specs.declared.drawing.Drawing.{Drawing}
+use Rattle.json_writing.specs.declared.drawing.DrawnLine.{DrawnLine}
+use Rattle.json_writing.specs.declared.drawing.Cursor.{Cursor}
+use Rattle.json_writing.specs.declared.drawing.Info.TheVariants.{Keep}
+use Rattle.json_writing.specs.declared.drawing.Drawing.{Drawing}
 use Rattle.kak_world.specs.declared.state.Mode.{Mode}
 use Rattle.kak_world.specs.declared.state.Mode.TheVariants.{Normal, Insert, Prompt}
 use Rattle.kak_world.specs.declared.state.Status.{Status}

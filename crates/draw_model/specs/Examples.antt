@@ -5,9 +5,9 @@ use Rattle.window_view.specs.View.{View}
 use Rattle.kak_faces.specs.declared.colour.NamedColour.{NamedColour}
 use Rattle.kak_faces.specs.declared.colour.NamedColour.TheVariants as named
 use Rattle.kak_faces.specs.Standard.{plain_face, default_face}
-use Rattle.json_ui.specs.declared.drawing.Atom.{Atom}
-use Rattle.json_ui.specs.declared.drawing.DrawnLine.{DrawnLine}
-use Rattle.json_ui.specs.declared.drawing.Info.TheVariants.{Keep}
+use Rattle.json_writing.specs.declared.drawing.Atom.{Atom}
+use Rattle.json_writing.specs.declared.drawing.DrawnLine.{DrawnLine}
+use Rattle.json_writing.specs.declared.drawing.Info.TheVariants.{Keep}
 use Rattle.kak_world.specs.declared.state.Mode.TheVariants.{Normal, Insert, Prompt}
 use Rattle.kak_world.specs.declared.state.Status.TheVariants.{Quiet, Said, Refused}
 use Rattle.kak_world.specs.Flat.{Flat, opening, joined_by, with_sels, with_drawn, view_of}

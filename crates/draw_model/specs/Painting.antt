@@ -12,7 +12,7 @@ use Rattle.kak_faces.specs.declared.standard.StandardFace.{StandardFace}
 use Rattle.kak_faces.specs.declared.standard.StandardFace.TheVariants as name
 use Rattle.kak_faces.specs.Faces.{merged}
 use Rattle.kak_faces.specs.Standard.{standard_face}
-use Rattle.json_ui.specs.declared.drawing.Atom.{Atom}
+use Rattle.json_writing.specs.declared.drawing.Atom.{Atom}
 use Rattle.kak_world.specs.declared.state.TheConstants.{TABSTOP}
 use Rattle.draw_model.specs.declared.paint.Colors.{Colors}
 use Rattle.draw_model.specs.declared.paint.Paint.{Paint}

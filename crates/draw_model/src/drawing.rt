@@ -8,7 +8,7 @@ ghost use Rattle.draw_model.specs.Drawings.{main_cursor, main_column, main_cells
 
 use crate::status::{draw_mode, draw_status};
 use crate::window_lines::draw_lines;
-use json_ui::{Cursor, Drawing, Info};
+use json_writing::{Cursor, Drawing, Info};
 use kak_faces::StandardFace;
 use kak_text::{Coord, cells};
 use kak_world::{Mode, TABSTOP, World};

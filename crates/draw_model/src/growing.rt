@@ -4,7 +4,7 @@ ghost use Rattle.std.specs.Prelude.{◌≡◌, [], ◌++◌, replicate, OnOk, If
 ghost use Rattle.draw_model.specs.Atoms.{shown_in, with_all_shown};
 
 use crate::atoms::push_run;
-use json_ui::Atom;
+use json_writing::Atom;
 use kak_faces::{Face, StandardFace};
 use kak_text::Chars;
 use std::alloc::{AllocError, Global};

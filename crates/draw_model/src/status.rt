@@ -8,7 +8,7 @@ ghost use Rattle.draw_model.specs.Atoms.{shown_in, atoms_of};
 ghost use Rattle.draw_model.specs.Drawings.{status_shown, prompt_shown, status_line, mode_name, mode_text};
 
 use crate::atoms::{push_run, push_shown};
-use json_ui::{Atoms, DrawnLine};
+use json_writing::{Atoms, DrawnLine};
 use kak_faces::{Face, StandardFace};
 use kak_text::{Chars, Coord};
 use kak_world::{Mode, Status};

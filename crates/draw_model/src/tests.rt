@@ -6,7 +6,7 @@ ghost use Rattle.kak_world.specs.Flat.{is_joined, text_of};
 use super::*;
 use crate::paint::Paint;
 use crate::window_lines::draw_lines;
-use json_ui::{Drawing, DrawnLine};
+use json_writing::{Drawing, DrawnLine};
 use kak_faces::{Face, StandardFace};
 use kak_text::Chars;
 use kak_world::{Mode, World};

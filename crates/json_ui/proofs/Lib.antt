@@ -1,4 +1,2 @@
-pub mod Bytes
-pub mod Parts
 pub mod ParameterLemmas
 pub mod Sizes

@@ -1,3 +1,5 @@
+//! Lines of JSON, read as requests.
+
 ghost use Rattle.std.specs.Prelude.{◌≡◌, ◌≤◌, ◌^◌, ◌<◌, length, is_some, true, Some, Ok, IfOk, IfErr, codes};
 ghost use Rattle.std.specs.Option.{option_copied};
 ghost use Rattle.std.specs.List.{list_all};
@@ -9,7 +11,8 @@ ghost use Rattle.key_names.specs.Reading.{read_text};
 ghost use Rattle.json_ui.specs.Parameters.{IsParameterError, IsJsonError, HasFewParameters, texts_seen};
 ghost use Rattle.json_ui.specs.Requests.{is_blank, text_at, is_text, texts_of, texts_in, keys_request, keys_of_texts, texts_request, method_request, value_request, read_request, IsLineError};
 
-use crate::request::{LineError, Refusal, Request};
+use crate::request::{LineError, Request};
+use json_writing::Refusal;
 use key_names::{Key, KeyError, Keys, read_keys};
 use serde_json::Value;
 use std::alloc::{AllocError, Global};

@@ -1,8 +1,9 @@
 use crate::decoding::{MAX_LINE, decode_line};
-use crate::drawing::{Atom, Atoms, Cursor, Drawing, DrawnLine, DrawnLines, Info};
-use crate::drawing_bytes::encode_drawing;
-use crate::refusal_bytes::encode_refusal;
-use crate::request::{LineError, Refusal, Request};
+use crate::request::{LineError, Request};
+use json_writing::{
+    Atom, Atoms, Cursor, Drawing, DrawnLine, DrawnLines, Info, Refusal, encode_drawing,
+    encode_refusal,
+};
 use kak_faces::{Face, StandardFace};
 use kak_text::Chars;
 use std::alloc::{AllocError, Global};

@@ -14,7 +14,7 @@ ghost use Rattle.kak_world.specs.Flat.{with_drawn};
 
 use crate::doing::{Ending, strike};
 use draw_model::{draw, follow_cursor};
-use json_ui::Drawing;
+use json_writing::Drawing;
 use kak_text::Chars;
 use kak_world::{Status, World};
 use key_names::Key;

@@ -1,8 +1,8 @@
 -- What the entries of a session are to their clients.
 use Rattle.std.specs.Prelude.{◌≡◌, ℕ, Bool, false, if◌then◌else◌, List, [], ◌∷◌, None, Some}
 use Rattle.std.specs.declared.option.Option.{Option}
-use Rattle.json_ui.specs.declared.drawing.Drawing.{Drawing}
-use Rattle.json_ui.specs.Drawings.{drawing_bytes}
+use Rattle.json_writing.specs.declared.drawing.Drawing.{Drawing}
+use Rattle.json_writing.specs.Drawings.{drawing_bytes}
 use Rattle.session_turns.specs.Histories.{Answer, Rules}
 use Rattle.key_names.specs.declared.key.Key.{Key}
 use Rattle.session_events.specs.declared.event.Event.{Event}

@@ -9,7 +9,7 @@ ghost use Rattle.session_lines.specs.Session.{keys_played};
 ghost use Rattle.session_lines.specs.Serving.{Takes, TakesDrawing, Leaves};
 ghost use Rattle.session_lines.specs.Stops.{IsReady, Stays, Stops, IsLoss};
 
-use json_ui::{Drawing, encode_drawing};
+use json_writing::{Drawing, encode_drawing};
 use key_names::Key;
 use session_events::{Event, Output, Seat, StepFault};
 use std::alloc::{AllocError, Global};

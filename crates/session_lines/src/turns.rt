@@ -12,7 +12,8 @@ ghost use Rattle.session_lines.specs.Sending.{Sends, Counts};
 ghost use Rattle.session_lines.specs.Stops.{IsReady, Stays, Causes};
 
 use crate::playing::{Stop, play_drawing, play_keys};
-use json_ui::{LineError, Refusal, Request, decode_line, encode_refusal};
+use json_ui::{LineError, Request, decode_line};
+use json_writing::{Refusal, encode_refusal};
 use kak_ports::{Put, Sink};
 use key_names::Key;
 use session_events::Seat;

@@ -1,9 +1,9 @@
 -- What a user interface was told, and what it reports of that.
 use Rattle.std.specs.Prelude.{ℕ, List, [], ◌∷◌, ◌++◌}
-use Rattle.json_ui.specs.declared.drawing.Drawing.{Drawing}
-use Rattle.json_ui.specs.declared.request.Refusal.{Refusal}
-use Rattle.json_ui.specs.Drawings.{drawing_bytes}
-use Rattle.json_ui.specs.Refusals.{refusal_bytes}
+use Rattle.json_writing.specs.declared.drawing.Drawing.{Drawing}
+use Rattle.json_writing.specs.declared.refusal.Refusal.{Refusal}
+use Rattle.json_writing.specs.Drawings.{drawing_bytes}
+use Rattle.json_writing.specs.Refusals.{refusal_bytes}
 
 -- One thing that a user interface is told: what is drawn for its client, or why a line of its client is refused.
 pub data Told : Type 0 where

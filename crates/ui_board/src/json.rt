@@ -1,14 +1,14 @@
 //! The user interface that reports JSON lines.
 
 ghost use Rattle.std.specs.Prelude.{◌≡◌, ◌≤◌, [], ◌∷◌, ◌++◌, length, take, IfOk, OnOk, OnErr};
-ghost use Rattle.json_ui.specs.Drawings.{drawing_bytes};
-ghost use Rattle.json_ui.specs.Refusals.{refusal_bytes};
+ghost use Rattle.json_writing.specs.Drawings.{drawing_bytes};
+ghost use Rattle.json_writing.specs.Refusals.{refusal_bytes};
 ghost use Rattle.ui_board.specs.Told.{Json, Drawn, Refused, told_bytes};
 ghost use Rattle.ui_board.specs.Notes.{told_of};
 
 use crate::notes::{Note, Notes};
 use crate::ui::Ui;
-use json_ui::{Drawing, Refusal, encode_drawing, encode_refusal};
+use json_writing::{Drawing, Refusal, encode_drawing, encode_refusal};
 use std::alloc::{AllocError, Global};
 use std::marker::Model;
 use std::snapshot::Snapshot;

@@ -4,7 +4,7 @@ use crate::board::Board;
 use crate::json::JsonUi;
 use crate::silent::SilentUi;
 use crate::ui::Ui;
-use json_ui::{Atoms, Cursor, Drawing, DrawnLine, DrawnLines, Info, Refusal, encode_drawing};
+use json_writing::{Atoms, Cursor, Drawing, DrawnLine, DrawnLines, Info, Refusal, encode_drawing};
 use kak_faces::{Face, StandardFace};
 use std::alloc::Global;
 use std::test::Fail;

@@ -5,10 +5,10 @@ use Rattle.text_model.specs.declared.coords.Coord.{Coord}
 use Rattle.window_view.specs.Views.{view_of as window_seen}
 use Rattle.kak_faces.specs.declared.standard.StandardFace.TheVariants as name
 use Rattle.kak_faces.specs.Standard.{standard_face}
-use Rattle.json_ui.specs.declared.drawing.DrawnLine.{DrawnLine}
+use Rattle.json_writing.specs.declared.drawing.DrawnLine.{DrawnLine}
 use Rattle.kak_world.specs.Flat.{Flat, text_of, number_of, mode_of, sels_of, view_of, status_of, prompt_of, is_drawn}
-use Rattle.json_ui.specs.declared.drawing.Drawing.{Drawing}
-use Rattle.json_ui.specs.declared.drawing.Info.TheVariants.{Keep}
+use Rattle.json_writing.specs.declared.drawing.Drawing.{Drawing}
+use Rattle.json_writing.specs.declared.drawing.Info.TheVariants.{Keep}
 use Rattle.selection_set.specs.Held.{selected}
 use Rattle.draw_model.specs.Atoms.{Shown, shown_in, atoms_of}
 use Rattle.draw_model.specs.Drawings.{drawn_lines, status_line, mode_text, main_cursor, main_column, cursor_drawn, drawing_of}

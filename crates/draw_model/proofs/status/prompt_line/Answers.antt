@@ -1,5 +1,5 @@
 use Rattle.std.proofs.Common.{List, ap, ◌∙◌}
-use Rattle.json_ui.specs.declared.drawing.Atom.{Atom}
+use Rattle.json_writing.specs.declared.drawing.Atom.{Atom}
 use Rattle.draw_model.proofs.StatusLemmas.{prompt-drawn}
 use Rattle.draw_model.proofs.status.prompt_line.Goals as goal
 

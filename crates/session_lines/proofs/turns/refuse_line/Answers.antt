@@ -1,6 +1,6 @@
 use Rattle.std.proofs.Common.{◌++◌, sym, ap, ◌∙◌}
 use Rattle.std.proofs.lemmas.Result.{err_from_is_err_and}
-use Rattle.json_ui.specs.Refusals.{refusal_bytes}
+use Rattle.json_writing.specs.Refusals.{refusal_bytes}
 use Rattle.session_turns.specs.Turns.{Line, During}
 use Rattle.session_lines.specs.Session.{played_by, refused_by}
 use Rattle.session_lines.proofs.ServingLemmas.{serves-said, serves-refusal-failed, serves-none}

@@ -1,9 +1,0 @@
-use Rattle.std.proofs.Common.{◌≡◌, ◌++◌, map, take}
-use Rattle.json_ui.specs.Grows.{Grows}
-use Rattle.json_ui.specs.JsonText.{separated}
-use Rattle.json_ui.specs.Drawings.{atom_text}
-use Rattle.json_ui.proofs.line_bytes.push_atoms.Given as goal
-
-abbrev pub invariant-loop-i : goal.invariant-loop-i
-invariant-loop-i l =
-    (l.out.items ≡ l.fn.out.items ++ separated (map atom_text (take l.i l.atoms))) × Grows l.fn.out.items l.out.items

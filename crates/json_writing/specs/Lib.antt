@@ -1,0 +1,5 @@
+pub mod Grows
+pub mod JsonText
+pub mod Drawings
+pub mod Refusals
+pub mod Examples
