@@ -1,6 +1,6 @@
 -- Finding a row, and putting one, by its place.
 use Rattle.std.proofs.lemmas.List.{drop_more, drop_all, get_or_read, get_or_past}
-use Rattle.std.specs.Prelude.{find, Option, Some, None}
+use Rattle.std.specs.Prelude.{find, Some, None}
 use Rattle.std.proofs.Common.{drop, ◌+◌, ◌≡◌, ℕ, suc, ◌<◌, ◌≤◌, List, [], ◌∷◌, ◌++◌, length, get_or, set, Bool, true, false, cond, refl, ap, sym, ◌∙◌, arith}
 use Rattle.tables.specs.Tables.{first_where, put_where, place_where}
 

@@ -4,4 +4,4 @@
 
 pub mod laws;
 
-pub use laws::{rows_are_put_in_place, worked_examples};
+pub use laws::{rows_are_changed_in_place, rows_are_put_in_place, worked_examples};
