@@ -24,7 +24,7 @@ rebased-below : (at f t : Coord) → f.line < at.line → rebased at f t ≡ rec
 rebased-below at f t h = elim (test_cases (eqb at.line f.line)) [ inl e ↦ absurd (let g : at.line ≡ f.line = eqb-true at.line f.line e in omega arith) | inr e ↦ rw e refl ]
 
 -- what lies as far behind one coordinate is rebased to what lies as far behind another
-rebased-further : (f t d : Coord) → rebased (further f d) f t ≡ further t d
+pub rebased-further : (f t d : Coord) → rebased (further f d) f t ≡ further t d
 rebased-further f t d = elim (zero_or_suc d.line) [ inl e ↦ on_line e | inr s ↦ below (s.0) (s.1) ]
   where
     on_line : d.line ≡ 0 → rebased (further f d) f t ≡ further t d
@@ -60,21 +60,21 @@ take-before long short b e o c h =
     let m : o ≤ length (take b long) = omega arith in
     ap (take o) c.short_is ∙ take-append-le o (take b long) (drop e long) m ∙ take-take o b long h
 
-cut-before : (long short : List ℕ) (b e o : ℕ) → IsCut long short b e → o ≤ b → coord_at short o ≡ coord_at long o
+pub cut-before : (long short : List ℕ) (b e o : ℕ) → IsCut long short b e → o ≤ b → coord_at short o ≡ coord_at long o
 cut-before long short b e o c h = ap (reached origin) (take-before long short b e o c h)
 
 -- behind it, coordinates lie as far behind the cut
-far-behind : (text mid : List ℕ) (n k : ℕ) → drop n text ≡ mid → coord_at text (n + k) ≡ further (coord_at text n) (reached origin (take k mid))
+pub far-behind : (text mid : List ℕ) (n k : ℕ) → drop n text ≡ mid → coord_at text (n + k) ≡ further (coord_at text n) (reached origin (take k mid))
 far-behind text mid n k h =
     ap (reached origin) (take-split n k text)
     ∙ ap (λ r. reached origin (take n text ++ take k r)) h
     ∙ reached-append origin (take n text) (take k mid)
     ∙ reached-from (coord_at text n) (take k mid)
 
-drop-short : (long short : List ℕ) (b e : ℕ) → IsCut long short b e → drop b short ≡ drop e long
+pub drop-short : (long short : List ℕ) (b e : ℕ) → IsCut long short b e → drop b short ≡ drop e long
 drop-short long short b e c = ap (drop b) c.short_is ∙ drop_at (take b long) (drop e long) b (length-front long b e c.ordered c.within)
 
-length-short : (long short : List ℕ) (b e : ℕ) → IsCut long short b e → length short + (e - b) ≡ length long
+pub length-short : (long short : List ℕ) (b e : ℕ) → IsCut long short b e → length short + (e - b) ≡ length long
 length-short long short b e c =
     let n : length short ≡ length (take b long) + length (drop e long) = ap length c.short_is ∙ length-append (take b long) (drop e long) in
     omega (arith, c.ordered, c.within, length-front long b e c.ordered c.within, length-drop e long)
@@ -93,7 +93,7 @@ rebased-long long short b e k c =
     ∙ sym (far-behind short (drop e long) b k (drop-short long short b e c) ∙ ap (λ x. further x (reached origin (take k (drop e long)))) (cut-before long short b e b c (omega arith)))
 
 -- the order of coordinates is that of offsets
-order-coords : (text : List ℕ) (i j : ℕ) → IsText text → i ≤ length text → j ≤ length text → is_at_most (coord_at text i) (coord_at text j) ≡ leb i j
+pub order-coords : (text : List ℕ) (i j : ℕ) → IsText text → i ≤ length text → j ≤ length text → is_at_most (coord_at text i) (coord_at text j) ≡ leb i j
 order-coords text i j t h k =
     is_at_most-offset text (coord_at text i) (coord_at text j) (IsPlaceOrEnd-coord_at text i t h) (IsPlaceOrEnd-coord_at text j t k)
     ∙ ap (λ x. leb x (offset text (coord_at text j))) (offset-coord_at text i h)
@@ -166,7 +166,7 @@ uncut-goes old new s m o t f h false e =
     let d : s.end ≡ coord_at old m.end = f.end_is ∙ ap (λ x. coord_at (holder x old new) m.end) e in
     rw (f.insert_is, e, b, d) (erasure-goes old new m.begin m.end o t cut h)
 
-earlier-min : (text : List ℕ) (i j : ℕ) → IsText text → i ≤ length text → j ≤ length text → earlier (coord_at text i) (coord_at text j) ≡ coord_at text (min i j)
+pub earlier-min : (text : List ℕ) (i j : ℕ) → IsText text → i ≤ length text → j ≤ length text → earlier (coord_at text i) (coord_at text j) ≡ coord_at text (min i j)
 earlier-min text i j t h k = elim (leb_tells i j) [ inl f ↦ first (f.0) (f.1) | inr f ↦ second (f.0) (f.1) ]
   where
     first : leb i j ≡ true → i ≤ j → earlier (coord_at text i) (coord_at text j) ≡ coord_at text (min i j)

@@ -3,3 +3,15 @@ pub mod SmallLemmas
 pub mod BothLemmas
 pub mod FrontLemmas
 pub mod ListLemmas
+pub mod OrderLemmas
+pub mod TieLemmas
+pub mod ShiftLemmas
+pub mod RisingLemmas
+pub mod FallingLemmas
+pub mod WalkLemmas
+pub mod RunLemmas
+pub mod CatchLemmas
+pub mod LawLemmas
+pub mod StepLemmas
+pub mod TrialLemmas
+pub mod OneRunLemmas

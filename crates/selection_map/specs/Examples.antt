@@ -1,11 +1,17 @@
 -- Worked examples of where places and lists of selections go, which hold by computation.
-use Rattle.std.specs.Prelude.{◌≡◌, ℕ, true, false, Some, None, [], ◌∷◌, map}
+use Rattle.std.specs.Prelude.{◌≡◌, ℕ, true, false, Some, None, List, [], ◌∷◌, map, codes}
 use Rattle.text_model.specs.declared.coords.Coord.{Coord}
 use Rattle.text_model.specs.declared.coords.Shift.{Shift}
+use Rattle.text_model.specs.Changes.{Change, Insertion, Move}
+use Rattle.list_model.specs.Ranges.{only}
 use Rattle.selection_set.specs.declared.sel.Sel.{Sel}
 use Rattle.selection_set.specs.Listing.{Listed}
 use Rattle.selection_set.specs.Sweeping.{swept_listed}
+use Rattle.selection_map.specs.declared.walking.Way.TheVariants.{Rising, Falling}
 use Rattle.selection_map.specs.Rebasing.{mapped, mapped_sel}
+use Rattle.selection_map.specs.Reaching.{goes, at_rest, reach_of, then_on, through}
+use Rattle.selection_map.specs.Walking.{follows, Underway, turns}
+use Rattle.selection_map.specs.Catching.{text_after, steps_by, eager}
 
 abbrev pub at : ℕ → ℕ → Coord
 at line column = record { line = line; column = column }
@@ -32,7 +38,55 @@ aimed_back low high = record { low = low; high = high; turned = true; target = S
 abbrev pub carried_list : Shift → Listed → Listed
 carried_list shift s = swept_listed (record { list = map (mapped_sel shift) s.list; main = s.main })
 
-pub record Examples : Type 0 where
+-- letters typed before the second and the fourth character of the line `abcdef`, one after the other
+abbrev pub first_typed : Shift
+first_typed = record { insert = true; begin = at 0 1; «end» = at 0 2; last = at 0 7 }
+
+abbrev pub second_typed : Shift
+second_typed = record { insert = true; begin = at 0 4; «end» = at 0 5; last = at 0 8 }
+
+-- and taken back, from the last to the first
+abbrev pub second_undone : Shift
+second_undone = record { insert = false; begin = at 0 4; «end» = at 0 5; last = at 0 7 }
+
+abbrev pub first_undone : Shift
+first_undone = record { insert = false; begin = at 0 1; «end» = at 0 2; last = at 0 6 }
+
+-- the typing as changes of the text
+abbrev pub typed : List Change
+typed = Insertion 1 (codes "X") ∷ Insertion 4 (codes "X") ∷ []
+
+-- a walk through the typing that has passed no shift yet, and the cursors before the characters
+abbrev pub before_typing : Underway
+before_typing = record { reach = at_rest; rest = first_typed ∷ second_typed ∷ [] }
+
+abbrev pub two_cursors : List Sel
+two_cursors = straight (at 0 1) (at 0 1) ∷ straight (at 0 3) (at 0 3) ∷ []
+
+-- the third to the fifth character taken out of nine, and then the second of what is left
+abbrev pub three_out : Move
+three_out = record { insert = false; begin = 2; «end» = 5; last = 5 }
+
+abbrev pub one_out : Move
+one_out = record { insert = false; begin = 1; «end» = 2; last = 4 }
+
+-- several changes at once
+pub record ManyExamples : Type 0 where
+  pub ends_go_behind_both : through (first_typed ∷ second_typed ∷ []) (straight (at 0 1) (at 0 3)) ≡ straight (at 0 2) (at 0 5)
+  pub and_come_back : through (second_undone ∷ first_undone ∷ []) (straight (at 0 2) (at 0 5)) ≡ straight (at 0 1) (at 0 3)
+  pub one_way_for_both : then_on (reach_of first_typed) (reach_of second_typed) ≡ record { from = at 0 3; onto = at 0 5; put = at 0 5 }
+  pub behind_both : goes (then_on (reach_of first_typed) (reach_of second_typed)) (at 0 4) ≡ at 0 6
+  pub other_lines : goes (then_on (reach_of first_typed) (reach_of second_typed)) (at 1 2) ≡ at 1 2
+  pub typing_rises : follows Rising first_typed second_typed ≡ true
+  pub undoing_falls : follows Falling second_undone first_undone ≡ true
+  pub undoing_does_not_rise : follows Rising second_undone first_undone ≡ false
+  -- four ends and two shifts
+  pub six_turns : turns Rising before_typing two_cursors ≡ 6
+  pub text_behind_typing : text_after (codes "abcdef\n") (steps_by (codes "abcdef\n") typed (first_typed ∷ second_typed ∷ [])) ≡ codes "aXbcXdef\n"
+  -- settled at each change: two become one at the first
+  pub joined_on_the_way : eager (three_out ∷ one_out ∷ []) (record { list = only 1 ∷ only 3 ∷ only 5 ∷ only 6 ∷ []; main = 2 }) ≡ record { list = only 1 ∷ only 2 ∷ []; main = 0 }
+
+pub record OneExamples : Type 0 where
   pub before_stays : mapped two_put_in (at 0 0) ≡ at 0 0
   pub at_it_goes_behind : mapped two_put_in (at 0 1) ≡ at 0 3
   pub other_lines_stay : mapped two_put_in (at 0 4) ≡ at 0 6
@@ -43,3 +97,8 @@ pub record Examples : Type 0 where
   pub two_go_apart : carried_list two_put_in (record { list = straight (at 0 0) (at 0 0) ∷ straight (at 0 1) (at 0 2) ∷ []; main = 1 }) ≡ record { list = straight (at 0 0) (at 0 0) ∷ straight (at 0 3) (at 0 4) ∷ []; main = 1 }
   -- what is taken out can make two share a character; they become one, with the marks of the first
   pub two_become_one : carried_list three_taken (record { list = aimed_back (at 0 0) (at 0 1) ∷ straight (at 0 3) (at 0 4) ∷ straight (at 0 5) (at 0 5) ∷ []; main = 1 }) ≡ record { list = aimed_back (at 0 0) (at 0 1) ∷ straight (at 0 2) (at 0 2) ∷ []; main = 0 }
+
+-- all of them
+pub record Examples : Type 0 where
+  pub one : OneExamples
+  pub many : ManyExamples

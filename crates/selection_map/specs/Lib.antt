@@ -1,3 +1,10 @@
 pub mod Carrying
 pub mod Rebasing
+pub mod Reaching
+pub mod Bounds
+pub mod Walking
+pub mod Catching
+pub mod Premises
+pub mod Laws
+pub mod Trials
 pub mod Examples

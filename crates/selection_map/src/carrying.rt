@@ -11,8 +11,8 @@ ghost use Rattle.selection_map.specs.Rebasing.{rebased, mapped, mapped_sel, earl
 use selection_set::Sel;
 use text_model::{Coord, Shift};
 
-// The coordinate that lies as far behind `to` as `at` lies behind `from`.
-fn rebase(at: Coord, from: Coord, to: Coord) -> Coord
+/// The coordinate that lies as far behind `to` as `at` lies behind `from`.
+pub fn rebase(at: Coord, from: Coord, to: Coord) -> Coord
     requires ordered { is_at_most from at ≡ true }
     requires at_small { IsSmall at }
     requires to_small { IsSmall to }
@@ -30,8 +30,8 @@ fn rebase(at: Coord, from: Coord, to: Coord) -> Coord
     }
 }
 
-// The earlier of two coordinates.
-fn earlier_of(a: Coord, b: Coord) -> Coord
+/// The earlier of two coordinates.
+pub(crate) fn earlier_of(a: Coord, b: Coord) -> Coord
     ensures { result ≡ earlier a b }
 {
     if a.is_at_most(b) { a } else { b }

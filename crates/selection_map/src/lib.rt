@@ -1,9 +1,16 @@
-//! Where the places of a text, its selections and lists of them go when the text is changed.
+//! Where the places of a text, its selections and lists of them go when the text is changed, once or many times.
 #![tactic(auto)]
 
 pub mod carrying;
+pub mod catching;
 pub mod laws;
 pub mod lists;
+mod reach;
+mod walking;
 
-pub use carrying::{map_one, map_sel};
+pub use carrying::{map_one, map_sel, rebase};
+pub use catching::catch_up;
 pub use lists::map_sels;
+
+#[cfg(test)]
+mod tests;
