@@ -2,5 +2,6 @@ pub mod CutLemmas
 pub mod BufferLemmas
 pub mod StepLemmas
 pub mod InsertLemmas
+pub mod RowLemmas
 pub mod EraseLemmas
 pub mod FlatLemmas

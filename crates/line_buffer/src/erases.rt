@@ -13,7 +13,7 @@ impl Lines {
     /// Takes the characters from a place to before another, or to the end, out, and gives the shift of the change and what
     /// was taken. The last newline of the text stays, unless the range reaches the end and begins behind another newline:
     /// then its lines go whole. Where nothing is taken, the shift's begin is its end. After an error the text is as it was.
-    /// It costs the lines that it touches, and one move of the heads of the lines behind them.
+    /// It costs the lines that it touches, and where lines go, those between them and the change before.
     pub fn erase(
         &mut self,
         alloc: Global,
@@ -79,8 +79,7 @@ impl Lines {
         ensures err { OnErr result (self.new ≡ self.old) }
     {
         if to.line as usize == self.line_count() {
-            self.cut_off(from, gone);
-            return Ok(());
+            return self.cut_off(alloc, from, gone);
         }
         if from.line == to.line {
             self.cut_line(from, to);

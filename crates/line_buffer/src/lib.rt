@@ -8,6 +8,7 @@ pub mod flat;
 pub mod inserts;
 mod line;
 pub mod lines;
+mod rows;
 pub mod steps;
 mod turns;
 

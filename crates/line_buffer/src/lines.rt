@@ -1,13 +1,13 @@
 //! The lines of a buffer: the calls that reach the fields.
 
-ghost use Rattle.std.specs.Prelude.{◌≡◌, ◌≢◌, ℕ, ◌+◌, ◌<◌, ◌≤◌, ◌*◌, ◌++◌, ◌∷◌, length, take, drop, All, IfOk, OnOk, OnErr};
+ghost use Rattle.std.specs.Prelude.{◌≡◌, ◌≢◌, ℕ, ◌+◌, ◌<◌, ◌≤◌, ◌*◌, ◌++◌, ◌∷◌, [], length, take, drop, All, IfOk, OnOk, OnErr};
 ghost use Rattle.text_model.specs.Texts.{IsStored, IsText, IsLine, IsPlace, joined, offset, line_count, nth_line};
 ghost use Rattle.text_model.specs.Changes.{changed, Insertion, Erasure};
 ghost use Rattle.line_buffer.specs.declared.lines.LinesError.TheVariants.{NoMemory};
 
 use crate::cuts::{cut, gathered};
 use crate::line::Line;
-use crate::turns::{cut_out, turn_right};
+use crate::rows::Rows;
 use kak_text::{Coord, MAX_CHARS, Text};
 use std::alloc::{AllocError, Global};
 use std::marker::Model;
@@ -32,7 +32,7 @@ impl From<AllocError> for LinesError {
 /// A text as its lines, with the count of its characters.
 #[derive(Drop, Debug)]
 pub struct Lines {
-    lines: Vec<Line>,
+    lines: Rows,
     count: usize,
 }
 
@@ -43,9 +43,9 @@ impl Model for Lines {
 
     ghost Value = { List ℕ };
 
-    ghost view = { λ a. joined a.lines.items };
+    ghost view = { λ a. joined a.lines };
 
-    ghost invariant = { λ a. IsBuffer a.lines.items a.count };
+    ghost invariant = { λ a. IsBuffer a.lines a.count };
 }
 
 impl Lines {
@@ -55,7 +55,7 @@ impl Lines {
     {
         let chars = text.as_slice();
         Ok(Lines {
-            lines: cut(alloc, chars)?,
+            lines: Rows::of_vec(alloc, cut(alloc, chars)?),
             count: chars.len(),
         })
     }
@@ -86,8 +86,7 @@ impl Lines {
         ensures small { length result.now ≤ MAX_CHARS }
         ensures valid { IsStored self.now }
     {
-        let line = &self.lines[n];
-        line.as_slice()
+        self.lines.line(n).as_slice()
     }
 
     // Puts characters without a newline in at a place.
@@ -98,8 +97,8 @@ impl Lines {
         ensures ok { OnOk result (self.new ≡ changed self.old (Insertion (offset self.old at) chars.now)) }
         ensures err { OnErr result (self.new ≡ self.old) }
     {
-        let line = &mut self.lines[at.line as usize];
-        line.put(at.column as usize, chars)?;
+        self.lines
+            .put_on(at.line as usize, at.column as usize, chars)?;
         self.count += chars.len();
         Ok(())
     }
@@ -122,7 +121,8 @@ impl Lines {
             at.column as usize,
             chars,
         )?;
-        replace_line(&mut self.lines, at.line as usize, fresh)?;
+        let line = at.line as usize;
+        self.lines.replace(line, line + 1, fresh)?;
         self.count += chars.len();
         Ok(())
     }
@@ -134,8 +134,9 @@ impl Lines {
         ensures ok { OnOk result (self.new ≡ self.old ++ chars.now) }
         ensures err { OnErr result (self.new ≡ self.old) }
     {
-        let mut fresh = cut(alloc, chars)?;
-        self.lines.append(&mut fresh)?;
+        let fresh = cut(alloc, chars)?;
+        let end = self.line_count();
+        self.lines.replace(end, end, fresh)?;
         self.count += chars.len();
         Ok(())
     }
@@ -147,8 +148,8 @@ impl Lines {
         requires ordered { from.column ≤ to.column }
         ensures { self.new ≡ changed self.old (Erasure (offset self.old from) (offset self.old to)) }
     {
-        let line = &mut self.lines[to.line as usize];
-        line.cut(from.column as usize, to.column as usize);
+        self.lines
+            .cut_on(to.line as usize, from.column as usize, to.column as usize);
         self.count -= (to.column - from.column) as usize;
     }
 
@@ -167,47 +168,60 @@ impl Lines {
         ensures ok { OnOk result (self.new ≡ changed self.old (Erasure (offset self.old from) (offset self.old to))) }
         ensures err { OnErr result (self.new ≡ self.old) }
     {
-        let line = joined_line(
+        let fresh = joined_line(
             alloc,
             self.line(from.line as usize),
             from.column as usize,
             self.line(to.line as usize),
             to.column as usize,
         )?;
-        replace_lines(&mut self.lines, from.line as usize, to.line as usize, line);
+        self.lines
+            .replace(from.line as usize, to.line as usize + 1, fresh)?;
         self.count -= gone;
         Ok(())
     }
 
-    // Takes the lines from one that isn't the first up to the end out, with so many characters; takes no memory.
-    pub(crate) fn cut_off(&mut self, from: Coord, gone: usize)
+    // Takes the lines from one that isn't the first up to the end out, with so many characters.
+    pub(crate) fn cut_off(
+        &mut self,
+        alloc: Global,
+        from: Coord,
+        gone: usize,
+    ) -> Result<(), AllocError>
         requires begin { from.column ≡ 0 }
         requires some { 0 < from.line }
         requires inside { from.line ≤ line_count self.old }
         requires gone { offset self.old from + gone ≡ length self.old }
-        ensures { self.new ≡ changed self.old (Erasure (offset self.old from) (length self.old)) }
+        ensures ok { OnOk result (self.new ≡ changed self.old (Erasure (offset self.old from) (length self.old))) }
+        ensures err { OnErr result (self.new ≡ self.old) }
     {
-        self.lines.truncate(from.line as usize);
+        let end = self.line_count();
+        self.lines
+            .replace(from.line as usize, end, Vec::new(alloc))?;
         self.count -= gone;
+        Ok(())
     }
 }
 
-// The begin of a line before the end of another.
+// The begin of a line before the end of another, as the only line.
 fn joined_line(
     alloc: Global,
     first: &[char],
     from: usize,
     last: &[char],
     to: usize,
-) -> Result<Line, AllocError>
+) -> Result<Vec<Line>, AllocError>
     requires first { IsLine first.now }
     requires last { IsLine last.now }
     requires from { from < length first.now }
     requires to { to < length last.now }
     requires small { length first.now + length last.now ≤ 2 * MAX_CHARS }
-    ensures { IfOk result (λ line. line ≡ take from first.now ++ drop to last.now) }
+    ensures { IfOk result (λ lines. lines.items ≡ (take from first.now ++ drop to last.now) ∷ []) }
 {
-    Ok(Line::of_vec(gathered(alloc, &first[..from], &last[to..], &[])?))
+    let line = Line::of_vec(gathered(alloc, &first[..from], &last[to..], &[])?);
+    let mut lines = Vec::new(alloc);
+    lines.push(line)?;
+    Ok(lines)
 }
 
 // The lines that a line becomes when characters are put in.
@@ -227,31 +241,4 @@ fn split_line(
     let (front, back) = line.split_at(column);
     let text = gathered(alloc, front, chars, back)?;
     cut(alloc, text.as_slice())
-}
-
-// Puts lines in the place of one, which is all that it changes; room is made first.
-fn replace_line(lines: &mut Vec<Line>, n: usize, mut fresh: Vec<Line>) -> Result<(), AllocError>
-    requires inside { n < length lines.old.items }
-    requires some { 0 < length fresh.items }
-    ensures ok { OnOk result (lines.new.items ≡ take n lines.old.items ++ (fresh.items ++ drop (n + 1) lines.old.items)) }
-    ensures err { OnErr result (lines.new.items ≡ lines.old.items) }
-{
-    lines.reserve(fresh.len())?;
-    lines[n] = fresh.remove(0);
-    let more = fresh.len();
-    if lines.append(&mut fresh).is_err() {
-        unreachable!()
-    }
-    turn_right(lines.as_mut_slice(), n + 1, more);
-    Ok(())
-}
-
-// Puts a line in the place of those from one to another, which is all that it changes.
-fn replace_lines(lines: &mut Vec<Line>, first: usize, last: usize, line: Line)
-    requires ordered { first ≤ last }
-    requires inside { last < length lines.old.items }
-    ensures { lines.new.items ≡ take first lines.old.items ++ (line ∷ drop (last + 1) lines.old.items) }
-{
-    cut_out(lines, first + 1, last + 1);
-    lines[first] = line;
 }

@@ -230,3 +230,31 @@ fn erasures_keep_the_last_newline(rt: HostRuntime) -> Result<(), Fail> {
     }
     Ok(())
 }
+
+#[test]
+fn newlines_go_in_and_out_at_places_that_rise_and_fall(rt: HostRuntime) -> Result<(), Fail> {
+    let alloc = rt.alloc();
+    let mut text = lines(alloc, "ab\ncd\nef\n")?;
+    let steps = [
+        (1, 1, "a\nb\ncd\nef\n"),
+        (5, 5, "a\nb\nc\nd\nef\n"),
+        (9, 9, "a\nb\nc\nd\ne\nf\n"),
+        (0, 0, "\na\nb\nc\nd\ne\nf\n"),
+        (10, 11, "\na\nb\nc\nd\nef\n"),
+        (6, 8, "\na\nb\nc\nef\n"),
+        (0, 1, "a\nb\nc\nef\n"),
+    ];
+    for (from, to, after) in &steps {
+        assert!(rt; *from <= *to);
+        assert!(rt; *to < text.len());
+        let from = text.coord_of(*from);
+        let to = text.coord_of(*to);
+        if from == to {
+            text.insert(alloc, from, &['\n'])?;
+        } else {
+            text.erase(alloc, from, to)?;
+        }
+        assert_eq!(rt; whole(alloc, &text)?.as_str(), *after);
+    }
+    Ok(())
+}

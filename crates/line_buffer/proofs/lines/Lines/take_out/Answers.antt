@@ -1,4 +1,4 @@
-use Rattle.std.proofs.Common.{◌≡◌, ◌≤◌, length, take, drop, ◌++◌, ap, sym, ◌∙◌, arith}
+use Rattle.std.proofs.Common.{◌≡◌, ◌≤◌, ℕ, OnOk, subst, length, take, drop, ◌++◌, ap, sym, ◌∙◌, arith}
 use Rattle.text_model.specs.Texts.{offset, end_coord}
 use Rattle.text_model.proofs.PlaceLemmas.{offset-end}
 use Rattle.line_buffer.proofs.FlatLemmas.{line-le-count, ordered_lines}
@@ -15,7 +15,8 @@ pub returns-then-to-line_count-clause-ok : goal.returns-then-to-line_count-claus
 returns-then-to-line_count-clause-ok c =
     let bottom : c.args.to ≡ end_coord c.args.self.now = end_by_line c.args.self.now c.args.to c.requires.to (omega (arith, c.if-to-line_count.true, c.line_count.ensures.value)) in
     let at : offset c.args.self.now c.args.to ≡ length c.args.self.now = ap (offset c.args.self.now) bottom ∙ offset-end c.args.self.now in
-    c.cut_off.ensures ∙ ap (λ q. take (offset c.args.self.now c.args.from) c.args.self.now ++ drop q c.args.self.now) (sym at)
+    let P : ℕ → Type 0 = λ q. OnOk c.cut_off.result (c.cut_off.new.self ≡ take (offset c.args.self.now c.args.from) c.args.self.now ++ drop q c.args.self.now) in
+    subst P (sym at) c.cut_off.ensures.ok
 
 pub join_lines-requires-clause-ordered : goal.join_lines-requires-clause-ordered
 join_lines-requires-clause-ordered c =

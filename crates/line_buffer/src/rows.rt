@@ -1,0 +1,138 @@
+//! The lines of a text as two rows, with a gap between them where the last change was. They are seen as one list, so
+//! nobody can tell where the gap is. Reading a line moves nothing, and nor does a change within one. Lines that are put
+//! in or taken out move the gap to their place, one step for each line between: changes whose places rise, or fall,
+//! move each line over once.
+
+ghost use Rattle.std.specs.Prelude.{◌≡◌, ◌≢◌, ◌+◌, ◌<◌, ◌≤◌, ◌^◌, ◌++◌, [], length, take, drop, reverse, slice_index_or, slice_set, All, OnOk, OnErr};
+
+use crate::line::Line;
+use std::alloc::{AllocError, Global};
+use std::marker::Model;
+
+/// Lines in order: those before the gap, and those behind it with the last one first.
+#[derive(Drop, Debug)]
+pub struct Rows {
+    front: Vec<Line>,
+    back: Vec<Line>,
+}
+
+impl Model for Rows {
+    ghost use Rattle.std.specs.Prelude.{List, ℕ, ◌++◌, reverse};
+
+    ghost Value = { List (List ℕ) };
+
+    ghost view = { λ a. a.front.items ++ reverse a.back.items };
+}
+
+impl Rows {
+    /// These lines, with the gap behind them; takes no memory.
+    pub fn of_vec(alloc: Global, lines: Vec<Line>) -> Rows
+        ensures { result ≡ lines.items }
+    {
+        Rows {
+            front: lines,
+            back: Vec::new(alloc),
+        }
+    }
+
+    /// How many lines there are.
+    pub fn len(&self) -> usize
+        requires { length self.now < 2 ^ 64 }
+        ensures { result ≡ length self.now }
+    {
+        self.front.len() + self.back.len()
+    }
+
+    /// The n-th line from 0.
+    pub fn line(&self, n: usize) -> &Line
+        requires { n < length self.now }
+        ensures { result.now ≡ slice_index_or self.now n [] }
+    {
+        if n < self.front.len() {
+            return &self.front[n];
+        }
+        &self.back[self.back.len() - 1 - (n - self.front.len())]
+    }
+
+    /// Puts characters that are no newlines into the n-th line at a column; no line is moved.
+    pub fn put_on(&mut self, n: usize, column: usize, chars: &[char]) -> Result<(), AllocError>
+        requires inside { n < length self.old }
+        requires column { column < length (slice_index_or self.old n []) }
+        requires one_line { All (λ c. c ≢ 10) chars.now }
+        ensures ok { OnOk result (self.new ≡ slice_set self.old n (take column (slice_index_or self.old n []) ++ (chars.now ++ drop column (slice_index_or self.old n [])))) }
+        ensures err { OnErr result (self.new ≡ self.old) }
+    {
+        if n < self.front.len() {
+            let line = &mut self.front[n];
+            return line.put(column, chars);
+        }
+        let place = self.back.len() - 1 - (n - self.front.len());
+        let line = &mut self.back[place];
+        line.put(column, chars)
+    }
+
+    /// Takes the characters of the n-th line from a column to before another out; no line is moved, and it takes no memory.
+    pub fn cut_on(&mut self, n: usize, from: usize, to: usize)
+        requires inside { n < length self.old }
+        requires ordered { from ≤ to }
+        requires column { to < length (slice_index_or self.old n []) }
+        ensures { self.new ≡ slice_set self.old n (take from (slice_index_or self.old n []) ++ drop to (slice_index_or self.old n [])) }
+    {
+        if n < self.front.len() {
+            let line = &mut self.front[n];
+            line.cut(from, to);
+            return;
+        }
+        let place = self.back.len() - 1 - (n - self.front.len());
+        let line = &mut self.back[place];
+        line.cut(from, to);
+    }
+
+    /// Puts lines in the place of those from one to before another. It costs these, and the lines between their place and
+    /// that of the change before. After an error the lines are as they were.
+    pub fn replace(
+        &mut self,
+        from: usize,
+        to: usize,
+        mut fresh: Vec<Line>,
+    ) -> Result<(), AllocError>
+        requires ordered { from ≤ to }
+        requires inside { to ≤ length self.old }
+        ensures ok { OnOk result (self.new ≡ take from self.old ++ (fresh.items ++ drop to self.old)) }
+        ensures err { OnErr result (self.new ≡ self.old) }
+    {
+        move_gap(&mut self.front, &mut self.back, from)?;
+        self.front.append(&mut fresh)?;
+        let left = self.back.len() - (to - from);
+        self.back.truncate(left);
+        Ok(())
+    }
+}
+
+// Moves the gap to before a line, which nobody sees.
+fn move_gap(front: &mut Vec<Line>, back: &mut Vec<Line>, to: usize) -> Result<(), AllocError>
+    requires { to ≤ length front.old.items + length back.old.items }
+    ensures same { front.new.items ++ reverse back.new.items ≡ front.old.items ++ reverse back.old.items }
+    ensures moved { OnOk result (length front.new.items ≡ to) }
+{
+    if to <= front.len() {
+        return pour(front, back, to);
+    }
+    let left = back.len() - (to - front.len());
+    pour(back, front, left)
+}
+
+// Moves lines from the end of one row to that of another, the last one first, until so many are left. Room for them is
+// made before.
+fn pour(from: &mut Vec<Line>, onto: &mut Vec<Line>, left: usize) -> Result<(), AllocError>
+    requires { left ≤ length from.old.items }
+    ensures same { from.new.items ++ reverse onto.new.items ≡ from.old.items ++ reverse onto.old.items }
+    ensures moved { OnOk result (length from.new.items ≡ left) }
+{
+    let more = from.len() - left;
+    onto.reserve(more)?;
+    for _ in 0..more {
+        onto.push_reserved(from.pop().unwrap());
+    }
+    Ok(())
+}
