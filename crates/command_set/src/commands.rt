@@ -1,7 +1,7 @@
 //! The rows of commands.
 
 ghost use Rattle.std.specs.Prelude.{◌≡◌, true};
-ghost use Rattle.kak_world.specs.Flat.{is_joined};
+ghost use Rattle.kak_world.specs.Flat.{is_joined, units_of};
 ghost use Rattle.kak_world.specs.Rows.{Gives};
 ghost use Rattle.command_set.specs.Rows.{is_quit, row_command};
 
@@ -21,8 +21,7 @@ fn is_quit(text: &[char]) -> bool
 pub fn command(alloc: Global, world: &mut World, who: u32, text: &[char]) -> Result<Ask, EditError>
     requires { is_joined who world.old.flat ≡ true }
     ensures row { Gives result world.new.flat (row_command text.now who world.old.flat) }
-    ensures stays { is_joined who world.new.flat ≡ true }
-    ensures units { world.new.flat.units ≡ world.old.flat.units }
+    ensures units { units_of world.new.flat ≡ units_of world.old.flat }
 {
     if is_quit(text) {
         return Ok(Ask::Leave);

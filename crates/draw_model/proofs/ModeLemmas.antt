@@ -1,4 +1,4 @@
--- The text of the mode line is ASCII.
+-- What the mode line says behind the buffer's name is ASCII.
 use Rattle.std.proofs.Common.{◌≡◌, ℕ, ◌+◌, ◌<◌, ◌^◌, Bool, true, false, ◌&&◌, List, [], ◌∷◌, ◌++◌, length, refl, sym, ap, ap₂, subst, ◌∙◌, codes}
 use Rattle.std.specs.Prelude.{decimal, nat_lt, chars}
 use borrow.Author.Tests.{ltb-true}
@@ -8,9 +8,9 @@ use Rattle.std.proofs.lemmas.Str.Ascii.{IsAscii-nil, IsAscii-cons}
 use Rattle.std.proofs.lemmas.Fmt.{IsAscii-decimal}
 use Rattle.text_model.specs.declared.coords.Coord.{Coord}
 use Rattle.list_model.specs.Ranges.{Selected}
-use Rattle.kak_world.specs.declared.state.Mode.{Mode}
-use Rattle.kak_world.specs.declared.state.Mode.TheVariants.{Normal, Insert, Prompt}
-use Rattle.draw_model.specs.Drawings.{mode_name, mode_text}
+use Rattle.kak_world.specs.declared.own.Mode.{Mode}
+use Rattle.kak_world.specs.declared.own.Mode.TheVariants.{Normal, Insert, Prompt}
+use Rattle.draw_model.specs.Drawings.{mode_name, place_text}
 
 abbrev all_ascii : List ℕ → Bool
 all_ascii [] = true
@@ -33,10 +33,10 @@ name_is_ascii Normal = tested (codes "normal") refl
 name_is_ascii Insert = tested (codes "insert") refl
 name_is_ascii Prompt = tested (codes "prompt") refl
 
--- the text of the mode line, as it is written
+-- what the mode line says behind the name, as it is written
 abbrev pub written : ℕ → ℕ → List ℕ → ℕ → ℕ → ℕ → List ℕ
 written line column word nth count number =
-    codes "*scratch* " ++ (decimal (line + 1) ++ (codes ":" ++ (decimal (column + 1) ++ (codes " " ++ (word ++ (codes " "
+    codes " " ++ (decimal (line + 1) ++ (codes ":" ++ (decimal (column + 1) ++ (codes " " ++ (word ++ (codes " "
     ++ (decimal (nth + 1) ++ (codes "/" ++ (decimal count ++ (codes " - client" ++ decimal number))))))))))
 
 written_is_ascii : (line column nth count number : ℕ) (mode : Mode) → line + 1 < 2 ^ 64 → column + 1 < 2 ^ 64 → nth + 1 < 2 ^ 64 → count < 2 ^ 64 → number < 2 ^ 64
@@ -47,7 +47,7 @@ written_is_ascii line column nth count number mode h k m n l =
     let nths : List ℕ = codes " " ++ (decimal (nth + 1) ++ counted) in
     let named : List ℕ = codes " " ++ (mode_name mode ++ nths) in
     let placed : List ℕ = codes ":" ++ (decimal (column + 1) ++ named) in
-    IsAscii-append (codes "*scratch* ") (decimal (line + 1) ++ placed) (tested (codes "*scratch* ") refl)
+    IsAscii-append (codes " ") (decimal (line + 1) ++ placed) (tested (codes " ") refl)
     (IsAscii-append (decimal (line + 1)) placed (IsAscii-decimal (line + 1) h)
     (IsAscii-append (codes ":") (decimal (column + 1) ++ named) (tested (codes ":") refl)
     (IsAscii-append (decimal (column + 1)) named (IsAscii-decimal (column + 1) k)
@@ -61,13 +61,13 @@ written_is_ascii line column nth count number mode h k m n l =
 
 -- it says of a list what is to be said
 written-is : (at : Coord) (mode : Mode) (sels : Selected) (nth count number : ℕ) → sels.main ≡ nth → length sels.list ≡ count
-    → written at.line at.column (mode_name mode) nth count number ≡ mode_text at mode sels number
+    → written at.line at.column (mode_name mode) nth count number ≡ place_text at mode sels number
 written-is at mode sels nth count number m n = ap₂ (λ a b. written at.line at.column (mode_name mode) a b number) (sym m) (sym n)
 
 -- the characters that are read from it
 pub mode-chars : (at : Coord) (mode : Mode) (sels : Selected) (line column nth count number : ℕ) (word bytes text : List ℕ) → line ≡ at.line → column ≡ at.column → word ≡ mode_name mode
     → line + 1 < 2 ^ 64 → column + 1 < 2 ^ 64 → nth + 1 < 2 ^ 64 → count < 2 ^ 64 → number < 2 ^ 64 → bytes ≡ written line column word nth count number → text ≡ chars bytes
-    → sels.main ≡ nth → length sels.list ≡ count → text ≡ mode_text at mode sels number
+    → sels.main ≡ nth → length sels.list ≡ count → text ≡ place_text at mode sels number
 mode-chars at mode sels line column nth count number word bytes text el ek ew h k a c l b t m n =
     let same : bytes ≡ written line column (mode_name mode) nth count number = b ∙ ap (λ w. written line column w nth count number) ew in
     let P : List ℕ → Type 0 = λ s. IsAscii s in

@@ -4,9 +4,9 @@ use Rattle.kak_faces.specs.declared.face.Face.{Face}
 use Rattle.kak_faces.specs.declared.standard.StandardFace.TheVariants as name
 use Rattle.kak_faces.specs.Standard.{standard_face}
 use Rattle.json_writing.specs.declared.drawing.Atom.{Atom}
-use Rattle.draw_model.specs.Atoms.{shown_in, with_shown, with_all_shown, atoms_of}
+use Rattle.line_painting.specs.Atoms.{shown_in, with_shown, with_all_shown, atoms_of}
 use Rattle.draw_model.specs.Drawings.{prompt_shown}
-use Rattle.draw_model.proofs.AtomLemmas.{three_steps}
+use Rattle.line_painting.proofs.AtomLemmas.{three_steps}
 
 -- a prompt's three parts
 pub prompt-drawn : (none first second third : List Atom) (f g h : Face) (typed : List ℕ) → f ≡ standard_face name.Prompt → g ≡ standard_face name.StatusLine → h ≡ standard_face name.StatusCursor

@@ -1,17 +1,17 @@
 //! What a client is shown.
 
-ghost use Rattle.std.specs.Prelude.{◌≡◌, ◌+◌, ◌<◌, ◌^◌, true, IfOk};
+ghost use Rattle.std.specs.Prelude.{◌≡◌, ◌+◌, ◌<◌, ◌≤◌, ◌^◌, true, IfOk};
 ghost use Rattle.text_model.specs.Texts.{IsPlace};
 ghost use Rattle.window_view.specs.Views.{view_of as window_seen};
-ghost use Rattle.kak_world.specs.Flat.{is_joined, text_of, sels_of};
+ghost use Rattle.kak_world.specs.Flat.{is_joined, text_of, sels_of, tabstop_of};
 ghost use Rattle.draw_model.specs.Drawings.{main_cursor, main_column, main_cells, prompt_column, cursor_drawn, drawing_of, after_following};
 
 use crate::status::{draw_mode, draw_status};
-use crate::window_lines::draw_lines;
 use json_writing::{Cursor, Drawing, Info};
 use kak_faces::StandardFace;
-use kak_text::{Coord, cells};
-use kak_world::{Mode, TABSTOP, World};
+use kak_text::{Coord, MAX_TABSTOP, cells};
+use kak_world::{Mode, World};
+use line_painting::draw_lines;
 use std::alloc::{AllocError, Global};
 use window_view::{Window, cell_of};
 
@@ -37,30 +37,33 @@ fn cursor_at(world: &World, who: u32) -> Coord
 fn find_cursor(world: &World, who: u32) -> MainCursor
     requires { is_joined who world.now.flat ≡ true }
     ensures at { result.at ≡ main_cursor (text_of who world.now.flat) (sels_of who world.now.flat) }
-    ensures column { result.column ≡ main_column (text_of who world.now.flat) (sels_of who world.now.flat) }
-    ensures cells { result.cells ≡ main_cells (text_of who world.now.flat) (sels_of who world.now.flat) }
+    ensures column { result.column ≡ main_column (tabstop_of who world.now.flat) (text_of who world.now.flat) (sels_of who world.now.flat) }
+    ensures cells { result.cells ≡ main_cells (tabstop_of who world.now.flat) (text_of who world.now.flat) (sels_of who world.now.flat) }
     ensures small { result.column + result.cells < 2 ^ 32 }
 {
     let at = cursor_at(world, who);
     let line = world.lines(who).line(at.line as usize);
-    let column = cell_of(line, at.column as usize, TABSTOP);
+    let tabstop = world.tabstop(who);
+    let column = cell_of(line, at.column as usize, tabstop);
     MainCursor {
         at,
         column,
-        cells: cells(line[at.column as usize], column, TABSTOP),
+        cells: cells(line[at.column as usize], column, tabstop),
     }
 }
 
 // How many cells stand before the cursor of a prompt. 2^31 and more count as want of memory.
-fn prompt_cursor(typed: &[char]) -> Result<u32, AllocError>
-    ensures { IfOk result (λ column. column ≡ prompt_column typed.now) }
+fn prompt_cursor(typed: &[char], tabstop: u32) -> Result<u32, AllocError>
+    requires some { 1 ≤ tabstop }
+    requires few { tabstop ≤ MAX_TABSTOP }
+    ensures { IfOk result (λ column. column ≡ prompt_column tabstop typed.now) }
 {
     let mut column = 1;
     for c in typed {
         if column >= 1 << 31 {
             return Err(AllocError);
         }
-        column += cells(*c, column, TABSTOP);
+        column += cells(*c, column, tabstop);
     }
     Ok(column)
 }
@@ -71,14 +74,17 @@ fn cursor_of(
     main: MainCursor,
     window: Window,
     typed: &[char],
+    tabstop: u32,
 ) -> Result<Cursor, AllocError>
-    ensures { IfOk result (λ cursor. cursor ≡ cursor_drawn mode main.at.line main.column (window_seen window) typed.now) }
+    requires some { 1 ≤ tabstop }
+    requires few { tabstop ≤ MAX_TABSTOP }
+    ensures { IfOk result (λ cursor. cursor ≡ cursor_drawn tabstop mode main.at.line main.column (window_seen window) typed.now) }
 {
     match mode {
         Mode::Prompt => Ok(Cursor {
             prompt: true,
             line: 0,
-            column: prompt_cursor(typed)?,
+            column: prompt_cursor(typed, tabstop)?,
         }),
         Mode::Normal | Mode::Insert => Ok(Cursor {
             prompt: false,
@@ -98,24 +104,25 @@ pub fn draw(alloc: Global, world: &World, who: u32) -> Result<Drawing, AllocErro
     let sels = world.sels(who);
     let main = find_cursor(world, who);
     let window = world.window(who);
-    let mode = world.mode(who);
-    let typed = world.prompt(who);
+    let tabstop = world.tabstop(who);
+    let own = world.own(who);
+    let typed = own.prompt.as_slice();
     Ok(Drawing {
-        first: !world.is_drawn(who),
-        lines: draw_lines(alloc, world.lines(who), window, sels)?,
+        first: !own.drawn,
+        lines: draw_lines(alloc, world.lines(who), window, tabstop, sels)?,
         default_face: StandardFace::Default.face(),
         padding_face: StandardFace::BufferPadding.face(),
-        status: draw_status(alloc, mode, world.status(who), typed)?,
+        status: draw_status(alloc, own.mode, &own.status, typed)?,
         mode_line: draw_mode(
             alloc,
+            world.buffer_name(who),
             main.at,
-            mode,
-            sels.main(),
-            sels.len(),
+            own.mode,
+            sels,
             world.number(who),
         )?,
         status_face: StandardFace::StatusLine.face(),
-        cursor: cursor_of(mode, main, window, typed)?,
+        cursor: cursor_of(own.mode, main, window, typed, tabstop)?,
         info: Info::Keep,
     })
 }
@@ -123,8 +130,7 @@ pub fn draw(alloc: Global, world: &World, who: u32) -> Result<Drawing, AllocErro
 /// Lets a client's window follow its main cursor, by the least amount.
 pub fn follow_cursor(world: &mut World, who: u32)
     requires { is_joined who world.old.flat ≡ true }
-    ensures follows { world.new.flat ≡ after_following who world.old.flat }
-    ensures stays { is_joined who world.new.flat ≡ true }
+    ensures { world.new.flat ≡ after_following who world.old.flat }
 {
     let main = find_cursor(world, who);
     world.follow(who, main.at.line, main.column, main.cells, 0);

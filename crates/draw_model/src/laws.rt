@@ -1,31 +1,6 @@
-//! The laws, and the worked examples of the definitions.
+//! The worked examples of the definitions.
 
-ghost use Rattle.std.specs.Prelude.{◌≡◌, List};
-ghost use Rattle.draw_model.specs.Atoms.{Shown, atoms_of};
-ghost use Rattle.draw_model.specs.Laws.{spelled, AreRuns, PlainLinesAreCut, AsciiIsPlain, WindowsShowCells};
 ghost use Rattle.draw_model.specs.Examples.{Examples};
-
-/// The atoms of characters, spelled out again, are these characters; no atom is empty, and neighbours have different
-/// faces. The function does nothing; its clauses are the laws.
-pub fn atoms_are_runs()
-    ensures same { (shown : List Shown) → spelled (atoms_of shown) ≡ shown }
-    ensures runs { (shown : List Shown) → AreRuns (atoms_of shown) }
-{}
-
-/// Of a line of characters that have one cell each and are drawn as themselves, a window shows as many as it has
-/// columns, from its first column on; the printable characters of ASCII and the newline are such. The function does
-/// nothing; its clauses are the laws.
-pub fn plain_lines_are_cut()
-    ensures cut { PlainLinesAreCut }
-    ensures ascii { AsciiIsPlain }
-{}
-
-/// Of any line, each cell of a window shows the character that holds it, in its face, or a space where an edge of the
-/// window cuts that character, and there are no more cells; the characters without cells that begin in the window are
-/// shown there, in their order, and no others. The function does nothing; its clause is the law.
-pub fn windows_show_cells()
-    ensures { WindowsShowCells }
-{}
 
 /// Drawings of given worlds. The function does nothing; its clause is the table.
 pub fn worked_examples()

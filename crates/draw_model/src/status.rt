@@ -2,16 +2,15 @@
 
 ghost use Rattle.std.specs.Prelude.{◌≡◌, ℕ, ◌<◌, length, codes, IfOk};
 ghost use Rattle.list_model.specs.Ranges.{Selected};
-ghost use Rattle.kak_faces.specs.declared.standard.StandardFace.TheVariants as name;
-ghost use Rattle.kak_faces.specs.Standard.{standard_face};
-ghost use Rattle.draw_model.specs.Atoms.{shown_in, atoms_of};
-ghost use Rattle.draw_model.specs.Drawings.{status_shown, prompt_shown, status_line, mode_name, mode_text};
+ghost use Rattle.line_painting.specs.Atoms.{shown_in, atoms_of};
+ghost use Rattle.draw_model.specs.Drawings.{status_shown, prompt_shown, status_line, mode_name, place_text, IsModeLine};
 
-use crate::atoms::{push_run, push_shown};
 use json_writing::{Atoms, DrawnLine};
 use kak_faces::{Face, StandardFace};
 use kak_text::{Chars, Coord};
 use kak_world::{Mode, Status};
+use line_painting::{push_run, push_shown};
+use selection_set::Sels;
 use std::alloc::{AllocError, Global};
 
 // A line of characters in one face.
@@ -77,8 +76,8 @@ fn name_of(mode: Mode) -> &'static str
     }
 }
 
-// The text of the mode line, of the place of the main selection and how many there are.
-fn mode_chars(
+// What the mode line says behind the buffer's name, of the place of the main selection and how many there are.
+fn place_chars(
     alloc: Global,
     at: Coord,
     mode: Mode,
@@ -87,32 +86,31 @@ fn mode_chars(
     number: u32,
 ) -> Result<Chars, AllocError>
     requires { main < count }
-    ensures { IfOk result (λ text. (sels : Selected) → sels.main ≡ main → length sels.list ≡ count → text ≡ mode_text at mode sels number) }
+    ensures { IfOk result (λ text. (sels : Selected) → sels.main ≡ main → length sels.list ≡ count → text ≡ place_text at mode sels number) }
 {
     let line = u64::from(at.line) + 1;
     let column = u64::from(at.column) + 1;
     let name = name_of(mode);
     let nth = main as u64 + 1;
     let count = count as u64;
-    let text = format!(in alloc;
-        "*scratch* {line}:{column} {name} {nth}/{count} - client{number}"
-    )?;
+    let text = format!(in alloc; " {line}:{column} {name} {nth}/{count} - client{number}")?;
     Chars::from_str(alloc, text.as_str())
 }
 
-/// Draws the mode line: the coordinate of the main cursor, the mode, the place of the main selection and how many there
-/// are, and the number in the client's name.
+/// Draws the mode line: the buffer's name, the coordinate of the main cursor, the mode, the place of the main selection
+/// and how many there are, and the number in the client's name.
 pub fn draw_mode(
     alloc: Global,
+    buffer: &[char],
     at: Coord,
     mode: Mode,
-    main: usize,
-    count: usize,
+    sels: &Sels,
     number: u32,
 ) -> Result<DrawnLine, AllocError>
-    requires { main < count }
-    ensures { IfOk result (λ line. (sels : Selected) → sels.main ≡ main → length sels.list ≡ count → line ≡ record { atoms = atoms_of (shown_in (standard_face name.StatusLine) (mode_text at mode sels number)) }) }
+    ensures { IfOk result (IsModeLine buffer.now at mode sels.now.main (length sels.now.list) number) }
 {
-    let text = mode_chars(alloc, at, mode, main, count, number)?;
+    let place = place_chars(alloc, at, mode, sels.main(), sels.len(), number)?;
+    let mut text = Chars::from_slice(alloc, buffer)?;
+    text.extend_from_slice(place.as_slice())?;
     run_line(alloc, text.as_slice(), StandardFace::StatusLine.face())
 }

@@ -1,1 +1,1 @@
-pub mod TypedLemmas
+pub mod KeepingLaws

@@ -7,10 +7,10 @@ use Rattle.key_names.specs.Modified.{is_modified}
 use Rattle.text_model.specs.declared.TheConstants.{MAX_CHARS}
 use Rattle.kak_world.specs.declared.ask.Ask.TheVariants.{Commands}
 use Rattle.kak_world.specs.declared.ask.EditError.TheVariants.{TextFull}
-use Rattle.kak_world.specs.declared.state.Mode.TheVariants.{Normal}
-use Rattle.kak_world.specs.Flat.{Flat, text_of, sels_of, prompt_of, with_mode, with_prompt}
+use Rattle.kak_world.specs.declared.own.Mode.TheVariants.{Normal}
+use Rattle.kak_world.specs.Flat.{Flat, text_of, sels_of, prompt_of, with_own}
 use Rattle.kak_world.specs.Changing.{put_before_cursors}
-use Rattle.kak_world.specs.Rows.{RowEnd, Asks, Fails, error_text, does}
+use Rattle.kak_world.specs.Rows.{RowEnd, Asks, does, fails}
 
 -- whether a text has no room for characters before each cursor
 abbrev pub is_full : List ℕ → ℕ → Flat → Bool
@@ -18,10 +18,11 @@ is_full s who flat = nat_lt MAX_CHARS (length (text_of who flat) + length (sels_
 
 -- characters go in before each cursor
 abbrev pub typed : List ℕ → ℕ → Flat → RowEnd
-typed s who flat =
-    if is_full s who flat
-    then record { world = flat; row = Fails (error_text TextFull) }
-    else does (put_before_cursors s (sels_of who flat) flat)
+typed s who flat = if is_full s who flat then fails TextFull flat else does (put_before_cursors s who flat)
+
+-- the client is in normal mode
+abbrev pub leave_insert : ℕ → Flat → Flat
+leave_insert who flat = with_own who (λ o. record o { mode = Normal }) flat
 
 -- the row of a key without modifiers in insert mode: a character goes in as itself, return as a newline (10), tab as a
 -- tab (9)
@@ -29,7 +30,7 @@ abbrev pub insert_base : Base → ℕ → Flat → RowEnd
 insert_base (Char c) who flat = typed (c ∷ []) who flat
 insert_base Ret who flat = typed (10 ∷ []) who flat
 insert_base Tab who flat = typed (9 ∷ []) who flat
-insert_base Esc who flat = does (with_mode who Normal flat)
+insert_base Esc who flat = does (leave_insert who flat)
 insert_base _ who flat = does flat
 
 -- the row of a key in insert mode; a key without a row does nothing
@@ -38,11 +39,11 @@ row_insert key who flat = if is_modified key then does flat else insert_base key
 
 -- a character goes in at the end of the prompt
 abbrev pub prompt_character : ℕ → ℕ → Flat → RowEnd
-prompt_character c who flat = does (with_prompt who (prompt_of who flat ++ c ∷ []) flat)
+prompt_character c who flat = does (with_own who (λ o. record o { prompt = o.prompt ++ c ∷ [] }) flat)
 
 -- the prompt is left, and is empty
 abbrev pub leave_prompt : ℕ → Flat → Flat
-leave_prompt who flat = with_mode who Normal (with_prompt who [] flat)
+leave_prompt who flat = with_own who (λ o. record o { mode = Normal; prompt = [] }) flat
 
 -- the row of a key without modifiers in a prompt: what was typed is run as commands, or left
 abbrev pub prompt_base : Base → ℕ → Flat → RowEnd

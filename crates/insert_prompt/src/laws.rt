@@ -1,8 +1,15 @@
-//! Worked examples of the definitions.
+//! Laws of the rows, and worked examples of the definitions: each is the contract of a function that does nothing.
 
 ghost use Rattle.insert_prompt.specs.Examples.{Examples};
+ghost use Rattle.insert_prompt.specs.Laws.{RowsKeepClients};
+
+/// No key of insert mode or of a prompt makes a client come or go.
+pub fn rows_keep_clients()
+    ensures { RowsKeepClients }
+{}
 
 /// Worked examples of the rows.
+#[tactic(auto, unfolding(kak_world::specs::Flat::client_of, kak_world::specs::Flat::shown_of, kak_world::specs::Flat::buffer_of, kak_world::specs::Flat::list_of, kak_world::specs::Flat::own_of, kak_world::specs::Flat::text_of, kak_world::specs::Flat::sels_of, kak_world::specs::Flat::with_own, kak_world::specs::Changing::changed_in, kak_world::specs::Changing::put_before_cursors))]
 pub fn worked_examples()
     ensures { Examples }
 {}

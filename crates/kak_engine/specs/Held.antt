@@ -1,10 +1,7 @@
 -- What an engine holds, and which events it refuses.
-use Rattle.std.specs.Prelude.{◌≡◌, ◌≤◌, ◌<◌, ◌+◌, ℕ, Bool, true, not, ◌&&◌, nat_le, if◌then◌else◌, List, [], length, None, Some, Err}
-use Rattle.std.specs.List.{AllByRecursion}
+use Rattle.std.specs.Prelude.{◌≡◌, ◌≤◌, ◌<◌, ◌+◌, ℕ, true, false, not, ◌&&◌, nat_le, if◌then◌else◌, List, length, None, Some, Err}
 use Rattle.std.specs.declared.option.Option.{Option}
 use Rattle.std.specs.declared.result.Result.{Result}
-use Rattle.list_model.specs.Ranges.{Selected}
-use Rattle.list_model.specs.Settled.{IsSettledList}
 use Rattle.session_events.specs.declared.event.Event.{Event}
 use Rattle.session_events.specs.declared.event.Event.TheVariants.{Join}
 use Rattle.session_events.specs.declared.event.Entry.{Entry}
@@ -13,7 +10,8 @@ use Rattle.session_events.specs.declared.fault.StepFault.{StepFault}
 use Rattle.session_events.specs.declared.fault.StepFault.TheVariants.{Broken, NoClient, Joined, HistoryFull, Full, NoMemory}
 use Rattle.session_events.specs.Entries.{is_join, is_leave}
 use Rattle.session_events.specs.Legal.{Away, presence_from, is_here, IsLegal}
-use Rattle.kak_world.specs.Flat.{Flat, is_joined, sels_of, text_of}
+use Rattle.kak_world.specs.declared.world.TheConstants.{MAX_CLIENTS}
+use Rattle.kak_world.specs.Flat.{Flat, is_here as is_among, is_joined}
 use Rattle.kak_engine.specs.Steps.{run, has_joined, is_full}
 
 -- an engine: its history, the number of entries that stood when it broke, if it did, and how many it may have
@@ -22,22 +20,18 @@ pub record Held : Type 0 where
   pub mark : Option ℕ
   pub limit : ℕ
 
--- An engine that isn't broken has the world that its history leads to, in which those clients are that have come and not
--- gone, and one at most. Its history is one that there can be.
+-- An engine that isn't broken has the world that its history leads to, in which those clients are, and have joined, that
+-- have come and not gone, and no more than there may be. Its history is one that there can be.
 pub record Stands (flat : Flat) (history : List Entry) (mark : Option ℕ) (limit : ℕ) : Type 0 where
   pub world : mark ≡ None → flat ≡ run history
   pub known : mark ≡ None → (who : ℕ) → is_joined who flat ≡ is_here (presence_from who Away history)
-  pub few : mark ≡ None → length flat.clients ≤ 1
+  pub here : mark ≡ None → (who : ℕ) → is_among who flat.clients ≡ is_here (presence_from who Away history)
+  pub few : mark ≡ None → length flat.clients ≤ MAX_CLIENTS
   pub legal : IsLegal limit history
 
 -- a place is kept for the going of each client that is here, in a history of so many entries, with room for so many
 abbrev pub KeepsPlaces : Option ℕ → Flat → ℕ → ℕ → Type 0
 KeepsPlaces mark flat count room = mark ≡ None → count + length flat.clients ≤ room
-
--- a client's list is settled, and lies inside the text that it sees
-pub record HasSettledList (who : ℕ) (flat : Flat) : Type 0 where
-  pub settled : IsSettledList (sels_of who flat)
-  pub inside : AllByRecursion (λ range. range.high < length (text_of who flat)) (sels_of who flat).list
 
 -- why an event of a client is refused by an engine that isn't broken: the first reason that holds
 abbrev pub refused_by : List Entry → ℕ → ℕ → Event → Option StepFault
@@ -65,7 +59,12 @@ abbrev pub marked_after : Result Output StepFault → Held → Option ℕ
 marked_after (Err NoMemory) held = marked_by held.mark (length held.history)
 marked_after _ held = held.mark
 
--- an event can be run: a client joins where none is there, and all other events are of one that is
+-- a client may come: it isn't here, and there are fewer clients than there may be
+pub record CanCome (who : ℕ) (flat : Flat) : Type 0 where
+  pub away : is_among who flat.clients ≡ false
+  pub few : length flat.clients < MAX_CLIENTS
+
+-- an event can be run: who joins may come, and all other events are of one that is there
 abbrev pub CanRun : Event → ℕ → Flat → Type 0
-CanRun Join who flat = flat.clients ≡ []
+CanRun Join who flat = CanCome who flat
 CanRun _ who flat = is_joined who flat ≡ true

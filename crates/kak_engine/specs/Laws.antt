@@ -1,8 +1,22 @@
 -- Laws of the definitions, each proved as the contract of a function of `laws`.
-use Rattle.std.specs.Prelude.{◌≡◌, ℕ, ◌<◌}
+use Rattle.std.specs.Prelude.{◌≡◌, ◌≢◌, ℕ, ◌<◌, List}
+use Rattle.key_names.specs.declared.key.Key.{Key}
+use Rattle.kak_world.specs.Flat.{Flat, is_joined, units_of}
+use Rattle.kak_world.specs.Keeping.{KeepsClients}
 use Rattle.kak_world.specs.Rows.{Row}
+use Rattle.session_events.specs.declared.event.Event.{Event}
+use Rattle.session_events.specs.declared.event.Answered.{Answered}
 use Rattle.kak_engine.specs.Doing.{Moment, Place, do_within, Do}
+use Rattle.kak_engine.specs.Steps.{after_event, after_key}
 
 -- with a bound above the units that are left, a row is done as deep as it goes: only want of units gives a step up
 abbrev pub BoundEndsNoStep : Type 0
-BoundEndsNoStep = (n who : ℕ) (p : Place) (row : Row) (m : Moment) → m.world.units < n → do_within n who p row m ≡ Do who p row m
+BoundEndsNoStep = (n who : ℕ) (p : Place) (row : Row) (m : Moment) → units_of m.world < n → do_within n who p row m ≡ Do who p row m
+
+-- no key makes a client come or go, its own or another one
+abbrev pub KeysKeepClients : Type 0
+KeysKeepClients = (who : ℕ) (key : Key) (answers : List Answered) (flat : Flat) → KeepsClients flat (after_key who key answers flat)
+
+-- no event of a client makes another one come or go
+abbrev pub OthersStay : Type 0
+OthersStay = (who k : ℕ) (event : Event) (answers : List Answered) (flat : Flat) → who ≢ k → is_joined k (after_event who event answers flat) ≡ is_joined k flat

@@ -2,8 +2,9 @@
 use Rattle.std.specs.Prelude.{ℕ, Bool, true, false, not, ◌&&◌, ◌==◌, nat_le, if◌then◌else◌, List, [], ◌∷◌, length, None, Some}
 use Rattle.std.specs.List.{list_any}
 use Rattle.key_names.specs.declared.key.Key.{Key}
-use Rattle.kak_world.specs.declared.state.Status.TheVariants.{Quiet, Refused}
-use Rattle.kak_world.specs.Flat.{Flat, opening, is_joined, joined_by, left_by, is_leaving, with_status, with_units, with_drawn}
+use Rattle.kak_world.specs.declared.own.Status.TheVariants.{Quiet, Refused}
+use Rattle.kak_world.specs.declared.world.TheConstants.{MAX_CLIENTS}
+use Rattle.kak_world.specs.Flat.{Flat, opening, is_joined, joined_by, left_by, is_leaving, with_own, with_units}
 use Rattle.draw_model.specs.Drawings.{drawing_of, after_following}
 use Rattle.session_events.specs.declared.event.Event.{Event}
 use Rattle.session_events.specs.declared.event.Event.TheVariants.{Join, Key as Struck, Refresh, Leave}
@@ -13,15 +14,19 @@ use Rattle.session_events.specs.declared.event.Output.{Output}
 use Rattle.session_events.specs.Entries.{is_join}
 use Rattle.kak_engine.specs.Doing.{End, Fine, Failed, GivenUp, Moment, Outcome, strike}
 
+-- a client is told why its key was refused
+abbrev pub refused : ℕ → List ℕ → Flat → Flat
+refused who text flat = with_own who (λ o. record o { status = Refused text }) flat
+
 -- a client's status after its key: what went wrong, if anything did
 abbrev pub told : ℕ → End → Flat → Flat
 told who Fine flat = flat
-told who (Failed text) flat = with_status who (Refused text) flat
-told who (GivenUp text) flat = with_status who (Refused text) flat
+told who (Failed text) flat = refused who text flat
+told who (GivenUp text) flat = refused who text flat
 
 -- the world when a key begins: its client has no status, and the step has 4,096 units
 abbrev pub begun : ℕ → Flat → Flat
-begun who flat = with_units 4096 (with_status who Quiet flat)
+begun who flat = with_units 4096 (with_own who (λ o. record o { status = Quiet }) flat)
 
 -- the moment when a key begins
 abbrev pub first_moment : ℕ → Flat → List Answered → Moment
@@ -36,11 +41,15 @@ unfoldable pub after_key : ℕ → Key → List Answered → Flat → Flat
 after_key who key answers flat =
     if is_leaving who flat then flat else ended who (strike who (record { depth = 0 }) key (first_moment who flat answers))
 
+-- a client was drawn
+abbrev pub noted_drawn : ℕ → Flat → Flat
+noted_drawn who flat = with_own who (λ o. record o { drawn = true }) flat
+
 -- the world after an event of a client
 abbrev pub after_event : ℕ → Event → List Answered → Flat → Flat
 after_event who Join answers flat = joined_by who flat
 after_event who (Struck key) answers flat = after_key who key answers flat
-after_event who (Refresh asked) answers flat = with_drawn who (after_following who flat)
+after_event who (Refresh asked) answers flat = noted_drawn who (after_following who flat)
 after_event who Leave answers flat = left_by who flat
 
 -- what an event gives its client: a drawing where it is a refresh, and whether the client may leave from now on
@@ -69,9 +78,9 @@ is_join_of who entry = entry.who == who && is_join entry.event
 abbrev pub has_joined : ℕ → List Entry → Bool
 has_joined who history = list_any (is_join_of who) history
 
--- whether no further client may join: for now one is all there may be
+-- whether no further client may join
 abbrev pub is_full : Flat → Bool
-is_full flat = nat_le 1 (length flat.clients)
+is_full flat = nat_le MAX_CLIENTS (length flat.clients)
 
 -- what an entry gives its client, behind the entries before it
 abbrev pub given_by : List Entry → Entry → Output

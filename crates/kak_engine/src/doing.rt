@@ -1,9 +1,10 @@
 //! Keys and commands, and what they ask for.
+#![tactic(auto, using(kak_world::proofs::WorldLaws::world_laws))]
 
-ghost use Rattle.std.specs.Prelude.{◌≡◌, true, IfOk, IsErr};
+ghost use Rattle.std.specs.Prelude.{◌≡◌, true, IfOk, IsErr, OnOk};
 ghost use Rattle.kak_world.specs.Flat.{Flat, is_joined};
-ghost use Rattle.kak_world.specs.Rows.{Gives, RowEnd, Asks, error_text};
-ghost use Rattle.kak_engine.specs.Doing.{Do, strike as strike_part, row_key, run_text, go_on as row_and_rest};
+ghost use Rattle.kak_world.specs.Rows.{Gives, RowEnd, Asks};
+ghost use Rattle.kak_engine.specs.Doing.{Do, strike as strike_part, granted, row_key, run_text, go_on as row_and_rest};
 ghost use Rattle.kak_engine.specs.Seen.{Ends, end_seen, end_of, top};
 
 use command_set::command;
@@ -25,32 +26,13 @@ pub enum Ending {
     GivenUp,
 }
 
-// The status text of a refusal; want of memory has none.
-fn text_of(alloc: Global, error: EditError) -> Result<Chars, AllocError>
-    ensures text { IfOk result (λ text. text ≡ error_text error) }
-    ensures memory { error ≡ EditError.NoMemory → IsErr result }
-{
-    match error {
-        EditError::TextFull => Chars::from_str(alloc, "text is full"),
-        EditError::NothingSelected => Chars::from_str(alloc, "nothing selected"),
-        EditError::TooManySelections => Chars::from_str(alloc, "too many selections"),
-        EditError::BudgetSpent => Chars::from_str(alloc, "given up: budget spent"),
-        EditError::NoSuchCommand(name) => {
-            let mut text = Chars::from_str(alloc, "no such command: ")?;
-            text.extend_from_slice(name.as_slice())?;
-            Ok(text)
-        }
-        EditError::NoMemory => Err(AllocError),
-    }
-}
-
 // The row of a key, by the mode of its client.
 fn run_row(alloc: Global, world: &mut World, who: u32, key: Key) -> Result<Ask, EditError>
     requires { is_joined who world.old.flat ≡ true }
     ensures row { Gives result world.new.flat (row_key key who world.old.flat) }
-    ensures stays { is_joined who world.new.flat ≡ true }
 {
-    match world.mode(who) {
+    let mode = world.own(who).mode;
+    match mode {
         Mode::Normal => normal_key(alloc, world, who, key),
         Mode::Insert => insert_key(alloc, world, who, key),
         Mode::Prompt => prompt_key(alloc, world, who, key),
@@ -64,8 +46,16 @@ fn ending_of(alloc: Global, error: EditError) -> Result<Ending, AllocError>
 {
     match error {
         EditError::BudgetSpent => Ok(Ending::GivenUp),
-        error => Ok(Ending::Failed(text_of(alloc, error)?)),
+        error => Ok(Ending::Failed(error.text(alloc)?)),
     }
+}
+
+// Grants a client to leave.
+fn grant_leave(world: &mut World, who: u32)
+    requires { is_joined who world.old.flat ≡ true }
+    ensures { world.new.flat ≡ granted who world.old.flat }
+{
+    world.own_mut(who).leaving = true;
 }
 
 // Does what a row asks for, or ends with its error.
@@ -76,9 +66,8 @@ fn go_on(
     who: u32,
     row: Result<Ask, EditError>,
 ) -> Result<Ending, AllocError>
-    requires { is_joined who world.old.flat ≡ true }
+    requires { OnOk row (is_joined who world.old.flat ≡ true) }
     ensures does { (before : Flat) (end : RowEnd) → Gives row world.old.flat end → Ends result (λ m. row_and_rest (Do who) top end m) before world.new.flat }
-    ensures stays { is_joined who world.new.flat ≡ true }
 {
     match row {
         Ok(ask) => do_ask(alloc, world, who, ask),
@@ -91,13 +80,12 @@ fn go_on(
 fn do_ask(alloc: Global, world: &mut World, who: u32, ask: Ask) -> Result<Ending, AllocError>
     requires { is_joined who world.old.flat ≡ true }
     ensures does { Ends result (λ m. Do who top (Asks ask) m) world.old.flat world.new.flat }
-    ensures stays { is_joined who world.new.flat ≡ true }
 {
     match ask {
         Ask::Nothing => Ok(Ending::Fine),
         Ask::Commands(text) => run_commands(alloc, world, who, text.as_slice()),
         Ask::Leave => {
-            world.grant_leave(who);
+            grant_leave(world, who);
             Ok(Ending::Fine)
         }
     }
@@ -113,7 +101,6 @@ fn run_commands(
 ) -> Result<Ending, AllocError>
     requires { is_joined who world.old.flat ≡ true }
     ensures does { Ends result (λ m. run_text (Do who) who top text.now m) world.old.flat world.new.flat }
-    ensures stays { is_joined who world.new.flat ≡ true }
 {
     if text.is_empty() {
         return Ok(Ending::Fine);
@@ -125,11 +112,12 @@ fn run_commands(
     go_on(alloc, world, who, row)
 }
 
-/// Runs a key of a client. An `Err` comes only for want of memory; the world may then have been changed in part.
+/// Runs a key of a client, which stays joined. An `Err` comes only for want of memory; the world may then have been
+/// changed in part.
 pub fn strike(alloc: Global, world: &mut World, who: u32, key: Key) -> Result<Ending, AllocError>
     requires { is_joined who world.old.flat ≡ true }
     ensures does { Ends result (λ m. strike_part who top key m) world.old.flat world.new.flat }
-    ensures stays { is_joined who world.new.flat ≡ true }
+    ensures joined { OnOk result (is_joined who world.new.flat ≡ true) }
 {
     if !world.take_unit() {
         return Ok(Ending::GivenUp);

@@ -1,22 +1,24 @@
 //! The engine: the world, and the history that led to it.
+#![tactic(auto, using(kak_world::proofs::WorldLaws::world_laws, crate::proofs::KeepingLaws::joined_key))]
 
-ghost use Rattle.std.specs.Prelude.{◌≡◌, ◌<◌, ◌≤◌, ◌^◌, [], ◌∷◌, ◌++◌, length, true, None, Some, Err, IfOk, IfErr, IfSome, OnErr, OnOk, IsNone, IsOk, false, ◌&&◌, ◌+◌, not, vec_len, vec_capacity};
-ghost use Rattle.kak_world.specs.Flat.{is_joined, is_leaving};
-ghost use Rattle.kak_engine.specs.Steps.{after_key, after_event, output_of, has_joined, run, told};
+ghost use Rattle.std.specs.Prelude.{◌≡◌, ◌<◌, ◌≤◌, ◌^◌, [], ◌∷◌, ◌++◌, length, true, None, Some, Err, IfOk, IfErr, IfSome, OnErr, OnOk, IsOk, false, ◌&&◌, ◌+◌, not, vec_len, vec_capacity};
+ghost use Rattle.kak_world.specs.Flat.{is_here, is_joined, is_leaving};
+ghost use Rattle.kak_world.specs.Settled.{AllListsSettled};
+ghost use Rattle.kak_world.specs.declared.world.TheConstants.{MAX_CLIENTS};
+ghost use Rattle.kak_engine.specs.Steps.{after_key, after_event, output_of, has_joined, run, begun, told, refused, noted_drawn};
 ghost use Rattle.kak_engine.specs.Seen.{end_seen};
-ghost use Rattle.kak_engine.specs.Held.{refusal_of, refused_by, marked_after, marked_by, CanRun, HasSettledList};
+ghost use Rattle.kak_engine.specs.Held.{refusal_of, refused_by, marked_after, marked_by, CanRun};
 ghost use Rattle.session_events.specs.declared.event.Event.TheVariants.{Leave};
 ghost use Rattle.session_events.specs.declared.fault.StepFault.TheVariants.{NoMemory};
-ghost use Rattle.session_events.specs.Entries.{entry_of, is_leave};
+ghost use Rattle.session_events.specs.Entries.{entry_of, is_join, is_leave};
 ghost use Rattle.session_events.specs.Legal.{IsLegal};
 ghost use Rattle.draw_model.specs.Drawings.{drawing_of, after_following};
-ghost use Rattle.kak_world.specs.Flat.{with_drawn};
 
 use crate::doing::{Ending, strike};
 use draw_model::{draw, follow_cursor};
 use json_writing::Drawing;
 use kak_text::Chars;
-use kak_world::{Status, World};
+use kak_world::{MAX_CLIENTS, Status, World};
 use key_names::Key;
 use session_events::{Answers, Entry, Event, Output, StepFault, is_join, is_leave};
 use std::alloc::{AllocError, Global};
@@ -42,32 +44,46 @@ impl Model for Engine {
     ghost invariant = { λ e. Stands e.world.flat e.history.items e.mark e.limit × KeepsPlaces e.mark e.world.flat (vec_len e.history) (vec_capacity e.history) };
 }
 
+// Tells a client why its key was refused.
+fn refuse(world: &mut World, who: u32, text: Chars)
+    requires { is_joined who world.old.flat ≡ true }
+    ensures { world.new.flat ≡ refused who text world.old.flat }
+{
+    world.own_mut(who).status = Status::Refused(text);
+}
+
 // Tells a client what went wrong with its key, if anything did.
 fn tell(alloc: Global, world: &mut World, who: u32, ending: Ending) -> Result<(), AllocError>
     requires { is_joined who world.old.flat ≡ true }
-    ensures told { OnOk result (world.new.flat ≡ told who (end_seen ending) world.old.flat) }
-    ensures stays { is_joined who world.new.flat ≡ true }
+    ensures { OnOk result (world.new.flat ≡ told who (end_seen ending) world.old.flat) }
 {
     match ending {
         Ending::Fine => {}
-        Ending::Failed(text) => world.set_status(who, Status::Refused(text)),
+        Ending::Failed(text) => refuse(world, who, text),
         Ending::GivenUp => {
             let text = Chars::from_str(alloc, "given up: budget spent")?;
-            world.set_status(who, Status::Refused(text));
+            refuse(world, who, text);
         }
     }
     Ok(())
+}
+
+// The world when a key of a client begins.
+fn begin(world: &mut World, who: u32)
+    requires { is_joined who world.old.flat ≡ true }
+    ensures { world.new.flat ≡ begun who world.old.flat }
+{
+    world.own_mut(who).status = Status::Quiet;
+    world.set_units(4096);
 }
 
 // Runs a key of a client that wasn't granted to leave.
 fn run_struck(alloc: Global, world: &mut World, who: u32, key: Key) -> Result<(), AllocError>
     requires joined { is_joined who world.old.flat ≡ true }
     requires stays { is_leaving who world.old.flat ≡ false }
-    ensures does { OnOk result (world.new.flat ≡ after_key who key [] world.old.flat) }
-    ensures joined { is_joined who world.new.flat ≡ true }
+    ensures { OnOk result (world.new.flat ≡ after_key who key [] world.old.flat) }
 {
-    world.set_status(who, Status::Quiet);
-    world.set_units(4096);
+    begin(world, who);
     let ending = strike(alloc, world, who, key)?;
     tell(alloc, world, who, ending)?;
     world.set_units(0);
@@ -79,38 +95,38 @@ fn run_key(alloc: Global, world: &mut World, who: u32, key: Key) -> Result<bool,
     requires { is_joined who world.old.flat ≡ true }
     ensures does { OnOk result (world.new.flat ≡ after_key who key [] world.old.flat) }
     ensures leaving { IfOk result (λ leaving. leaving ≡ (is_leaving who (after_key who key [] world.old.flat) && not (is_leaving who world.old.flat))) }
-    ensures joined { is_joined who world.new.flat ≡ true }
 {
-    if world.is_leaving(who) {
+    let own = world.own(who);
+    if own.leaving {
         return Ok(false);
     }
     run_struck(alloc, world, who, key)?;
-    Ok(world.is_leaving(who))
+    let own = world.own(who);
+    Ok(own.leaving)
 }
 
 // Lets a client's window follow its cursor, and gives what it is shown.
 fn redraw(alloc: Global, world: &mut World, who: u32) -> Result<Drawing, AllocError>
     requires { is_joined who world.old.flat ≡ true }
     ensures draws { IfOk result (λ d. d ≡ drawing_of who (after_following who world.old.flat)) }
-    ensures follows { OnOk result (world.new.flat ≡ with_drawn who (after_following who world.old.flat)) }
-    ensures joined { is_joined who world.new.flat ≡ true }
+    ensures follows { OnOk result (world.new.flat ≡ noted_drawn who (after_following who world.old.flat)) }
 {
     follow_cursor(world, who);
     let drawing = draw(alloc, world, who)?;
-    world.note_drawn(who);
+    world.own_mut(who).drawn = true;
     Ok(drawing)
 }
 
-// Runs an event that is not refused. Its client is joined then, unless it left.
+// Runs an event that is not refused. A client that comes has joined then.
 fn run_event(alloc: Global, world: &mut World, who: u32, event: Event) -> Result<Output, AllocError>
     requires { CanRun event who world.old.flat }
     ensures gives { IfOk result (λ output. output ≡ output_of who event [] world.old.flat) }
     ensures leads { OnOk result (world.new.flat ≡ after_event who event [] world.old.flat) }
-    ensures joined { is_leave event ≡ false → is_joined who world.new.flat ≡ true }
+    ensures joined { OnOk result (is_join event ≡ true → is_joined who world.new.flat ≡ true) }
 {
     match event {
         Event::Join => {
-            world.join(alloc, who);
+            world.join(alloc, who)?;
             Ok(Output::nothing())
         }
         Event::Key(key) => Ok(Output {
@@ -144,8 +160,7 @@ fn refusal_by(
     event: Event,
 ) -> Option<StepFault>
     requires { world.now.flat ≡ run history.now }
-    ensures refused { result ≡ refused_by history.now limit who event }
-    ensures runs { IsNone result → CanRun event who world.now.flat }
+    ensures { result ≡ refused_by history.now limit who event }
 {
     let joins = is_join(event);
     if !joins && !world.is_joined(who) {
@@ -157,22 +172,20 @@ fn refusal_by(
     if !is_leave(event) && history.len() as u64 >= limit {
         return Some(StepFault::HistoryFull);
     }
-    if joins && world.joined() >= 1 {
+    if joins && world.client_count() >= MAX_CLIENTS {
         return Some(StepFault::Full);
     }
     None
 }
 
-// Lets a client go, and adds the entry, for which a place was kept when it came.
+// Lets a client go, and adds the entry, for which a place was kept.
 fn keep_leaving(alloc: Global, world: &mut World, history: &mut Vec<Entry>, who: u32) -> Output
     requires joined { is_joined who world.old.flat ≡ true }
-    requires few { length world.old.flat.clients ≤ 1 }
     requires places { vec_len history.old + length world.old.flat.clients ≤ vec_capacity history.old }
     ensures gives { result ≡ output_of who Leave [] world.old.flat }
     ensures leads { world.new.flat ≡ after_event who Leave [] world.old.flat }
     ensures keeps { history.new.items ≡ history.old.items ++ entry_of who Leave ∷ [] }
-    ensures gone { world.new.flat.clients ≡ [] }
-    ensures places { vec_len history.new ≤ vec_capacity history.new }
+    ensures places { vec_len history.new + length world.new.flat.clients ≤ vec_capacity history.new }
 {
     world.leave(who);
     history.push_reserved(Entry {
@@ -183,7 +196,7 @@ fn keep_leaving(alloc: Global, world: &mut World, history: &mut Vec<Entry>, who:
     Output::nothing()
 }
 
-// Runs an event that is not refused, and adds its entry. Places for the entry and for the client's going are taken first.
+// Runs an event that is not refused, and adds its entry. A place is kept for the going of each client that is here then.
 fn keep(
     alloc: Global,
     world: &mut World,
@@ -193,18 +206,16 @@ fn keep(
 ) -> Result<Output, AllocError>
     requires runs { CanRun event who world.old.flat }
     requires stays { is_leave event ≡ false }
+    requires few { length world.old.flat.clients ≤ MAX_CLIENTS }
     ensures gives { IfOk result (λ output. output ≡ output_of who event [] world.old.flat) }
     ensures leads { OnOk result (world.new.flat ≡ after_event who event [] world.old.flat) }
     ensures keeps { OnOk result (history.new.items ≡ history.old.items ++ entry_of who event ∷ []) }
-    ensures joined { OnOk result (is_joined who world.new.flat ≡ true) }
-    ensures few { OnOk result (length world.new.flat.clients ≤ 1) }
+    ensures joined { OnOk result (is_join event ≡ true → is_joined who world.new.flat ≡ true) }
     ensures places { OnOk result (vec_len history.new + length world.new.flat.clients ≤ vec_capacity history.new) }
     ensures err { OnErr result (history.new.items ≡ history.old.items) }
 {
-    history.reserve(2)?;
     let output = run_event(alloc, world, who, event)?;
-    // its contract says that one client is here at most
-    let _few = world.joined();
+    history.reserve(1 + world.client_count())?;
     history.push_reserved(Entry {
         who,
         event,
@@ -235,15 +246,13 @@ impl Engine {
         self.history.as_slice()
     }
 
-    /// A law: where the engine isn't broken, the list of a client that is joined is settled, and lies inside the text that
-    /// it sees; and no more clients are joined than may be.
-    pub fn lists_are_settled(&self, who: u32)
-        ensures lists { self.now.mark ≡ None → is_joined who (run self.now.history) ≡ true → HasSettledList who (run self.now.history) }
-        ensures few { self.now.mark ≡ None → length (run self.now.history).clients ≤ 1 }
+    /// A law: where the engine isn't broken, every selection list on every buffer is settled, and lies inside the buffer's
+    /// text; and no more clients are here than may be.
+    pub fn lists_are_settled(&self)
+        ensures lists { self.now.mark ≡ None → AllListsSettled (run self.now.history) }
+        ensures few { self.now.mark ≡ None → length (run self.now.history).clients ≤ MAX_CLIENTS }
     {
-        if self.world.is_joined(who) {
-            let _sels = self.world.sels(who);
-        }
+        self.world.lists_are_held();
     }
 
     /// How many entries there are.

@@ -1,7 +1,17 @@
 //! The laws of the definitions: each is the contract of a function that does nothing.
-ghost use Rattle.kak_engine.specs.Laws.{BoundEndsNoStep};
+ghost use Rattle.kak_engine.specs.Laws.{BoundEndsNoStep, KeysKeepClients, OthersStay};
 
 /// The bound on nesting ends no step by itself: with a bound above the units that are left, more of it makes no difference.
 pub fn bound_ends_no_step()
     ensures { BoundEndsNoStep }
+{}
+
+/// No key makes a client come or go, its own or another one.
+pub fn keys_keep_clients()
+    ensures { KeysKeepClients }
+{}
+
+/// No event of a client makes another one come or go.
+pub fn others_stay()
+    ensures { OthersStay }
 {}

@@ -1,72 +1,78 @@
--- Characters that go in at a place of the text.
-use Rattle.std.proofs.Common.{◌≡◌, ℕ, ◌<◌, ◌+◌, List, [], ◌∷◌, ◌++◌, length, take, drop, map, None, Some, refl, sym, ap, ◌∙◌, arith}
-use Rattle.std.specs.declared.option.Option.{Option}
-use Rattle.std.specs.Prelude.{IsErrOf, ◌↔◌, Ok, Err}
+-- A buffer in which characters were put in before cursors.
+use Rattle.std.proofs.Common.{◌≡◌, ℕ, ◌+◌, ◌*◌, ◌≤◌, Bool, List, [], ◌∷◌, length, map, take, refl, sym, ap, ap₂, subst, ◌∙◌, Ok, Err}
+use Rattle.std.specs.Prelude.{OnOk, OnErr}
+use Rattle.std.specs.declared.result.Result.{Result}
+use Rattle.std.specs.declared.alloc.AllocError.{AllocError}
+use Rattle.std.proofs.lemmas.List.{length-map}
 use Rattle.text_model.specs.declared.TheConstants.{MAX_CHARS}
-use Rattle.line_buffer.specs.declared.lines.LinesError.{LinesError}
-use Rattle.line_buffer.specs.declared.lines.LinesError.TheVariants.{TextFull}
 use Rattle.text_model.specs.declared.coords.Shift.{Shift}
 use Rattle.text_model.specs.Texts.{IsStored}
-use Rattle.text_model.specs.Changes.{Insertion, changed, inserted, put_in, insertion_of, move_of, Move, IsShift}
-use Rattle.text_model.proofs.ChangeLemmas.{put_in-inside, length-inserted}
+use Rattle.text_model.specs.Changes.{Change}
+use Rattle.list_model.specs.Ranges.{Selected}
 use Rattle.selection_set.specs.declared.sel.Sel.{Sel}
-use Rattle.selection_set.specs.Listing.{AreInside}
-use Rattle.selection_map.specs.Carrying.{AllSmall as ListIsSmall}
-use Rattle.selection_map.proofs.SmallLemmas.{both-small}
-use Rattle.kak_world.specs.declared.client.ClientState.{ClientState}
-use Rattle.std.proofs.Common.{◌||◌}
-use Rattle.std.proofs.Math.Dec.{eqb}
-use Rattle.kak_world.specs.Flat.{Client, Flat, is_here}
-use Rattle.kak_world.specs.Changing.{changed_once, changed_by, put_at}
-use Rattle.kak_world.specs.Seen.{clients_seen, AreHeld, AllSmall, AreCarried, carried_along}
+use Rattle.selection_set.specs.Inside.{range_of}
+use Rattle.selection_set.specs.Listing.{ranges_of}
+use Rattle.selection_set.specs.Held.{IsHeld}
+use Rattle.selection_map.specs.Catching.{AreShiftsOf}
+use Rattle.kak_world.specs.declared.lists.HeldList.{HeldList}
+use Rattle.kak_world.specs.declared.holder.Holder.{Holder}
+use Rattle.kak_world.specs.Flat.{Held, Buffer, list_on}
+use Rattle.kak_world.specs.Changing.{before_cursors, buffer_changed, list_moved, IsAfterSome}
+use Rattle.kak_world.specs.Typing.{ArePut, IsHeldSlice}
+use Rattle.kak_world.specs.Seen.{held_seen, buffer_seen, AreHeld, HaveMoved, CanMove}
+use Rattle.kak_world.proofs.MoveLemmas.{moved-held, moved-buffer}
 
-list-small : (old new : List ℕ) (list : List Sel) (s : Shift) (m : Move) → IsStored old → IsStored new → IsShift old new s m → AreInside old list → ListIsSmall list s
-list-small old new [] s m o n f i = tt
-list-small old new (x ∷ xs) s m o n f i = (both-small old new x s m o n f i.0, list-small old new xs s m o n f i.1)
+pub on-err : {T : Type 0} {E : Type 0} {P : Type 0} (r : Result T E) → P → OnErr r P
+on-err (Ok x) p = tt
+on-err (Err e) p = p
 
--- all coordinates are small, where the texts are within the limit
-pub all-small : (old new : List ℕ) (c : Option ClientState) (s : Shift) (m : Move) → IsStored old → IsStored new → IsShift old new s m → AreHeld old c → AllSmall c s
-all-small old new None s m o n f i = tt
-all-small old new (Some c) s m o n f i = list-small old new c.sels.list s m o n f i.inside
+pub on-ok : {T : Type 0} {E : Type 0} {P Q : Type 0} (r : Result T E) → OnOk r P → (P → Q) → OnOk r Q
+on-ok (Ok x) p f = f p
+on-ok (Err e) p f = tt
 
--- some characters inside the text go in as they are
-pub put-inserted : (text : List ℕ) (p : ℕ) (s : List ℕ) → p < length text → inserted text p s ≡ changed text (Insertion p s)
-put-inserted text p s h = ap (λ r. take p text ++ (r ++ drop p text)) (put_in-inside text p s h)
+pub on-err-of : {T : Type 0} {E : Type 0} {P Q : Type 0} (r : Result T E) → OnErr r P → (P → Q) → OnErr r Q
+on-err-of (Ok x) p f = tt
+on-err-of (Err e) p f = f p
 
-pub put-length : (text : List ℕ) (p : ℕ) (s : List ℕ) → p < length text → length (inserted text p s) ≡ length text + length s
-put-length text p s h = length-inserted text p s (omega arith) ∙ ap (λ r. length text + length r) (put_in-inside text p s h)
+map-same : (text : List ℕ) (hs : List Held) → map (list_moved text []) hs ≡ hs
+map-same text [] = refl
+map-same text (h ∷ hs) = ap (λ xs. h ∷ xs) (map-same text hs)
 
-insertion-some : (p : ℕ) (s : List ℕ) → 0 < length s → insertion_of p s ≡ Insertion p s ∷ []
-insertion-some p [] h = absurd (omega arith)
-insertion-some p (c ∷ s) h = refl
+-- no change leaves the buffer
+pub none-made : (cs : List Change) (b : Buffer) → IsAfterSome cs b b
+none-made cs b = record { made = 0; is = sym (ap (λ ls. let x : Buffer = record { name = b.name; is_file = b.is_file; text = b.text; lists = ls } in x) (map-same b.text b.lists)) }
 
-pub put-once : (flat : Flat) (p : ℕ) (s : List ℕ) → p < length flat.text → 0 < length s → put_at p s flat ≡ changed_once (Insertion p s) flat
-put-once flat p s h some =
-    ap (λ r. changed_by (insertion_of p r) flat) (put_in-inside flat.text p s h)
-    ∙ ap (λ r. changed_by r flat) (insertion-some p s some)
+pub held-slice : (text : List ℕ) (row : HeldList) (sels : List Sel) → sels ≡ row.sels.list → IsHeld text row.sels → IsHeldSlice text sels
+held-slice text row sels e h = subst (IsHeldSlice text) (sym e) (record { inside = h.inside; apart = h.settled.apart })
 
--- the world of the new text and the carried clients is the world with the characters put in
-pub put-world : (old new : List ℕ) (p : ℕ) (s : List ℕ) (before now : Option ClientState) (units : ℕ) → p < length old → 0 < length s
-    → new ≡ inserted old p s → clients_seen new now ≡ map (carried_along (move_of old (Insertion p (put_in old p s)))) (clients_seen old before)
-    → (let w : Flat = record { text = new; clients = clients_seen new now; units = units } in w)
-    ≡ put_at p s (record { text = old; clients = clients_seen old before; units = units })
-put-world old new p s before now units h some e f =
-    ap (λ (t : List ℕ). let w : Flat = record { text = t; clients = clients_seen new now; units = units } in w) (e ∙ put-inserted old p s h)
-    ∙ ap (λ (cs : List Client). let w : Flat = record { text = changed old (Insertion p s); clients = cs; units = units } in w)
-    (f ∙ ap (λ r. map (carried_along (move_of old (Insertion p r))) (clients_seen old before)) (put_in-inside old p s h))
-    ∙ sym (put-once (record { text = old; clients = clients_seen old before; units = units }) p s h some)
+-- the selections that a holder has, by what the code reads
+pub sels-read : (holder : Holder) (text : List ℕ) (row : HeldList) (b : Buffer) (sels : List Sel) → held_seen text row ≡ list_on holder b → sels ≡ row.sels.list → (list_on holder b).sels ≡ record { list = ranges_of text sels; main = row.sels.main }
+sels-read holder text row b sels e s = sym (ap (λ (h : Held). h.sels) e) ∙ ap (λ l. let x : Selected = record { list = ranges_of text l; main = row.sels.main } in x) (sym s)
 
--- an answer without a value says the same of the limit as one with a value
-pub full-err : (error : LinesError) (n : ℕ) → (IsErrOf {T = Shift} (Err error) TextFull ↔ (MAX_CHARS < n)) → (IsErrOf {T = Unit {0}} (Err error) TextFull ↔ (MAX_CHARS < n))
-full-err error n f = ((λ h. f.0 (let e : error ≡ TextFull = cc in ap Err e)), (λ h. let g : IsErrOf {T = Shift} (Err error) TextFull = f.1 h in let e : error ≡ TextFull = cc in ap Err e))
+pub room-read : (holder : Holder) (text : List ℕ) (row : HeldList) (b : Buffer) (sels : List Sel) (k : ℕ) → text ≡ b.text → held_seen text row ≡ list_on holder b → sels ≡ row.sels.list → length b.text + length (list_on holder b).sels.list * k ≤ MAX_CHARS → length text + length sels * k ≤ MAX_CHARS
+room-read holder text row b sels k t e s room =
+    let n : length (list_on holder b).sels.list ≡ length sels = ap (λ (x : Selected). length x.list) (sels-read holder text row b sels e s) ∙ length-map sels (range_of text) in
+    subst (λ m. length text + m * k ≤ MAX_CHARS) n (subst (λ x. length x + length (list_on holder b).sels.list * k ≤ MAX_CHARS) (sym t) room)
 
-pub full-ok : (shift : Shift) (n : ℕ) → (IsErrOf {T = Shift} (Ok shift) TextFull ↔ (MAX_CHARS < n)) → (IsErrOf {T = Unit {0}} (Ok tt) TextFull ↔ (MAX_CHARS < n))
-full-ok shift n f = ((λ h. cc), (λ h. let g : IsErrOf {T = Shift} (Ok shift) TextFull = f.1 h in cc))
+-- the changes that were made
+pub can-move : (r : Result (Unit {0}) AllocError) (cs : List Change) (old new : List ℕ) (told : List Shift) (lists : List HeldList) → IsStored old → ArePut r cs old new told → AreHeld old lists → CanMove lists told
+can-move r cs old new told lists stored p held = record { text = old; changes = take p.made cs; stored = stored; shifts_are = p.shifts; held = held }
 
--- those that are there stay there
-pub here-carried : (who : ℕ) (m : Move) (cs : List Client) → is_here who (map (carried_along m) cs) ≡ is_here who cs
-here-carried who m [] = refl
-here-carried who m (c ∷ cs) = ap (λ r. eqb c.who who || r) (here-carried who m cs)
+pub put-moved : (r : Result (Unit {0}) AllocError) (cs : List Change) (old new : List ℕ) (told : List Shift) (before now : List HeldList) → ((text : List ℕ) (ds : List Change) → IsStored text → AreShiftsOf text ds told → AreHeld text before → HaveMoved text ds before now) → IsStored old → (p : ArePut r cs old new told) → AreHeld old before → HaveMoved old (take p.made cs) before now
+put-moved r cs old new told before now moves stored p held = moves old (take p.made cs) stored p.shifts held
 
-pub stays-carried : {old new : List ℕ} {m : Move} {before now : Option ClientState} (who : ℕ) → AreCarried old new m before now → is_here who (clients_seen new now) ≡ is_here who (clients_seen old before)
-stays-carried {old = old} {m = m} {before = before} who f = ap (is_here who) f.seen ∙ here-carried who m (clients_seen old before)
+pub put-held : (r : Result (Unit {0}) AllocError) (cs : List Change) (old new : List ℕ) (told : List Shift) (before now : List HeldList) → (p : ArePut r cs old new told) → HaveMoved old (take p.made cs) before now → AreHeld new now
+put-held r cs old new told before now p m = subst (λ t. AreHeld t now) (sym p.text) (moved-held old (take p.made cs) before now m)
+
+pub put-some : (r : Result (Unit {0}) AllocError) (name : List ℕ) (file : Bool) (cs ds : List Change) (old new : List ℕ) (told : List Shift) (before now : List HeldList) (b : Buffer) → buffer_seen name file old before ≡ b → ds ≡ cs → (p : ArePut r cs old new told) → HaveMoved old (take p.made cs) before now → IsAfterSome ds b (buffer_seen name file new now)
+put-some r name file cs ds old new told before now b e d p m = record {
+  made = p.made;
+  is = ap (λ t. buffer_seen name file t now) p.text ∙ moved-buffer name file old (take p.made cs) before now b e m ∙ ap (λ x. buffer_changed (take p.made x) b) (sym d);
+}
+
+pub put-all : (r : Result (Unit {0}) AllocError) (name : List ℕ) (file : Bool) (cs ds : List Change) (old new : List ℕ) (told : List Shift) (before now : List HeldList) (b : Buffer) → buffer_seen name file old before ≡ b → ds ≡ cs → (p : ArePut r cs old new told) → HaveMoved old (take p.made cs) before now → OnOk r (buffer_seen name file new now ≡ buffer_changed ds b)
+put-all r name file cs ds old new told before now b e d p m = on-ok r p.all (λ all. ap (λ t. buffer_seen name file t now) p.text ∙ moved-buffer name file old (take p.made cs) before now b e m ∙ ap (λ x. buffer_changed x b) (all ∙ sym d))
+
+-- the same changes, from what the code reads
+pub changes-read : (holder : Holder) (s text : List ℕ) (row : HeldList) (b : Buffer) (sels : List Sel) → text ≡ b.text → held_seen text row ≡ list_on holder b → sels ≡ row.sels.list → before_cursors s b.text (list_on holder b).sels ≡ before_cursors s text (record { list = ranges_of text sels; main = row.sels.main })
+changes-read holder s text row b sels t e l = ap₂ (before_cursors s) (sym t) (sels-read holder text row b sels e l)

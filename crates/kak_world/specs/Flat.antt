@@ -1,77 +1,136 @@
--- The flat world: one text, and the clients that edit it. Everything that a client can see follows from it.
-use Rattle.std.specs.Prelude.{ℕ, zero, suc, ◌+◌, Bool, true, false, not, if◌then◌else◌, ◌==◌, List, [], ◌∷◌, ◌++◌, length, map, filter}
+-- The flat world: texts under numbers, and the clients that edit them. Everything that a client can see follows from it.
+use Rattle.std.specs.Prelude.{ℕ, zero, suc, ◌+◌, Bool, false, not, ◌&&◌, is_some, option_map, if◌then◌else◌, ◌==◌, List, [], ◌∷◌, ◌++◌, length, map, filter, slice_index_or, codes}
 use Rattle.std.specs.List.{list_any}
+use Rattle.std.specs.declared.option.Option.{Option}
+use Rattle.std.specs.Prelude.{Some, None}
+use Rattle.tables.specs.Tables.{first_where, changed_where, with_row}
+use Rattle.key_names.specs.declared.key.Key.{Key}
 use Rattle.list_model.specs.Ranges.{Selected, only}
 use Rattle.window_view.specs.View.{View}
-use Rattle.kak_world.specs.declared.state.Mode.{Mode}
-use Rattle.kak_world.specs.declared.state.Mode.TheVariants.{Normal}
-use Rattle.kak_world.specs.declared.state.Awaiting.{Awaiting}
-use Rattle.kak_world.specs.declared.state.Awaiting.TheVariants as awaits
-use Rattle.kak_world.specs.declared.state.Status.{Status}
-use Rattle.kak_world.specs.declared.state.Status.TheVariants.{Quiet}
+use Rattle.kak_world.specs.declared.holder.Holder.{Holder}
+use Rattle.kak_world.specs.declared.holder.Holder.TheVariants.{Of}
+use Rattle.kak_world.specs.declared.own.Mode.{Mode}
+use Rattle.kak_world.specs.declared.own.Mode.TheVariants.{Normal}
+use Rattle.kak_world.specs.declared.own.Status.{Status}
+use Rattle.kak_world.specs.declared.own.Status.TheVariants.{Quiet}
+use Rattle.kak_world.specs.declared.own.Own.{Own}
+use Rattle.kak_world.specs.declared.clients.Client.{Client}
+use Rattle.kak_world.specs.declared.world.Rest.{Rest}
 
--- a client
-pub record Client : Type 0 where
-  -- its number in the history, and the number in its name
-  pub who : ℕ
-  pub number : ℕ
-  pub mode : Mode
-  -- how often its next key is to be run, as digits have said so far, or 0; and what that key is for, if one waits for it
-  pub count : ℕ
-  pub awaiting : Awaiting
+-- a selection list on a buffer: whose it is, and the window through which its holder sees the buffer
+pub record Held : Type 0 where
+  pub holder : Holder
   pub sels : Selected
   pub view : View
-  pub status : Status
-  -- what was typed into its prompt
-  pub prompt : List ℕ
-  -- whether it was granted to leave, and whether it was drawn before
-  pub leaving : Bool
-  pub drawn : Bool
+
+-- a buffer: its name, whether that is a file's, its text, and the selection lists on it
+pub record Buffer : Type 0 where
+  pub name : List ℕ
+  pub is_file : Bool
+  pub text : List ℕ
+  pub lists : List Held
 
 -- the world
 pub record Flat : Type 0 where
-  pub text : List ℕ
+  -- the buffers, each at the place of its number; nothing stands where no buffer has the number
+  pub buffers : List (Option Buffer)
+  -- the clients, in the order in which they came
   pub clients : List Client
-  -- how many keys and commands the step may still run
-  pub units : ℕ
+  -- what is no buffer's and no client's
+  pub rest : Rest
 
 -- the list of one selection, of the character at an offset
 abbrev pub only_at : ℕ → Selected
 only_at o = record { list = only o ∷ []; main = 0 }
 
--- a client that has just come
-abbrev pub newcomer : ℕ → ℕ → Client
-newcomer who number = record {
-  who = who;
-  number = number;
-  mode = Normal;
-  count = 0;
-  awaiting = awaits.Nothing;
-  sels = only_at 0;
-  view = record { top = 0; left = 0; rows = 24; columns = 80 };
-  status = Quiet;
-  prompt = [];
-  leaving = false;
-  drawn = false;
-}
+-- a window of 24 rows and 80 columns at the start of a text
+abbrev pub first_view : View
+first_view = record { top = 0; left = 0; rows = 24; columns = 80 }
 
--- the world before anything happened: a text of one newline, and no client
+-- the list that a holder begins with on a buffer
+abbrev pub fresh : Holder → Held
+fresh holder = record { holder = holder; sels = only_at 0; view = first_view }
+
+-- a buffer that was just opened, with nobody's list on it
+abbrev pub made : List ℕ → Bool → List ℕ → Buffer
+made name is_file text = record { name = name; is_file = is_file; text = text; lists = [] }
+
+-- the buffer that is there when nothing else is
+abbrev pub scratch : Buffer
+scratch = made (codes "*scratch*") false (10 ∷ [])
+
+-- what a client that has just come has of its own
+abbrev pub first_own : Own
+first_own = record { mode = Normal; count = 0; pending = None; status = Quiet; prompt = []; leaving = false; drawn = false }
+
+-- a client that has just come: its number in the history, the number in its name, and that of the buffer that it sees
+abbrev pub newcomer : ℕ → ℕ → ℕ → Client
+newcomer who number shown = record { who = who; number = number; shown = shown; own = first_own }
+
+-- the world before anything happened: the one buffer, and no client
 abbrev pub opening : Flat
-opening = record { text = 10 ∷ []; clients = []; units = 0 }
+opening = record { buffers = Some scratch ∷ []; clients = []; rest = record { units = 0 } }
+
+-- whether a client has that number in the history
+abbrev pub is_of : ℕ → Client → Bool
+is_of who c = c.who == who
 
 -- whether a client of that number is there
 abbrev pub is_here : ℕ → List Client → Bool
-is_here who clients = list_any (λ c. c.who == who) clients
+is_here who clients = list_any (is_of who) clients
 
--- the client of that number; where it isn't there, a client that has just come
-abbrev pub client_in : ℕ → List Client → Client
-client_in who [] = newcomer who 0
-client_in who (c ∷ cs) = if c.who == who then c else client_in who cs
+-- whether two holders are one
+abbrev pub same_holder : Holder → Holder → Bool
+same_holder (Of who) (Of number) = number == who
 
--- the clients, with the one of that number changed
-abbrev pub changed_in : ℕ → (Client → Client) → List Client → List Client
-changed_in who f [] = []
-changed_in who f (c ∷ cs) = (if c.who == who then f c else c) ∷ changed_in who f cs
+-- whether a list is a holder's
+abbrev pub is_held_by : Holder → Held → Bool
+is_held_by holder held = same_holder holder held.holder
+
+-- whether a holder has a list on a buffer
+abbrev pub has_list : Holder → Buffer → Bool
+has_list holder b = list_any (is_held_by holder) b.lists
+
+-- a holder's list on a buffer; where it has none, the one that it would begin with
+abbrev pub list_on : Holder → Buffer → Held
+list_on holder b = first_where (is_held_by holder) (fresh holder) b.lists
+
+-- a buffer with a holder's list on it changed
+abbrev pub with_list : Holder → (Held → Held) → Buffer → Buffer
+with_list holder f b = record b { lists = changed_where (is_held_by holder) f b.lists }
+
+-- a buffer on which a holder has a list: the one that it has, or else the one that it begins with
+abbrev pub listed_for : Holder → Buffer → Buffer
+listed_for holder b = record b { lists = with_row (is_held_by holder) (fresh holder) b.lists }
+
+-- a buffer without a holder's lists on it
+abbrev pub unlisted_for : Holder → Buffer → Buffer
+unlisted_for holder b = record b { lists = filter (λ held. not (is_held_by holder held)) b.lists }
+
+-- whether a number is a buffer's
+abbrev pub is_there : ℕ → List (Option Buffer) → Bool
+is_there n buffers = is_some (slice_index_or buffers n None)
+
+-- a buffer, if there is one, or else the one that is there when nothing else is
+abbrev pub buffer_or_scratch : Option Buffer → Buffer
+buffer_or_scratch (Some b) = b
+buffer_or_scratch None = scratch
+
+-- the buffer of that number
+abbrev pub buffer_at : ℕ → List (Option Buffer) → Buffer
+buffer_at n buffers = buffer_or_scratch (slice_index_or buffers n None)
+
+-- the buffers, with that of a number changed
+abbrev pub changed_at : ℕ → (Buffer → Buffer) → List (Option Buffer) → List (Option Buffer)
+changed_at n f [] = []
+changed_at zero f (b ∷ bs) = option_map f b ∷ bs
+changed_at (suc n) f (b ∷ bs) = b ∷ changed_at n f bs
+
+-- the least number of a buffer
+abbrev pub lowest : List (Option Buffer) → ℕ
+lowest [] = 0
+lowest (Some b ∷ bs) = 0
+lowest (None ∷ bs) = suc (lowest bs)
 
 -- the least number from n on that isn't among the numbers, of which there are at most `left` from n on
 abbrev pub first_free : ℕ → ℕ → List ℕ → ℕ
@@ -82,93 +141,110 @@ first_free (suc left) n numbers = if list_any (λ m. m == n) numbers then first_
 abbrev pub least_free : List ℕ → ℕ
 least_free numbers = first_free (length numbers) 0 numbers
 
--- the world with one more client, named by the least number that no other has
-abbrev pub joined_by : ℕ → Flat → Flat
-joined_by who flat = record {
-  text = flat.text;
-  clients = flat.clients ++ newcomer who (least_free (map (λ c. c.number) flat.clients)) ∷ [];
-  units = flat.units;
-}
-
--- the world without a client
-abbrev pub left_by : ℕ → Flat → Flat
-left_by who flat = record { text = flat.text; clients = filter (λ c. not (c.who == who)) flat.clients; units = flat.units }
-
--- whether a client has joined and not left
-abbrev pub is_joined : ℕ → Flat → Bool
-is_joined who flat = is_here who flat.clients
+-- the numbers in the clients' names
+abbrev pub numbers_of : List Client → List ℕ
+numbers_of clients = map (λ c. c.number) clients
 
 -- what the world says of a client
-abbrev pub client_of : ℕ → Flat → Client
-client_of who flat = client_in who flat.clients
+unfoldable pub client_of : ℕ → Flat → Client
+client_of who flat = first_where (is_of who) (newcomer who 0 0) flat.clients
 
-abbrev pub text_of : ℕ → Flat → List ℕ
-text_of who flat = flat.text
+-- the number of the buffer that it sees
+unfoldable pub shown_of : ℕ → Flat → ℕ
+shown_of who flat = (client_of who flat).shown
 
-abbrev pub number_of : ℕ → Flat → ℕ
+-- the buffer that it sees
+unfoldable pub buffer_of : ℕ → Flat → Buffer
+buffer_of who flat = buffer_at (shown_of who flat) flat.buffers
+
+-- its list there
+unfoldable pub list_of : ℕ → Flat → Held
+list_of who flat = list_on (Of who) (buffer_of who flat)
+
+-- whether a client has joined and not left: it is here, and so is the buffer that it sees, with a list of its own
+unfoldable pub is_joined : ℕ → Flat → Bool
+is_joined who flat = is_here who flat.clients && (is_there (shown_of who flat) flat.buffers && has_list (Of who) (buffer_of who flat))
+
+-- what is the client's own
+unfoldable pub own_of : ℕ → Flat → Own
+own_of who flat = (client_of who flat).own
+
+-- the number in its name
+unfoldable pub number_of : ℕ → Flat → ℕ
 number_of who flat = (client_of who flat).number
 
+-- the name of the buffer that it sees, the text and its selections
+unfoldable pub name_of : ℕ → Flat → List ℕ
+name_of who flat = (buffer_of who flat).name
+
+unfoldable pub text_of : ℕ → Flat → List ℕ
+text_of who flat = (buffer_of who flat).text
+
+unfoldable pub sels_of : ℕ → Flat → Selected
+sels_of who flat = (list_of who flat).sels
+
+-- the window through which it sees the buffer
+unfoldable pub view_of : ℕ → Flat → View
+view_of who flat = (list_of who flat).view
+
+-- how many cells lie between tab stops where a client looks
+unfoldable pub tabstop_of : ℕ → Flat → ℕ
+tabstop_of who flat = 8
+
+-- how many keys and commands the step may still run
+unfoldable pub units_of : Flat → ℕ
+units_of flat = flat.rest.units
+
 abbrev pub mode_of : ℕ → Flat → Mode
-mode_of who flat = (client_of who flat).mode
+mode_of who flat = (own_of who flat).mode
 
 abbrev pub count_of : ℕ → Flat → ℕ
-count_of who flat = (client_of who flat).count
+count_of who flat = (own_of who flat).count
 
-abbrev pub awaiting_of : ℕ → Flat → Awaiting
-awaiting_of who flat = (client_of who flat).awaiting
-
-abbrev pub sels_of : ℕ → Flat → Selected
-sels_of who flat = (client_of who flat).sels
-
-abbrev pub view_of : ℕ → Flat → View
-view_of who flat = (client_of who flat).view
+abbrev pub pending_of : ℕ → Flat → Option Key
+pending_of who flat = (own_of who flat).pending
 
 abbrev pub status_of : ℕ → Flat → Status
-status_of who flat = (client_of who flat).status
+status_of who flat = (own_of who flat).status
 
 abbrev pub prompt_of : ℕ → Flat → List ℕ
-prompt_of who flat = (client_of who flat).prompt
+prompt_of who flat = (own_of who flat).prompt
 
 abbrev pub is_leaving : ℕ → Flat → Bool
-is_leaving who flat = (client_of who flat).leaving
+is_leaving who flat = (own_of who flat).leaving
 
 abbrev pub is_drawn : ℕ → Flat → Bool
-is_drawn who flat = (client_of who flat).drawn
+is_drawn who flat = (own_of who flat).drawn
 
--- the world with a client changed
-abbrev pub with_client : ℕ → (Client → Client) → Flat → Flat
-with_client who f flat = record { text = flat.text; clients = changed_in who f flat.clients; units = flat.units }
+-- the world with what is a client's own changed
+unfoldable pub with_own : ℕ → (Own → Own) → Flat → Flat
+with_own who f flat = record flat { clients = changed_where (is_of who) (λ c. record c { own = f c.own }) flat.clients }
 
-abbrev pub with_mode : ℕ → Mode → Flat → Flat
-with_mode who mode flat = with_client who (λ c. record c { mode = mode }) flat
+-- the world with a client's list on the buffer that it sees changed
+unfoldable pub with_list_of : ℕ → (Held → Held) → Flat → Flat
+with_list_of who f flat = record flat { buffers = changed_at (shown_of who flat) (with_list (Of who) f) flat.buffers }
 
-abbrev pub with_count : ℕ → ℕ → Flat → Flat
-with_count who count flat = with_client who (λ c. record c { count = count }) flat
+-- the world with other selections of a client
+unfoldable pub with_sels : ℕ → Selected → Flat → Flat
+with_sels who sels flat = with_list_of who (λ held. record held { sels = sels }) flat
 
-abbrev pub with_awaiting : ℕ → Awaiting → Flat → Flat
-with_awaiting who awaiting flat = with_client who (λ c. record c { awaiting = awaiting }) flat
+-- the world with another window of a client
+unfoldable pub with_view : ℕ → View → Flat → Flat
+with_view who view flat = with_list_of who (λ held. record held { view = view }) flat
 
--- the world in which a client has no count, and no key of it is waited for
-abbrev pub cleared : ℕ → Flat → Flat
-cleared who flat = with_client who (λ c. record c { count = 0; awaiting = awaits.Nothing }) flat
+unfoldable pub with_units : ℕ → Flat → Flat
+with_units units flat = record flat { rest = record flat.rest { units = units } }
 
-abbrev pub with_sels : ℕ → Selected → Flat → Flat
-with_sels who sels flat = with_client who (λ c. record c { sels = sels }) flat
+-- the world with one more client, named by the least number that no other has; it sees the buffer with the least number
+unfoldable pub joined_by : ℕ → Flat → Flat
+joined_by who flat = record flat {
+  buffers = changed_at (lowest flat.buffers) (listed_for (Of who)) flat.buffers;
+  clients = flat.clients ++ newcomer who (least_free (numbers_of flat.clients)) (lowest flat.buffers) ∷ [];
+}
 
-abbrev pub with_view : ℕ → View → Flat → Flat
-with_view who view flat = with_client who (λ c. record c { view = view }) flat
-
-abbrev pub with_status : ℕ → Status → Flat → Flat
-with_status who status flat = with_client who (λ c. record c { status = status }) flat
-
-abbrev pub with_prompt : ℕ → List ℕ → Flat → Flat
-with_prompt who prompt flat = with_client who (λ c. record c { prompt = prompt }) flat
-
-abbrev pub with_leaving : ℕ → Flat → Flat
-with_leaving who flat = with_client who (λ c. record c { leaving = true }) flat
-
-abbrev pub with_drawn : ℕ → Flat → Flat
-with_drawn who flat = with_client who (λ c. record c { drawn = true }) flat
-
-abbrev pub with_units : ℕ → Flat → Flat
-with_units units flat = record { text = flat.text; clients = flat.clients; units = units }
+-- the world without a client and its lists
+unfoldable pub left_by : ℕ → Flat → Flat
+left_by who flat = record flat {
+  buffers = map (option_map (unlisted_for (Of who))) flat.buffers;
+  clients = filter (λ c. not (is_of who c)) flat.clients;
+}

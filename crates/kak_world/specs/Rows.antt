@@ -1,5 +1,7 @@
 -- What a row, which is one key or one command, gives: the new world, and what comes next.
-use Rattle.std.specs.Prelude.{◌≡◌, ℕ, List, [], ◌++◌, codes}
+use Rattle.std.specs.Prelude.{◌≡◌, ℕ, List, [], ◌++◌, codes, IfSome}
+use Rattle.std.specs.declared.option.Option.{Option}
+use Rattle.std.specs.Prelude.{Some, None}
 use Rattle.std.specs.declared.result.Result.{Result}
 use Rattle.std.specs.Prelude.{Ok, Err}
 use Rattle.kak_world.specs.declared.ask.Ask.{Ask}
@@ -36,12 +38,13 @@ error_text NoMemory = []
 abbrev pub fails : EditError → Flat → RowEnd
 fails error flat = record { world = flat; row = Fails (error_text error) }
 
+-- what comes after a row that was refused: its status text, or that the step is given up; want of memory has no row
+abbrev pub row_of : EditError → Option Row
+row_of NoMemory = None
+row_of BudgetSpent = Some GivesUp
+row_of error = Some (Fails (error_text error))
+
 -- what a row's code answered, over the world that it left, is what the row gives, unless memory was wanting
 abbrev pub Gives : Result Ask EditError → Flat → RowEnd → Type 0
 Gives (Ok ask) new end = end ≡ record { world = new; row = Asks ask }
-Gives (Err NoMemory) new end = Unit {0}
-Gives (Err TextFull) new end = end ≡ record { world = new; row = Fails (error_text TextFull) }
-Gives (Err (NoSuchCommand name)) new end = end ≡ record { world = new; row = Fails (error_text (NoSuchCommand name)) }
-Gives (Err NothingSelected) new end = end ≡ record { world = new; row = Fails (error_text NothingSelected) }
-Gives (Err TooManySelections) new end = end ≡ record { world = new; row = Fails (error_text TooManySelections) }
-Gives (Err BudgetSpent) new end = end ≡ record { world = new; row = GivesUp }
+Gives (Err error) new end = IfSome (row_of error) (λ row. end ≡ record { world = new; row = row })

@@ -1,64 +1,62 @@
 -- How the flat world is seen in the state that the code keeps.
-use Rattle.std.specs.Prelude.{◌≡◌, ℕ, List, [], ◌∷◌, None, Some, map}
-use Rattle.text_model.specs.Changes.{Move}
-use Rattle.text_model.specs.Mapping.{shifted}
-use Rattle.list_model.specs.Settling.{carried, each_settled}
+use Rattle.std.specs.Prelude.{◌≡◌, ℕ, ◌≤◌, Bool, true, List, [], ◌∷◌, length, map}
+use Rattle.std.specs.List.{AllByRecursion}
 use Rattle.text_model.specs.declared.coords.Shift.{Shift}
-use Rattle.selection_map.specs.Carrying.{AllSmall as ListIsSmall}
-use Rattle.std.specs.declared.option.Option.{Option}
+use Rattle.text_model.specs.Texts.{IsStored}
+use Rattle.text_model.specs.Changes.{Change, all_changed}
+use Rattle.selection_map.specs.Catching.{AreShiftsOf}
 use Rattle.window_view.specs.Views.{view_of as window_seen}
-use Rattle.kak_world.specs.declared.client.ClientState.{ClientState}
-use Rattle.kak_world.specs.Flat.{Client, Flat}
 use Rattle.selection_set.specs.Held.{selected, IsHeld}
+use Rattle.kak_world.specs.declared.lists.HeldList.{HeldList}
+use Rattle.kak_world.specs.declared.holder.Holder.{Holder}
+use Rattle.std.specs.declared.option.Option.{Option}
+use Rattle.kak_world.specs.Flat.{Held, Buffer, Flat, same_holder, lowest, is_there}
+use Rattle.kak_world.specs.Changing.{list_moved}
 
--- a client, over the text
-abbrev pub client_seen : List ℕ → ClientState → Client
-client_seen text c = record {
-  who = c.who;
-  number = c.number;
-  mode = c.mode;
-  count = c.count;
-  awaiting = c.awaiting;
-  sels = selected text c.sels;
-  view = window_seen c.window;
-  status = c.status;
-  prompt = c.prompt;
-  leaving = c.leaving;
-  drawn = c.drawn;
-}
+-- a list, over the text of its buffer
+abbrev pub held_seen : List ℕ → HeldList → Held
+held_seen text h = record { holder = h.holder; sels = selected text h.sels; view = window_seen h.window }
 
--- the clients that are there
-abbrev pub clients_seen : List ℕ → Option ClientState → List Client
-clients_seen text None = []
-clients_seen text (Some c) = client_seen text c ∷ []
+-- whether a list is a holder's
+abbrev pub is_list_of : Holder → HeldList → Bool
+is_list_of holder h = same_holder holder h.holder
 
--- a client whose selections were carried and settled
-abbrev pub carried_along : Move → Client → Client
-carried_along m c = record c { sels = each_settled (carried (shifted m)) c.sels }
+-- a buffer
+abbrev pub buffer_seen : List ℕ → Bool → List ℕ → List HeldList → Buffer
+buffer_seen name is_file text lists = record { name = name; is_file = is_file; text = text; lists = map (held_seen text) lists }
 
--- the lists of those that are there lie inside the text, and are settled
-abbrev pub AreHeld : List ℕ → Option ClientState → Type 0
-AreHeld text None = Unit {0}
-AreHeld text (Some c) = IsHeld text c.sels
+-- the lists on a text lie inside it, and are settled
+abbrev pub AreHeld : List ℕ → List HeldList → Type 0
+AreHeld text lists = AllByRecursion (λ h. IsHeld text h.sels) lists
 
--- a client after a change of the text: its selections were carried and settled, all else stayed
-pub record IsCarried (old new : List ℕ) (m : Move) (before now : ClientState) : Type 0 where
-  pub held : IsHeld new now.sels
-  pub seen : client_seen new now ≡ carried_along m (client_seen old before)
+-- a list has gone through single changes of its text
+pub record HasMoved (text : List ℕ) (cs : List Change) (before now : HeldList) : Type 0 where
+  pub held : IsHeld (all_changed text cs) now.sels
+  pub seen : held_seen (all_changed text cs) now ≡ list_moved text cs (held_seen text before)
 
--- the coordinates of all selections and of a shift are within what a text may have
-abbrev pub AllSmall : Option ClientState → Shift → Type 0
-AllSmall None shift = Unit {0}
-AllSmall (Some c) shift = ListIsSmall c.sels.list shift
+-- each of some lists has
+abbrev pub HaveMoved : List ℕ → List Change → List HeldList → List HeldList → Type 0
+HaveMoved text cs [] [] = Unit {0}
+HaveMoved text cs (h ∷ hs) (k ∷ ks) = HasMoved text cs h k × HaveMoved text cs hs ks
+HaveMoved text cs [] (k ∷ ks) = ⊥
+HaveMoved text cs (h ∷ hs) [] = ⊥
 
--- the clients after a change of the text: their selections were carried and settled, all else stayed
-pub record AreCarried (old new : List ℕ) (m : Move) (before now : Option ClientState) : Type 0 where
-  pub held : AreHeld new now
-  pub seen : clients_seen new now ≡ map (carried_along m) (clients_seen old before)
+-- lists on a text that were changed as a buffer with them is by a function, whatever else is said of the buffer
+abbrev pub AreListedBy : (Buffer → Buffer) → List ℕ → List HeldList → List HeldList → Type 0
+AreListedBy f text old new = (name : List ℕ) (file : Bool) → buffer_seen name file text new ≡ f (buffer_seen name file text old)
 
--- the world that is seen
-abbrev pub world_seen : List ℕ → Option ClientState → ℕ → Flat
-world_seen text client units = record { text = text; clients = clients_seen text client; units = units }
+-- some buffer is there, and their numbers are below 1,024
+pub record HasBuffer (buffers : List (Option Buffer)) : Type 0 where
+  pub some : is_there (lowest buffers) buffers ≡ true
+  pub few : length buffers ≤ 1024
+
+-- lists are held in a text, and shifts are those of changes of it
+pub record CanMove (lists : List HeldList) (shifts : List Shift) : Type 0 where
+  pub text : List ℕ
+  pub changes : List Change
+  pub stored : IsStored text
+  pub shifts_are : AreShiftsOf text changes shifts
+  pub held : AreHeld text lists
 
 -- the world as contracts see it
 pub record Kept : Type 0 where

@@ -1,10 +1,10 @@
 //! What one key or one command gives: an ask for what comes next, or a refusal.
 
-ghost use Rattle.std.specs.Prelude.{◌≡◌};
+ghost use Rattle.std.specs.Prelude.{◌≡◌, IfOk, IsErr};
 ghost use Rattle.kak_world.specs.declared.ask.EditError.TheVariants.{NoMemory};
 
 use kak_text::Chars;
-use std::alloc::AllocError;
+use std::alloc::{AllocError, Global};
 
 /// What the engine is to do after a key or a command.
 #[derive(Drop, Debug)]
@@ -39,5 +39,28 @@ impl From<AllocError> for EditError {
 
     fn from(_e: AllocError) -> EditError {
         EditError::NoMemory
+    }
+}
+
+impl EditError {
+    ghost use Rattle.kak_world.specs.Rows.{error_text};
+
+    /// The status text. Want of memory has none, so that it is answered by an `Err`.
+    pub fn text(&self, alloc: Global) -> Result<Chars, AllocError>
+        ensures text { IfOk result (λ text. text ≡ error_text self.now) }
+        ensures memory { self.now ≡ EditError.NoMemory → IsErr result }
+    {
+        match self {
+            EditError::TextFull => Chars::from_str(alloc, "text is full"),
+            EditError::NothingSelected => Chars::from_str(alloc, "nothing selected"),
+            EditError::TooManySelections => Chars::from_str(alloc, "too many selections"),
+            EditError::BudgetSpent => Chars::from_str(alloc, "given up: budget spent"),
+            EditError::NoSuchCommand(name) => {
+                let mut text = Chars::from_str(alloc, "no such command: ")?;
+                text.extend_from_slice(name.as_slice())?;
+                Ok(text)
+            }
+            EditError::NoMemory => Err(AllocError),
+        }
     }
 }

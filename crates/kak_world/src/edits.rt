@@ -1,78 +1,89 @@
-//! Changes of the text, which move the selections of all clients.
+//! Characters that go in before cursors.
 
-ghost use Rattle.std.specs.Prelude.{◌≡◌, ℕ, List, ◌<◌, ◌+◌, length, OnOk, OnErr, IsErrOf, ◌↔◌};
+ghost use Rattle.std.specs.Prelude.{◌≡◌, ℕ, ◌<◌, ◌≤◌, ◌+◌, ◌*◌, true, [], length, IfOk, OnOk, OnErr, vec_capacity};
 ghost use Rattle.text_model.specs.declared.TheConstants.{MAX_CHARS};
-ghost use Rattle.text_model.specs.Texts.{IsPlace, offset};
-ghost use Rattle.text_model.specs.Changes.{Move};
-ghost use Rattle.selection_map.specs.Carrying.{AllSmall as ListIsSmall, IsStep};
-ghost use Rattle.selection_set.specs.Held.{IsHeld};
-ghost use Rattle.kak_world.specs.Seen.{AreHeld, IsCarried, AllSmall, AreCarried, clients_seen, world_seen};
-ghost use Rattle.kak_world.specs.Flat.{is_here, is_joined};
-ghost use Rattle.kak_world.specs.Changing.{put_at};
+ghost use Rattle.text_model.specs.Texts.{IsStored, IsPlace, offset};
+ghost use Rattle.text_model.specs.Changes.{Insertion, changed, move_of, IsShift};
+ghost use Rattle.selection_set.specs.Listing.{ranges_of};
+ghost use Rattle.kak_world.specs.Flat.{is_joined, shown_of, text_of, sels_of};
+ghost use Rattle.kak_world.specs.Changing.{before_cursors, put_before_cursors, IsAfterSomeIn};
+ghost use Rattle.kak_world.specs.Typing.{ArePut, IsHeldSlice};
 
-use crate::client::ClientState;
+use crate::holder::Holder;
 use crate::world::World;
 use kak_text::{Coord, Shift};
 use line_buffer::{Lines, LinesError};
-use selection_map::map_sels;
-use std::alloc::Global;
+use selection_map::rebase;
+use selection_set::Sel;
+use std::alloc::{AllocError, Global};
 
-// Carries a client's selections through a change of the text, and settles them.
-fn carry(client: &mut ClientState, shift: &Shift)
-    requires { ListIsSmall client.old.sels.list shift.now }
-    ensures carries { (old new : List ℕ) (m : Move) → IsStep old new shift.now m → IsHeld old client.old.sels → IsCarried old new m client.old client.new }
-{
-    map_sels(&mut client.sels, shift);
-}
-
-// Carries and settles the selections of those that are there through a change of the text.
-fn carry_all(client: &mut Option<ClientState>, shift: &Shift)
-    requires { AllSmall client.old shift.now }
-    ensures carries { (old new : List ℕ) (m : Move) → IsStep old new shift.now m → AreHeld old client.old → AreCarried old new m client.old client.new }
-{
-    match client {
-        None => {}
-        Some(c) => carry(c, shift),
-    }
-}
-
-// Puts characters into the text, and carries and settles the selections of those that are there.
-fn put_in_both(
-    alloc: Global,
-    lines: &mut Lines,
-    client: &mut Option<ClientState>,
-    at: Coord,
-    chars: &[char],
-) -> Result<(), LinesError>
+// Puts characters in at a place of a text that has room for them.
+fn put_one(alloc: Global, lines: &mut Lines, at: Coord, chars: &[char]) -> Result<Shift, AllocError>
     requires place { IsPlace lines.old at }
-    requires some { 0 < length chars.now }
-    requires held { AreHeld lines.old client.old }
-    ensures ok { OnOk result ((units : ℕ) → world_seen lines.new client.new units ≡ put_at (offset lines.old at) chars.now (world_seen lines.old client.old units)) }
-    ensures held { AreHeld lines.new client.new }
-    ensures full { IsErrOf result LinesError.TextFull ↔ (MAX_CHARS < length lines.old + length chars.now) }
-    ensures err { OnErr result ((lines.new ≡ lines.old) × (client.new ≡ client.old)) }
-    ensures stay { (who : ℕ) → is_here who (clients_seen lines.new client.new) ≡ is_here who (clients_seen lines.old client.old) }
+    requires room { length lines.old + length chars.now ≤ MAX_CHARS }
+    ensures text { OnOk result (lines.new ≡ changed lines.old (Insertion (offset lines.old at) chars.now)) }
+    ensures shift { IfOk result (λ s. IsShift lines.old lines.new s (move_of lines.old (Insertion (offset lines.old at) chars.now))) }
+    ensures err { OnErr result (lines.new ≡ lines.old) }
+    ensures valid { IsStored lines.new }
 {
     match lines.insert(alloc, at, chars) {
-        Err(error) => Err(error),
-        Ok(shift) => {
-            carry_all(client, &shift);
-            Ok(())
-        }
+        Ok(shift) => Ok(shift),
+        Err(LinesError::NoMemory) => Err(AllocError),
+        Err(LinesError::TextFull) => unreachable!(),
     }
+}
+
+/// Puts characters in before the cursor of each of some selections, from the first to the last, and notes the shifts, for
+/// which there is room. An `Err` leaves the text after some of the changes, from the first on, with their shifts.
+pub(crate) fn put_before_each(
+    alloc: Global,
+    lines: &mut Lines,
+    sels: &[Sel],
+    chars: &[char],
+    shifts: &mut Vec<Shift>,
+) -> Result<(), AllocError>
+    requires some { 0 < length chars.now }
+    requires room { length lines.old + length sels.now * length chars.now ≤ MAX_CHARS }
+    requires none { shifts.old.items ≡ [] }
+    requires reserved { length sels.now ≤ vec_capacity shifts.old }
+    requires held { IsHeldSlice lines.old sels.now }
+    ensures stored { IsStored lines.old }
+    ensures puts { (main : ℕ) → ArePut result (before_cursors chars.now lines.old (record { list = ranges_of lines.old sels.now; main = main })) lines.old lines.new shifts.new.items }
+{
+    // its contract says that the text is one that can be kept
+    let _stored = lines.len();
+    let mut from = Coord { line: 0, column: 0 };
+    let mut to = from;
+    for sel in sels {
+        let at = sel.cursor();
+        let shift = put_one(alloc, lines, rebase(at, from, to), chars)?;
+        from = at;
+        to = shift.end;
+        shifts.push_reserved(shift);
+    }
+    Ok(())
 }
 
 impl World {
-    /// Puts characters, of which there are some, in at a place of the text. `TextFull` comes exactly where the text
-    /// would have more than `MAX_CHARS` characters; an `Err` leaves the world.
-    pub fn insert(&mut self, alloc: Global, at: Coord, chars: &[char]) -> Result<(), LinesError>
-        requires place { IsPlace self.old.flat.text at }
+    /// Puts characters in before each cursor of a client, from the first to the last, where the text that it sees has
+    /// room for all of them. Each single change moves every list on that text, whoever holds it. An `Err` leaves the
+    /// world after some of the single changes, from the first on.
+    pub fn put_before_cursors(
+        &mut self,
+        alloc: Global,
+        who: u32,
+        chars: &[char],
+    ) -> Result<(), AllocError>
+        requires joined { is_joined who self.old.flat ≡ true }
         requires some { 0 < length chars.now }
-        ensures ok { OnOk result (self.new.flat ≡ put_at (offset self.old.flat.text at) chars.now self.old.flat) }
-        ensures full { IsErrOf result LinesError.TextFull ↔ (MAX_CHARS < length self.old.flat.text + length chars.now) }
-        ensures err { OnErr result (self.new.flat ≡ self.old.flat) }
-        ensures stay { (who : ℕ) → is_joined who self.new.flat ≡ is_joined who self.old.flat }
+        requires room { length (text_of who self.old.flat) + length (sels_of who self.old.flat).list * length chars.now ≤ MAX_CHARS }
+        ensures ok { OnOk result (self.new.flat ≡ put_before_cursors chars.now who self.old.flat) }
+        ensures err { OnErr result (IsAfterSomeIn (shown_of who self.old.flat) (before_cursors chars.now (text_of who self.old.flat) (sels_of who self.old.flat)) self.old.flat self.new.flat) }
     {
-        put_in_both(alloc, &mut self.lines, &mut self.client, at, chars)
+        let n = self.clients.client(who).shown as usize;
+        match &mut self.buffers[n] {
+            None => unreachable!(),
+            Some(buffer) => buffer.put_before_cursors(alloc, Holder::Of(who), chars),
+        }
     }
 }

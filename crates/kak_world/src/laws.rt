@@ -1,15 +1,35 @@
-//! Laws of the flat world, and the value of its constant: each is the contract of a function that does nothing.
+//! Laws of the flat world, and worked examples of its definitions: each is the contract of a function that does nothing.
 
-ghost use Rattle.std.specs.Prelude.{◌≡◌};
-ghost use Rattle.kak_world.specs.declared.state.TheConstants.{TABSTOP};
+ghost use Rattle.kak_world.specs.DroppingExamples.{DroppingExamples};
+ghost use Rattle.kak_world.specs.Examples.{Examples};
 ghost use Rattle.kak_world.specs.Names.{NamesAreLeast};
+ghost use Rattle.kak_world.specs.Showing.{GapsAreTaken};
+ghost use Rattle.kak_world.specs.ShowingExamples.{ShowingExamples};
 
 /// The number in a new client's name is the least that no other client has.
 pub fn names_are_least()
     ensures { NamesAreLeast }
 {}
 
-/// Tab stops lie eight cells apart.
-pub fn tab_stops()
-    ensures { TABSTOP ≡ 8 }
+/// The number of a new buffer was no buffer's, and all numbers below it are; each other number has what it had.
+pub fn gaps_are_taken()
+    ensures { GapsAreTaken }
+{}
+
+/// Worked examples of clients that come and go, and of changes that move everybody's selections.
+#[tactic(auto, unfolding(crate::specs::Flat::client_of, crate::specs::Flat::shown_of, crate::specs::Flat::buffer_of, crate::specs::Flat::list_of, crate::specs::Flat::is_joined, crate::specs::Flat::own_of, crate::specs::Flat::name_of, crate::specs::Flat::text_of, crate::specs::Flat::sels_of, crate::specs::Flat::joined_by, crate::specs::Flat::left_by, crate::specs::Changing::changed_in, crate::specs::Changing::put_before_cursors))]
+pub fn worked_examples()
+    ensures { Examples }
+{}
+
+/// Worked examples of buffers that are opened, and of clients that are shown one.
+#[tactic(auto, unfolding(crate::specs::Flat::client_of, crate::specs::Flat::shown_of, crate::specs::Flat::buffer_of, crate::specs::Flat::list_of, crate::specs::Flat::is_joined, crate::specs::Flat::name_of, crate::specs::Flat::sels_of, crate::specs::Flat::with_list_of, crate::specs::Flat::with_sels, crate::specs::Flat::joined_by, crate::specs::Showing::shows, crate::specs::Showing::opened))]
+pub fn showing_examples()
+    ensures { ShowingExamples }
+{}
+
+/// Worked examples of buffers that are dropped.
+#[tactic(auto, unfolding(crate::specs::Flat::client_of, crate::specs::Flat::shown_of, crate::specs::Flat::buffer_of, crate::specs::Flat::list_of, crate::specs::Flat::is_joined, crate::specs::Flat::name_of, crate::specs::Flat::sels_of, crate::specs::Flat::with_list_of, crate::specs::Flat::with_sels, crate::specs::Flat::joined_by, crate::specs::Showing::shows, crate::specs::Showing::opened, crate::specs::Dropping::dropped))]
+pub fn dropping_examples()
+    ensures { DroppingExamples }
 {}

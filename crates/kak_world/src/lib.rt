@@ -1,14 +1,26 @@
-//! The shared state of a session: the text, and the clients that edit it. Contracts see it as the flat world.
+//! The shared state of a session: texts under numbers with the selection lists on them, and the clients that edit them.
+//! Contracts see it as the flat world.
 #![tactic(auto)]
 
 pub mod ask;
-pub mod client;
+pub mod buffer;
+pub mod clients;
+pub mod coming;
+pub mod dropping;
 pub mod edits;
+pub mod holder;
 pub mod laws;
+mod lists;
 pub mod own;
-pub mod state;
+pub mod reads;
+pub mod showing;
+pub mod slots;
 pub mod world;
 
 pub use ask::{Ask, EditError};
-pub use state::{Awaiting, Mode, Reach, Search, Status, TABSTOP};
-pub use world::World;
+pub use buffer::Buffer;
+pub use clients::Client;
+pub use holder::Holder;
+pub use own::{Mode, Own, Status};
+pub use slots::{MAX_BUFFERS, WorldError};
+pub use world::{MAX_CLIENTS, Rest, World};

@@ -1,9 +1,10 @@
 -- Settled lists of what was made of selections.
-use Rattle.std.proofs.Common.{◌≡◌, ℕ, zero, suc, ◌+◌, ◌-◌, ◌<◌, ◌≤◌, Bool, true, false, is_some, List, [], ◌∷◌, length, take, get_or, Option, None, Some, Result, Ok, Err, IfOk, filter_map, refl, sym, ap, subst, subst₂, ◌∙◌, arith}
-use Rattle.std.specs.Prelude.{if◌then◌else◌}
+use Rattle.std.proofs.Common.{◌≡◌, ℕ, zero, suc, ◌+◌, ◌-◌, ◌<◌, ◌≤◌, Bool, true, false, is_some, List, [], ◌∷◌, ◌++◌, length, take, get_or, Option, None, Some, Result, Ok, Err, IfOk, filter_map, refl, sym, ap, subst, subst₂, ◌∙◌, arith, inl, inr, length-append}
+use Rattle.std.specs.Prelude.{if◌then◌else◌, ◌==◌}
 use Rattle.std.specs.List.{AllByRecursion, cons_option}
 use Rattle.std.proofs.lemmas.Bool.{false≢true}
-use Rattle.std.proofs.lemmas.List.{length-map}
+use Rattle.std.proofs.lemmas.List.{length-map, get_or_default}
+use Rattle.text_model.proofs.CoordLemmas.{test_cases}
 use Rattle.list_model.specs.Ranges.{Range, Selected, IsRange, only}
 use Rattle.list_model.specs.Settling.{settled}
 use Rattle.selection_set.specs.declared.sel.Sel.{Sel}
@@ -11,9 +12,11 @@ use Rattle.selection_set.specs.Inside.{range_of}
 use Rattle.selection_set.specs.Listing.{Listed, AreInside, ranges_of, IsSettledIn}
 use Rattle.selection_set.proofs.SettleLemmas.{ranges-inside}
 use Rattle.selection_set.specs.Held.{selected, IsHeld, main_of}
-use Rattle.selection_set.proofs.HeldLemmas.{settled-held, selected-is, IsMain}
+use Rattle.selection_set.proofs.HeldLemmas.{settled-held, selected-is, zero_sel, IsMain, main-sel}
 use Rattle.selection_set.specs.declared.making.SelsError.{SelsError}
-use Rattle.list_keys.specs.Rows.{settled_some, main_left, main_copied}
+use Rattle.std.specs.Prelude.{option_map}
+use Rattle.list_keys.proofs.EachLemmas.{was-found}
+use Rattle.list_keys.specs.Rows.{settled_some, main_left, main_copied, with_copies}
 
 -- what was settled, by the ranges that it is
 settled-given : (text : List ℕ) (slice list : List Sel) (main : ℕ) (given : Selected) (s : Listed) → slice ≡ list → AreInside text list → ranges_of text list ≡ given.list → main ≡ given.main
@@ -100,3 +103,47 @@ kept-place f s e = ap (λ b. if b then length s.list + length (filter_map f (tak
 pub ok-weaker : (result : Result Listed SelsError) (P Q : Listed → Type 0) → ((s : Listed) → P s → Q s) → IfOk result P → IfOk result Q
 ok-weaker (Ok s) P Q f h = f s h
 ok-weaker (Err e) P Q f h = h
+
+-- whether something is made of the main selection, by what was found for it
+pub main-found : (text : List ℕ) (f : Range → Option Range) (s : Listed) (all : List Sel) (main : ℕ) (found : Option Sel) (flag b : Bool) → IsHeld text s → all ≡ s.list → main ≡ s.main → option_map (range_of text) found ≡ f (range_of text (get_or all main zero_sel)) → flag ≡ is_some found → flag ≡ b
+    → is_some (f (main_of (selected text s))) ≡ b
+main-found text f s all main found flag b h a m g e k =
+    let below : main < length s.list = omega (arith, m, h.settled.main_is, length-map s.list (range_of text)) in
+    let here : get_or all main zero_sel ≡ get_or s.list main zero_sel = ap (λ l. get_or l main zero_sel) a in
+    main-made text f s (get_or all main zero_sel) flag b (main-sel text s main (get_or all main zero_sel) m (λ d. here ∙ get_or_default s.list main zero_sel d below) h) (e ∙ was-found text found (f (range_of text (get_or all main zero_sel))) g) k
+
+pub main-below : (text : List ℕ) (s : Listed) (all : List Sel) (main : ℕ) → IsHeld text s → all ≡ s.list → main ≡ s.main → main < length all
+main-below text s all main h a m = omega (arith, m, ap length a, h.settled.main_is, length-map s.list (range_of text))
+
+-- so many stand before it
+pub made-before : (text : List ℕ) (f : Range → Option Range) (s : Listed) (all : List Sel) (main : ℕ) (old before : List Sel) → all ≡ s.list → main ≡ s.main → ranges_of text before ≡ ranges_of text old ++ filter_map f (ranges_of text (take main all))
+    → length before ≡ length old + length (filter_map f (take s.main (ranges_of text s.list)))
+made-before text f s all main old before a m e =
+    omega (
+      arith,
+      ap length e,
+      length-map before (range_of text),
+      length-map old (range_of text),
+      length-append (ranges_of text old) (filter_map f (ranges_of text (take main all))),
+      count-before text f s main (length (filter_map f (ranges_of text (take main all)))) m (ap (λ l. length (filter_map f (ranges_of text (take main l)))) a),
+    )
+
+-- the main place of what is left is one of its places, and so is that with the copies
+pub left-below : (text : List ℕ) (f : Range → Option Range) (s : Listed) → IsHeld text s → 0 < length (filter_map f (ranges_of text s.list)) → main_left f (selected text s) < length (filter_map f (ranges_of text s.list))
+left-below text f s h some =
+    elim (test_cases (is_some (f (main_of (selected text s))))) [
+      | inl e ↦ omega (arith, left-place f (selected text s) e, before-below text f s h e)
+      | inr e ↦ omega (arith, some, dropped-place f (selected text s) e)
+    ]
+
+pub copied-below : (text : List ℕ) (f : Range → Option Range) (s : Listed) → IsHeld text s → main_copied f (selected text s) < length (with_copies f (selected text s))
+copied-below text f s h =
+    elim (test_cases (is_some (f (main_of (selected text s))))) [
+      | inl e ↦ omega (arith, copied-place f (selected text s) e, before-below text f s h e, length-append (ranges_of text s.list) (filter_map f (ranges_of text s.list)))
+      | inr e ↦ omega (arith, kept-place f (selected text s) e, h.settled.main_is, length-append (ranges_of text s.list) (filter_map f (ranges_of text s.list)))
+    ]
+
+-- what isn't empty has some
+pub not-empty : (n : ℕ) (b : Bool) → b ≡ (n == 0) → b ≡ false → 0 < n
+not-empty zero b e f = absurd (false≢true (sym f ∙ e))
+not-empty (suc n) b e f = omega arith

@@ -5,6 +5,10 @@ use Rattle.std.specs.declared.option.Option.{Option}
 use Rattle.kak_text.specs.declared.classes.Class.TheVariants.{Blank, Line}
 use Rattle.kak_text.specs.Classes.{class_of, is_same}
 use Rattle.list_model.specs.Ranges.{Range, only}
+use Rattle.list_keys.specs.declared.cuts.Cut.{Cut}
+use Rattle.list_keys.specs.declared.cuts.Cut.TheVariants.{WholeLines, Trimmed}
+use Rattle.list_keys.specs.declared.parts.Split.{Split}
+use Rattle.list_keys.specs.declared.parts.Split.TheVariants.{AtLineEnds, IntoEnds}
 use Rattle.motion_keys.specs.Extremes.{least_between, greatest_below}
 
 -- whether a line ends at an offset: its character is a newline (10)
@@ -50,3 +54,13 @@ parts_of text r = parts_between r.turned r.low (filter (ends_part text r.high) (
 -- the first and the last character of a selection
 abbrev pub ends_of : Range → List Range
 ends_of r = only r.low ∷ only r.high ∷ []
+
+-- what is left of a selection, by what it is cut to
+abbrev pub cut_by : Cut → List ℕ → Range → Option Range
+cut_by WholeLines text r = whole_lines_in text r
+cut_by Trimmed text r = trimmed_range text r
+
+-- the parts that a selection is cut up into
+abbrev pub split_by : Split → List ℕ → Range → List Range
+split_by AtLineEnds text r = parts_of text r
+split_by IntoEnds text r = ends_of r

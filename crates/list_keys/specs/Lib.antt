@@ -2,5 +2,5 @@ pub mod Cuts
 pub mod Splitting
 pub mod Copies
 pub mod Rows
-pub mod Making
+pub mod Changes
 pub mod Examples

@@ -2,7 +2,7 @@
 use Rattle.std.specs.Prelude.{ℕ, ◌+◌, ◌-◌, false, ◌==◌, if◌then◌else◌, List, [], ◌∷◌, ◌++◌, length, take, drop, filter_map, flat_map, is_some, None, Some}
 use Rattle.std.specs.declared.option.Option.{Option}
 use Rattle.text_model.specs.Texts.{last_place}
-use Rattle.list_model.specs.Ranges.{Range, Selected, only}
+use Rattle.list_model.specs.Ranges.{Range, Selected}
 use Rattle.list_model.specs.Settling.{settled}
 use Rattle.selection_set.specs.Held.{main_of}
 use Rattle.motion_keys.specs.declared.direction.Direction.{Direction}

@@ -5,12 +5,21 @@ ghost use Rattle.text_model.specs.Texts.{IsText, IsStored, IsPlace, offset};
 ghost use Rattle.selection_set.specs.Inside.{range_of, IsInside};
 ghost use Rattle.motion_keys.specs.Extremes.{least_between, greatest_below};
 ghost use Rattle.motion_keys.specs.Places.{OffsetsAre};
-ghost use Rattle.list_keys.specs.Cuts.{ends_line, starts_line, is_solid, cut_to, whole_lines_in, trimmed_range};
+ghost use Rattle.list_keys.specs.Cuts.{ends_line, starts_line, is_solid, cut_to, whole_lines_in, trimmed_range, cut_by};
 
 use kak_text::{Class, Coord, class};
 use line_buffer::Lines;
 use motion_keys::{Direction, Test, nearest};
 use selection_set::Sel;
+
+/// What each selection is cut to.
+#[derive(Clone, Copy, PartialEq, Eq, Debug)]
+pub enum Cut {
+    /// The whole lines inside it.
+    WholeLines,
+    /// What it has without the blanks and the newlines at its ends.
+    Trimmed,
+}
 
 // Whether the character at a place is neither a blank nor a newline.
 fn is_solid(lines: &Lines, at: Coord) -> bool
@@ -96,8 +105,8 @@ fn cut_to(sel: Sel, low: Coord, high: Coord) -> Option<Sel>
     })
 }
 
-/// The whole lines inside a selection. It costs no more than a few steps.
-pub(crate) fn lines_inside(lines: &Lines, sel: Sel) -> Option<Sel>
+// The whole lines inside a selection. It costs no more than a few steps.
+fn lines_inside(lines: &Lines, sel: Sel) -> Option<Sel>
     requires { IsInside lines.now sel }
     ensures inside { IfSome result (λ s. IsInside lines.now s) }
     ensures cuts { option_map (range_of lines.now) result ≡ whole_lines_in lines.now (range_of lines.now sel) }
@@ -107,8 +116,8 @@ pub(crate) fn lines_inside(lines: &Lines, sel: Sel) -> Option<Sel>
     cut_to(sel, low, high)
 }
 
-/// A selection without the blanks and the newlines at its ends. It costs what it cuts off.
-pub(crate) fn trimmed_sel(lines: &Lines, sel: Sel) -> Option<Sel>
+// A selection without the blanks and the newlines at its ends. It costs what it cuts off.
+fn trimmed_sel(lines: &Lines, sel: Sel) -> Option<Sel>
     requires { IsInside lines.now sel }
     ensures inside { IfSome result (λ s. IsInside lines.now s) }
     ensures cuts { option_map (range_of lines.now) result ≡ trimmed_range lines.now (range_of lines.now sel) }
@@ -116,4 +125,16 @@ pub(crate) fn trimmed_sel(lines: &Lines, sel: Sel) -> Option<Sel>
     let low = solid_from(lines, sel.low, sel.high)?;
     let high = solid_to(lines, sel.high)?;
     cut_to(sel, low, high)
+}
+
+/// What is left of a selection that is cut, if anything.
+pub(crate) fn cut_sel(lines: &Lines, sel: Sel, how: Cut) -> Option<Sel>
+    requires { IsInside lines.now sel }
+    ensures inside { IfSome result (λ s. IsInside lines.now s) }
+    ensures cuts { option_map (range_of lines.now) result ≡ cut_by how lines.now (range_of lines.now sel) }
+{
+    match how {
+        Cut::WholeLines => lines_inside(lines, sel),
+        Cut::Trimmed => trimmed_sel(lines, sel),
+    }
 }

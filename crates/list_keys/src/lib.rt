@@ -2,18 +2,20 @@
 //! nothing would be selected.
 #![tactic(auto)]
 
+pub mod changes;
 mod copies;
-mod cuts;
+mod copying;
+pub mod cuts;
+mod dropping;
 pub mod laws;
-pub mod made_rows;
-pub mod main_rows;
-mod making;
-pub mod part_rows;
-mod parts;
+pub mod main_selection;
+pub mod parts;
+mod splitting;
 
-pub use made_rows::{copied, trimmed, whole_lines};
-pub use main_rows::{main_alone, main_beside, whole_text, without_main};
-pub use part_rows::{ends, split_lines};
+pub use changes::{ListChange, changed};
+pub use cuts::Cut;
+pub use main_selection::main_beside;
+pub use parts::Split;
 
 #[cfg(test)]
 mod tests;

@@ -4,6 +4,7 @@ ghost use Rattle.selection_set.specs.Listing.{IsPairInside};
 ghost use Rattle.selection_set.specs.Held.{IsHeld};
 
 use super::*;
+use crate::main_selection::{main_alone, whole_text};
 use kak_text::{Chars, Coord, Text};
 use line_buffer::Lines;
 use motion_keys::Direction;
@@ -99,7 +100,7 @@ fn whole_lines_are_left(rt: HostRuntime) -> Result<(), Fail> {
         pair(&rt, &text, 8, 12),
     ];
     let sels = listed(&rt, rt.alloc(), &text, pairs.as_slice(), 0)?;
-    let found = whole_lines(rt.alloc(), &text, &sels)?;
+    let found = changed(rt.alloc(), &text, &sels, ListChange::Cut(Cut::WholeLines))?;
     let expected = [sel((1, 0), (2, 0), true), sel((4, 0), (4, 2), false)];
     assert_left(&rt, &found, expected.as_slice(), 1);
     Ok(())
@@ -110,7 +111,7 @@ fn parts_of_lines_leave_nothing(rt: HostRuntime) -> Result<(), Fail> {
     let text = lines(rt.alloc(), "ab\ncd\n\nef\ngh\n")?;
     let pairs = [pair(&rt, &text, 0, 1), pair(&rt, &text, 4, 5)];
     let sels = listed(&rt, rt.alloc(), &text, pairs.as_slice(), 0)?;
-    assert!(rt; whole_lines(rt.alloc(), &text, &sels)?.is_none());
+    assert!(rt; changed(rt.alloc(), &text, &sels, ListChange::Cut(Cut::WholeLines))?.is_none());
     Ok(())
 }
 
@@ -119,7 +120,7 @@ fn blanks_are_trimmed(rt: HostRuntime) -> Result<(), Fail> {
     let text = lines(rt.alloc(), "\t\u{3000}ab \n\n c\n \n")?;
     let pairs = [pair(&rt, &text, 9, 0), pair(&rt, &text, 11, 10)];
     let sels = listed(&rt, rt.alloc(), &text, pairs.as_slice(), 1)?;
-    let found = trimmed(rt.alloc(), &text, &sels)?;
+    let found = changed(rt.alloc(), &text, &sels, ListChange::Cut(Cut::Trimmed))?;
     assert_left(&rt, &found, [sel((0, 2), (2, 1), true)].as_slice(), 0);
     Ok(())
 }
@@ -129,7 +130,7 @@ fn blanks_alone_leave_nothing(rt: HostRuntime) -> Result<(), Fail> {
     let text = lines(rt.alloc(), "ab \n\n c\n \n")?;
     let pairs = [pair(&rt, &text, 2, 5), pair(&rt, &text, 8, 7)];
     let sels = listed(&rt, rt.alloc(), &text, pairs.as_slice(), 0)?;
-    assert!(rt; trimmed(rt.alloc(), &text, &sels)?.is_none());
+    assert!(rt; changed(rt.alloc(), &text, &sels, ListChange::Cut(Cut::Trimmed))?.is_none());
     Ok(())
 }
 
@@ -138,14 +139,19 @@ fn parts_end_where_lines_end(rt: HostRuntime) -> Result<(), Fail> {
     let text = lines(rt.alloc(), "ab\n\ncd\nef\n")?;
     let pairs = [pair(&rt, &text, 5, 1), pair(&rt, &text, 7, 9)];
     let sels = listed(&rt, rt.alloc(), &text, pairs.as_slice(), 0)?;
-    let parts = split_lines(rt.alloc(), &text, &sels)?;
+    let parts = changed(
+        rt.alloc(),
+        &text,
+        &sels,
+        ListChange::Split(Split::AtLineEnds),
+    )?;
     let expected = [
         sel((0, 1), (0, 2), true),
         sel((1, 0), (1, 0), true),
         sel((2, 0), (2, 1), true),
         sel((3, 0), (3, 2), false),
     ];
-    assert_list(&rt, &parts, expected.as_slice(), 3);
+    assert_left(&rt, &parts, expected.as_slice(), 3);
     Ok(())
 }
 
@@ -154,13 +160,13 @@ fn ends_are_single_characters(rt: HostRuntime) -> Result<(), Fail> {
     let text = lines(rt.alloc(), "ab\n\ncd\nef\n")?;
     let pairs = [pair(&rt, &text, 5, 1), pair(&rt, &text, 7, 7)];
     let sels = listed(&rt, rt.alloc(), &text, pairs.as_slice(), 0)?;
-    let both = ends(rt.alloc(), &text, &sels)?;
+    let both = changed(rt.alloc(), &text, &sels, ListChange::Split(Split::IntoEnds))?;
     let expected = [
         sel((0, 1), (0, 1), false),
         sel((2, 1), (2, 1), false),
         sel((3, 0), (3, 0), false),
     ];
-    assert_list(&rt, &both, expected.as_slice(), 2);
+    assert_left(&rt, &both, expected.as_slice(), 2);
     Ok(())
 }
 
@@ -169,13 +175,18 @@ fn copies_lie_below(rt: HostRuntime) -> Result<(), Fail> {
     let text = lines(rt.alloc(), "abc\nabc\nabc\n")?;
     let pairs = [pair(&rt, &text, 1, 0), pair(&rt, &text, 4, 6)];
     let sels = listed(&rt, rt.alloc(), &text, pairs.as_slice(), 0)?;
-    let below = copied(rt.alloc(), &text, &sels, Direction::Forward)?;
+    let below = changed(
+        rt.alloc(),
+        &text,
+        &sels,
+        ListChange::Copied(Direction::Forward),
+    )?;
     let expected = [
         sel((0, 0), (0, 1), true),
         sel((1, 0), (1, 2), false),
         sel((2, 0), (2, 2), false),
     ];
-    assert_list(&rt, &below, expected.as_slice(), 1);
+    assert_left(&rt, &below, expected.as_slice(), 1);
     Ok(())
 }
 
@@ -184,9 +195,14 @@ fn copies_lie_above(rt: HostRuntime) -> Result<(), Fail> {
     let text = lines(rt.alloc(), "abc\n\nab\nabc\n")?;
     let pairs = [pair(&rt, &text, 3, 2), pair(&rt, &text, 11, 11)];
     let sels = listed(&rt, rt.alloc(), &text, pairs.as_slice(), 1)?;
-    let above = copied(rt.alloc(), &text, &sels, Direction::Backward)?;
+    let above = changed(
+        rt.alloc(),
+        &text,
+        &sels,
+        ListChange::Copied(Direction::Backward),
+    )?;
     let expected = [sel((0, 2), (0, 3), true), sel((3, 3), (3, 3), false)];
-    assert_list(&rt, &above, expected.as_slice(), 0);
+    assert_left(&rt, &above, expected.as_slice(), 0);
     Ok(())
 }
 
@@ -195,9 +211,14 @@ fn copies_pass_over_short_lines(rt: HostRuntime) -> Result<(), Fail> {
     let text = lines(rt.alloc(), "abc\nabc\n\nab\nabc\nabc\n")?;
     let pairs = [pair(&rt, &text, 6, 2)];
     let sels = listed(&rt, rt.alloc(), &text, pairs.as_slice(), 0)?;
-    let below = copied(rt.alloc(), &text, &sels, Direction::Forward)?;
+    let below = changed(
+        rt.alloc(),
+        &text,
+        &sels,
+        ListChange::Copied(Direction::Forward),
+    )?;
     let expected = [sel((0, 2), (1, 2), true), sel((3, 2), (4, 2), true)];
-    assert_list(&rt, &below, expected.as_slice(), 1);
+    assert_left(&rt, &below, expected.as_slice(), 1);
     Ok(())
 }
 
@@ -208,7 +229,7 @@ fn main_one_stands_alone(rt: HostRuntime) -> Result<(), Fail> {
     let sels = listed(&rt, rt.alloc(), &text, pairs.as_slice(), 1)?;
     let alone = main_alone(rt.alloc(), &sels);
     assert_list(&rt, &alone, [sel((0, 2), (0, 3), true)].as_slice(), 0);
-    assert!(rt; without_main(rt.alloc(), &alone)?.is_none());
+    assert!(rt; changed(rt.alloc(), &text, &alone, ListChange::WithoutMain)?.is_none());
     Ok(())
 }
 
@@ -221,7 +242,7 @@ fn main_one_is_dropped(rt: HostRuntime) -> Result<(), Fail> {
         pair(&rt, &text, 5, 6),
     ];
     let sels = listed(&rt, rt.alloc(), &text, pairs.as_slice(), 0)?;
-    let found = without_main(rt.alloc(), &sels)?;
+    let found = changed(rt.alloc(), &text, &sels, ListChange::WithoutMain)?;
     let expected = [sel((0, 2), (0, 3), true), sel((0, 5), (0, 6), false)];
     assert_left(&rt, &found, expected.as_slice(), 1);
     Ok(())
@@ -252,7 +273,12 @@ fn whole_text_is_one_selection(rt: HostRuntime) -> Result<(), Fail> {
 fn too_many_parts_are_refused(rt: HostRuntime) -> Result<(), Fail> {
     let text = empty_lines(rt.alloc(), MAX_SELECTIONS + 1)?;
     let whole = whole_text(rt.alloc(), &text);
-    let refused = split_lines(rt.alloc(), &text, &whole);
+    let refused = changed(
+        rt.alloc(),
+        &text,
+        &whole,
+        ListChange::Split(Split::AtLineEnds),
+    );
     assert!(rt; matches!(refused, Err(SelsError::TooMany)));
     Ok(())
 }
@@ -261,11 +287,19 @@ fn too_many_parts_are_refused(rt: HostRuntime) -> Result<(), Fail> {
 fn too_many_ends_and_copies_are_refused(rt: HostRuntime) -> Result<(), Fail> {
     let text = empty_lines(rt.alloc(), MAX_SELECTIONS)?;
     let whole = whole_text(rt.alloc(), &text);
-    let parts = split_lines(rt.alloc(), &text, &whole)?;
-    assert_eq!(rt; parts.len(), MAX_SELECTIONS);
-    let refused = ends(rt.alloc(), &text, &parts);
-    assert!(rt; matches!(refused, Err(SelsError::TooMany)));
-    let refused = copied(rt.alloc(), &text, &parts, Direction::Forward);
-    assert!(rt; matches!(refused, Err(SelsError::TooMany)));
+    let split = ListChange::Split(Split::AtLineEnds);
+    match changed(rt.alloc(), &text, &whole, split)? {
+        None => assert!(rt; false),
+        Some(parts) => {
+            assert_eq!(rt; parts.len(), MAX_SELECTIONS);
+            for change in [
+                ListChange::Split(Split::IntoEnds),
+                ListChange::Copied(Direction::Forward),
+            ] {
+                let refused = changed(rt.alloc(), &text, &parts, change);
+                assert!(rt; matches!(refused, Err(SelsError::TooMany)));
+            }
+        }
+    }
     Ok(())
 }

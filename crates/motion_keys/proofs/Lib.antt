@@ -9,3 +9,4 @@ pub mod PartLemmas
 pub mod NearestLemmas
 pub mod EndLemmas
 pub mod WayLemmas
+pub mod FoundLemmas

@@ -3,22 +3,22 @@ use Rattle.std.specs.Prelude.{◌≡◌, true, false, None, Some, codes}
 use Rattle.list_model.specs.Ranges.{only}
 use Rattle.selection_set.specs.Listing.{range_between}
 use Rattle.motion_keys.specs.Examples.{turned_from}
-use Rattle.motion_keys.specs.Jumps.{to_char, bracket}
+use Rattle.motion_keys.specs.Jumps.{search_of, to_char, bracket}
 
 -- 97 is a, 98 is b, 10 is the newline
 pub record CharExamples : Type 0 where
-  pub onto : to_char (codes "abcb\n") (only 0) 98 true true ≡ Some (range_between 0 1)
-  pub not_the_cursor : to_char (codes "abcb\n") (only 1) 98 true true ≡ Some (range_between 1 3)
-  pub before : to_char (codes "aaab\n") (only 0) 98 true false ≡ Some (range_between 0 2)
-  pub before_the_very_next : to_char (codes "abb\n") (only 1) 98 true false ≡ Some (range_between 1 1)
-  pub over_a_newline : to_char (codes "a\nb\n") (only 0) 98 true true ≡ Some (range_between 0 2)
-  pub a_newline : to_char (codes "ab\n") (only 0) 10 true true ≡ Some (range_between 0 2)
-  pub none_later : to_char (codes "ab\n") (only 1) 98 true true ≡ None
-  pub back : to_char (codes "abab\n") (only 3) 97 false true ≡ Some (range_between 3 2)
-  pub behind : to_char (codes "abbb\n") (only 3) 97 false false ≡ Some (range_between 3 1)
-  pub behind_the_very_last : to_char (codes "abab\n") (only 3) 97 false false ≡ Some (range_between 3 3)
-  pub from_the_cursor : to_char (codes "abab\n") (turned_from 2 4) 97 false true ≡ Some (range_between 2 0)
-  pub none_earlier : to_char (codes "ab\n") (only 0) 97 false true ≡ None
+  pub onto : to_char (codes "abcb\n") (only 0) 98 (search_of true true) ≡ Some (range_between 0 1)
+  pub not_the_cursor : to_char (codes "abcb\n") (only 1) 98 (search_of true true) ≡ Some (range_between 1 3)
+  pub before : to_char (codes "aaab\n") (only 0) 98 (search_of true false) ≡ Some (range_between 0 2)
+  pub before_the_very_next : to_char (codes "abb\n") (only 1) 98 (search_of true false) ≡ Some (range_between 1 1)
+  pub over_a_newline : to_char (codes "a\nb\n") (only 0) 98 (search_of true true) ≡ Some (range_between 0 2)
+  pub a_newline : to_char (codes "ab\n") (only 0) 10 (search_of true true) ≡ Some (range_between 0 2)
+  pub none_later : to_char (codes "ab\n") (only 1) 98 (search_of true true) ≡ None
+  pub back : to_char (codes "abab\n") (only 3) 97 (search_of false true) ≡ Some (range_between 3 2)
+  pub behind : to_char (codes "abbb\n") (only 3) 97 (search_of false false) ≡ Some (range_between 3 1)
+  pub behind_the_very_last : to_char (codes "abab\n") (only 3) 97 (search_of false false) ≡ Some (range_between 3 3)
+  pub from_the_cursor : to_char (codes "abab\n") (turned_from 2 4) 97 (search_of false true) ≡ Some (range_between 2 0)
+  pub none_earlier : to_char (codes "ab\n") (only 0) 97 (search_of false true) ≡ None
 
 pub record BracketExamples : Type 0 where
   pub at_the_cursor : bracket (codes "(a)\n") (only 0) ≡ Some (range_between 0 2)

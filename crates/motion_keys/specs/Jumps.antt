@@ -5,6 +5,12 @@ use Rattle.list_model.specs.Ranges.{Range, cursor}
 use Rattle.selection_set.specs.declared.sel.Pair.{Pair}
 use Rattle.selection_set.specs.Listing.{range_between, range_of_pair, IsPairInside}
 use Rattle.motion_keys.specs.declared.bracket_kinds.Bracket.{Bracket}
+use Rattle.motion_keys.specs.declared.direction.Direction.{Direction}
+use Rattle.motion_keys.specs.declared.direction.Direction.TheVariants.{Forward, Backward}
+use Rattle.motion_keys.specs.declared.char_moves.Search.{Search}
+use Rattle.motion_keys.specs.declared.char_moves.Until.{Until}
+use Rattle.motion_keys.specs.declared.char_moves.Until.TheVariants.{On, Before}
+use Rattle.motion_keys.specs.Motions.{direction_of}
 use Rattle.motion_keys.specs.Extremes.{least_between, greatest_below}
 use Rattle.motion_keys.specs.Landmarks.{line_begin, line_of}
 
@@ -20,14 +26,24 @@ next_with text c o = least_between (holds text c) (o + 1) (length text)
 abbrev pub last_with : List ℕ → ℕ → ℕ → Option ℕ
 last_with text c o = greatest_below (holds text c) o
 
+-- a search on or else back, onto a character or else up to it
+abbrev pub until_of : Bool → Until
+until_of true = On
+until_of false = Before
+
+abbrev pub search_of : Bool → Bool → Search
+search_of forward onto = record { direction = direction_of forward; until = until_of onto }
+
 -- the next offset that holds a character, or the one before it; backward the last one, or the one behind it
-abbrev pub char_place : List ℕ → ℕ → ℕ → Bool → Bool → Option ℕ
-char_place text o c true onto = option_map (λ n. if onto then n else n - 1) (next_with text c o)
-char_place text o c false onto = option_map (λ n. if onto then n else n + 1) (last_with text c o)
+abbrev pub char_place : List ℕ → ℕ → ℕ → Direction → Until → Option ℕ
+char_place text o c Forward On = next_with text c o
+char_place text o c Forward Before = option_map (λ n. n - 1) (next_with text c o)
+char_place text o c Backward On = last_with text c o
+char_place text o c Backward Before = option_map (λ n. n + 1) (last_with text c o)
 
 -- from the cursor to there
-abbrev pub to_char : List ℕ → Range → ℕ → Bool → Bool → Option Range
-to_char text r c forward onto = option_map (range_between (cursor r)) (char_place text (cursor r) c forward onto)
+abbrev pub to_char : List ℕ → Range → ℕ → Search → Option Range
+to_char text r c search = option_map (range_between (cursor r)) (char_place text (cursor r) c search.direction search.until)
 
 -- the brackets: ( 40 and ) 41, [ 91 and ] 93, { 123 and } 125, < 60 and > 62, each with the one that belongs to it
 abbrev pub opening : ℕ → Bracket

@@ -1,15 +1,16 @@
 -- Worked examples of the places that have a name, which hold by computation.
 use Rattle.std.specs.Prelude.{◌≡◌, ℕ, Some, codes}
 use Rattle.motion_keys.specs.declared.landmarks.Place.TheVariants.{First, LastLine, Last, LineStart, LineEnd, NonBlank, WindowTop, WindowMiddle, WindowBottom, Line}
-use Rattle.motion_keys.specs.declared.landmarks.View.{View}
+use Rattle.window_view.specs.View.{View}
 use Rattle.motion_keys.specs.declared.landmarks.LinePart.TheVariants.{ToStart, ToEnd}
 use Rattle.list_model.specs.Ranges.{only}
 use Rattle.selection_set.specs.Listing.{range_between}
 use Rattle.motion_keys.specs.Examples.{turned_from}
 use Rattle.motion_keys.specs.Landmarks.{landmark, line_part}
 
+-- a window by its first line and how many lines it has
 abbrev pub view : ℕ → ℕ → View
-view top rows = record { top = top; rows = rows }
+view top rows = record { top = top; left = 0; rows = rows; columns = 80 }
 
 pub record LandmarkExamples : Type 0 where
   pub first : landmark (codes "ab\ncd\n") 4 (view 0 9) First ≡ Some 0

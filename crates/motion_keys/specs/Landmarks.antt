@@ -6,9 +6,9 @@ use Rattle.list_model.specs.Ranges.{Range, cursor}
 use Rattle.selection_set.specs.Listing.{range_between}
 use Rattle.kak_text.specs.declared.classes.Class.TheVariants.{Blank}
 use Rattle.kak_text.specs.Classes.{class_of, is_same}
+use Rattle.window_view.specs.View.{View}
 use Rattle.motion_keys.specs.declared.landmarks.Place.{Place}
 use Rattle.motion_keys.specs.declared.landmarks.Place.TheVariants.{First, LastLine, Last, LineStart, LineEnd, NonBlank, WindowTop, WindowMiddle, WindowBottom, Line}
-use Rattle.motion_keys.specs.declared.landmarks.View.{View}
 use Rattle.motion_keys.specs.declared.landmarks.LinePart.{LinePart}
 use Rattle.motion_keys.specs.declared.landmarks.LinePart.TheVariants.{ToStart, ToEnd}
 use Rattle.motion_keys.specs.Extremes.{least_between}

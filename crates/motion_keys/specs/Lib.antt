@@ -12,3 +12,5 @@ pub mod JumpExamples
 pub mod Landmarks
 pub mod LandmarkExamples
 pub mod Searching
+pub mod Finding
+pub mod FindingExamples

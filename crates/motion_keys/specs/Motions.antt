@@ -6,16 +6,23 @@ use Rattle.text_model.specs.Texts.{offset, coord_at, nth_line, line_count}
 use Rattle.list_model.specs.Ranges.{Range, cursor}
 use Rattle.kak_text.specs.Cells.{display_column}
 use Rattle.window_view.specs.Holding.{HoldsCell}
+use Rattle.motion_keys.specs.declared.direction.Direction.{Direction}
+use Rattle.motion_keys.specs.declared.direction.Direction.TheVariants.{Forward, Backward}
 use Rattle.motion_keys.specs.Extremes.{least_between}
 
+-- the way further on, or else the way further up
+abbrev pub direction_of : Bool → Direction
+direction_of true = Forward
+direction_of false = Backward
+
 -- the offset after an offset of a text, or before it
-abbrev pub offset_beside : List ℕ → ℕ → Bool → Option ℕ
-offset_beside text o true = if nat_lt (o + 1) (length text) then Some (o + 1) else None
-offset_beside text o false = if nat_lt 0 o then Some (o - 1) else None
+abbrev pub offset_beside : List ℕ → ℕ → Direction → Option ℕ
+offset_beside text o Forward = if nat_lt (o + 1) (length text) then Some (o + 1) else None
+offset_beside text o Backward = if nat_lt 0 o then Some (o - 1) else None
 
 -- the character after the cursor, or before it
-abbrev pub stepped : List ℕ → Range → Bool → Option ℕ
-stepped text r forward = offset_beside text (cursor r) forward
+abbrev pub stepped : List ℕ → Range → Direction → Option ℕ
+stepped text r direction = offset_beside text (cursor r) direction
 
 -- the line that a number of lines leads to from a line, among so many: down, at most to the last, or up, at most to the
 -- first, where `negsuc n` stands for n + 1 lines up. Down from the last line and up from the first it leads to none, and

@@ -1,5 +1,5 @@
 -- The nearest offset on a way whose character passes a test.
-use Rattle.std.specs.Prelude.{ℕ, ◌==◌, ◌||◌, Bool, true, false, not, List}
+use Rattle.std.specs.Prelude.{ℕ, ◌==◌, ◌||◌, Bool, not, List}
 use Rattle.std.specs.declared.option.Option.{Option}
 use Rattle.kak_text.specs.declared.classes.Class.TheVariants.{Blank, Line}
 use Rattle.kak_text.specs.Classes.{class_of, is_same}
@@ -12,14 +12,9 @@ use Rattle.motion_keys.specs.Words.{is_other}
 
 -- whether a character passes: one of another class, one that is neither a blank nor a newline, or this character
 abbrev pub passes : Test → ℕ → Bool
-passes (Other than big) c = is_other big than c
+passes (Other than kind) c = is_other kind than c
 passes Solid c = not (is_same (class_of c) Blank || is_same (class_of c) Line)
 passes (Is wanted) c = c == wanted
-
--- whether a way is the one further on
-abbrev pub is_forward : Direction → Bool
-is_forward Forward = true
-is_forward Backward = false
 
 -- forward the least offset from an offset on at which a test passes, backward the greatest up to it
 abbrev pub nearest : Direction → (ℕ → Bool) → List ℕ → ℕ → Option ℕ

@@ -11,15 +11,16 @@ pub enum Direction {
 
 impl Direction {
     ghost use Rattle.std.specs.Prelude.{◌≡◌};
-    ghost use Rattle.motion_keys.specs.Searching.{is_forward};
+    ghost use Rattle.motion_keys.specs.Motions.{direction_of};
 
-    /// Whether it is the way further on.
-    pub fn is_forward(self) -> bool
-        ensures { result ≡ is_forward self }
+    /// The way further on, or else the way further up.
+    pub(crate) fn of(forward: bool) -> Direction
+        ensures { result ≡ direction_of forward }
     {
-        match self {
-            Direction::Forward => true,
-            Direction::Backward => false,
+        if forward {
+            Direction::Forward
+        } else {
+            Direction::Backward
         }
     }
 }

@@ -1,6 +1,7 @@
-//! Worked examples of the motions that search, and that what their definitions find is the least and the greatest.
+//! Worked examples of motions in their one form and of those that search, and that what their definitions find is the least and the greatest.
 
 ghost use Rattle.motion_keys.specs.Extremes.{ExtremesAreFound};
+ghost use Rattle.motion_keys.specs.FindingExamples.{FindingExamples};
 ghost use Rattle.motion_keys.specs.JumpExamples.{CharExamples, BracketExamples};
 ghost use Rattle.motion_keys.specs.LandmarkExamples.{LandmarkExamples, NonBlankExamples, LinePartExamples};
 
@@ -33,4 +34,9 @@ pub fn line_part_examples()
 /// else is the least or the greatest.
 pub fn extremes_are_found()
     ensures { ExtremesAreFound }
+{}
+
+/// Worked examples of what becomes of a selection by a motion.
+pub fn finding_examples()
+    ensures { FindingExamples }
 {}

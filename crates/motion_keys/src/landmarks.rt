@@ -25,15 +25,6 @@ pub enum Place {
     Line(u32),
 }
 
-/// What a window shows of the lines.
-#[derive(Clone, Copy, PartialEq, Eq, Debug)]
-pub struct View {
-    /// The number of its first line, from 0.
-    pub top: u32,
-    /// How many lines it has room for.
-    pub rows: u32,
-}
-
 /// A part of the cursor's line.
 #[derive(Clone, Copy, PartialEq, Eq, Debug)]
 pub enum LinePart {

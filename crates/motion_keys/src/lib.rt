@@ -5,6 +5,7 @@ mod bracket_kinds;
 pub mod bracket_moves;
 pub mod char_moves;
 pub mod direction;
+pub mod finding;
 pub mod jump_laws;
 pub mod landmarks;
 pub mod laws;
@@ -15,13 +16,14 @@ pub mod word_laws;
 pub mod words;
 
 pub use bracket_moves::bracket;
-pub use char_moves::to_char;
+pub use char_moves::{Search, Until, to_char};
 pub use direction::Direction;
-pub use landmarks::{LinePart, Place, View};
+pub use finding::{Motion, Reach, find, moved};
+pub use landmarks::{LinePart, Place};
 pub use moves::{step, vertical};
-pub use place_moves::{line_part, place};
+pub use place_moves::place;
 pub use searching::{Test, nearest};
-pub use words::{WordMove, word};
+pub use words::{WordKind, WordMove, word};
 
 #[cfg(test)]
 mod jump_tests;

@@ -3,9 +3,10 @@
 ghost use Rattle.std.specs.Prelude.{◌≡◌, ◌<◌, ◌≤◌, None, Some, IsNone, IfSome, option_map, length};
 ghost use Rattle.text_model.specs.Texts.{line_count, offset, IsPlace};
 ghost use Rattle.selection_set.specs.Inside.{range_of, IsInside};
-ghost use Rattle.motion_keys.specs.Motions.{line_by, landing, aim, landed, vertical, stepped};
+ghost use Rattle.motion_keys.specs.Motions.{line_by, landing, aim, landed, vertical, direction_of, stepped};
 ghost use Rattle.motion_keys.specs.Places.{OffsetsAre};
 
+use crate::direction::Direction;
 use crate::searching::beside_place;
 use kak_text::{Coord, MAX_CHARS, MAX_TABSTOP};
 use line_buffer::Lines;
@@ -15,10 +16,10 @@ use window_view::{cell_of, offset_at};
 /// The character after the cursor, or before it. None at the end of the text, or at its start.
 pub fn step(lines: &Lines, sel: &Sel, forward: bool) -> Option<Pair>
     requires { IsInside lines.now sel.now }
-    ensures gives { OffsetsAre lines.now (option_map (λ pair. pair.cursor) result) (stepped lines.now (range_of lines.now sel.now) forward) }
+    ensures gives { OffsetsAre lines.now (option_map (λ pair. pair.cursor) result) (stepped lines.now (range_of lines.now sel.now) (direction_of forward)) }
     ensures one { IfSome result (λ pair. pair.anchor ≡ pair.cursor) }
 {
-    match beside_place(lines, sel.cursor(), forward) {
+    match beside_place(lines, sel.cursor(), Direction::of(forward)) {
         None => None,
         Some(place) => Some(Pair {
             anchor: place,

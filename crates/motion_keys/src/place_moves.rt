@@ -4,14 +4,16 @@ ghost use Rattle.std.specs.Prelude.{◌≡◌, ◌<◌, None, Some, IfSome, opti
 ghost use Rattle.text_model.specs.Texts.{offset, line_count, IsPlace};
 ghost use Rattle.list_model.specs.Ranges.{cursor};
 ghost use Rattle.selection_set.specs.Inside.{range_of, IsInside};
+ghost use Rattle.window_view.specs.Views.{view_of as window_seen};
 ghost use Rattle.motion_keys.specs.Places.{OffsetsAre};
 ghost use Rattle.motion_keys.specs.Jumps.{RangesAre};
 ghost use Rattle.motion_keys.specs.Landmarks.{line_start, line_last, line_text, landmark, line_part};
 
-use crate::landmarks::{LinePart, Place, View};
+use crate::landmarks::{LinePart, Place};
 use kak_text::{Class, Coord, class};
 use line_buffer::Lines;
 use selection_set::{Pair, Sel};
+use window_view::Window;
 
 // The first character of a line, or of the last line where there is no such line.
 fn find_start(lines: &Lines, n: usize) -> Coord
@@ -56,13 +58,13 @@ fn find_text(lines: &Lines, n: u32) -> Option<Coord>
     None
 }
 
-// The place with a name.
-fn find_place(lines: &Lines, at: Coord, view: View, target: Place) -> Option<Coord>
+/// The place with a name, for a cursor and a window.
+pub(crate) fn find_place(lines: &Lines, at: Coord, window: &Window, target: Place) -> Option<Coord>
     requires { IsPlace lines.now at }
-    ensures gives { OffsetsAre lines.now result (landmark lines.now (offset lines.now at) view target) }
+    ensures gives { OffsetsAre lines.now result (landmark lines.now (offset lines.now at) (window_seen window.now) target) }
 {
-    let top = view.top as usize;
-    let rows = view.rows as usize;
+    let top = window.top as usize;
+    let rows = window.rows as usize;
     match target {
         Place::First => Some(find_start(lines, 0)),
         Place::LastLine => Some(find_start(lines, lines.line_count() - 1)),
@@ -78,12 +80,13 @@ fn find_place(lines: &Lines, at: Coord, view: View, target: Place) -> Option<Coo
 }
 
 /// The character at a place that has a name.
-pub fn place(lines: &Lines, sel: &Sel, view: &View, target: Place) -> Option<Pair>
+pub fn place(lines: &Lines, sel: &Sel, window: &Window, target: Place) -> Option<Pair>
     requires { IsInside lines.now sel.now }
-    ensures gives { OffsetsAre lines.now (option_map (λ pair. pair.cursor) result) (landmark lines.now (cursor (range_of lines.now sel.now)) view.now target) }
+    ensures gives { OffsetsAre lines.now (option_map (λ pair. pair.cursor) result)
+        (landmark lines.now (cursor (range_of lines.now sel.now)) (window_seen window.now) target) }
     ensures one { IfSome result (λ pair. pair.anchor ≡ pair.cursor) }
 {
-    match find_place(lines, sel.cursor(), *view, target) {
+    match find_place(lines, sel.cursor(), window, target) {
         None => None,
         Some(found) => Some(Pair {
             anchor: found,
@@ -93,15 +96,15 @@ pub fn place(lines: &Lines, sel: &Sel, view: &View, target: Place) -> Option<Pai
 }
 
 /// From the cursor to its line's first character, or to the last one before the newline, where the line has one. The
-/// cursor moves even back to it, from the newline; so it always finds a place.
-pub fn line_part(lines: &Lines, sel: &Sel, part: LinePart) -> Option<Pair>
-    requires { IsInside lines.now sel.now }
-    ensures gives { RangesAre lines.now result (Some (line_part lines.now (range_of lines.now sel.now) part)) }
+/// cursor moves even back to it, from the newline.
+pub(crate) fn part_between(lines: &Lines, sel: Sel, part: LinePart) -> Pair
+    requires { IsInside lines.now sel }
+    ensures { RangesAre lines.now (Some result) (Some (line_part lines.now (range_of lines.now sel) part)) }
 {
     let anchor = sel.cursor();
     let cursor = match part {
         LinePart::ToStart => find_start(lines, anchor.line as usize),
         LinePart::ToEnd => find_end(lines, anchor.line),
     };
-    Some(Pair { anchor, cursor })
+    Pair { anchor, cursor }
 }

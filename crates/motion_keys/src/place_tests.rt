@@ -1,9 +1,12 @@
+ghost use Rattle.std.specs.Prelude.{◌≤◌};
+
 use super::*;
 use kak_text::{Chars, Text};
 use line_buffer::Lines;
 use selection_set::{Pair, Sel};
 use std::alloc::Global;
 use std::test::Fail;
+use window_view::Window;
 
 fn lines(alloc: Global, text: &str) -> Result<Lines, Fail> {
     let chars = Chars::from_str(alloc, text)?;
@@ -11,8 +14,16 @@ fn lines(alloc: Global, text: &str) -> Result<Lines, Fail> {
     Ok(Lines::of_text(alloc, &text)?)
 }
 
-fn view(top: u32, rows: u32) -> View {
-    View { top, rows }
+fn view(top: u32, rows: u16) -> Window
+    requires some { 1 ≤ rows }
+    requires few { rows ≤ 1000 }
+{
+    Window {
+        top,
+        left: 0,
+        rows,
+        columns: 80,
+    }
 }
 
 #[test]
@@ -76,8 +87,9 @@ fn parts_of_a_line(rt: HostRuntime) -> Result<(), Fail> {
         assert!(rt; *to < text.len());
         let anchor = text.coord_of(*from);
         let cursor = text.coord_of(*to);
-        let found = line_part(&text, &Sel::only(anchor), *part);
-        assert_eq!(rt; found, Some(Pair { anchor, cursor }));
+        let sel = Sel::only(anchor);
+        let found = find(&text, &view(0, 24), 8, sel, Motion::Along(*part));
+        assert_eq!(rt; found, Some(Sel::of_pair(Pair { anchor, cursor })));
     }
     Ok(())
 }

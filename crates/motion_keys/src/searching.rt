@@ -5,17 +5,18 @@ ghost use Rattle.text_model.specs.Texts.{offset, IsPlace};
 ghost use Rattle.motion_keys.specs.Motions.{offset_beside};
 ghost use Rattle.motion_keys.specs.Places.{OffsetsAre};
 ghost use Rattle.motion_keys.specs.Words.{class_for};
-ghost use Rattle.motion_keys.specs.Searching.{passes, nearest, is_forward};
+ghost use Rattle.motion_keys.specs.Searching.{passes, nearest};
 
 use crate::direction::Direction;
+use crate::words::WordKind;
 use kak_text::{Class, Coord, class};
 use line_buffer::Lines;
 
 /// What is looked for.
 #[derive(Clone, Copy, PartialEq, Eq, Debug)]
 pub enum Test {
-    /// A character of another class than this one, for words or, where the flag is set, for big words.
-    Other(Class, bool),
+    /// A character of another class than this one, by what words are.
+    Other(Class, WordKind),
     /// A character that is neither a blank nor a newline.
     Solid,
     /// This character.
@@ -23,14 +24,14 @@ pub enum Test {
 }
 
 /// The class of a character, for words or for big words.
-pub(crate) fn class_for(c: char, big: bool) -> Class
-    ensures { result ≡ class_for big c }
+pub(crate) fn class_for(c: char, kind: WordKind) -> Class
+    ensures { result ≡ class_for kind c }
 {
     let own = class(c);
-    if big {
-        return own.wide();
+    match kind {
+        WordKind::Small => own,
+        WordKind::Big => own.wide(),
     }
-    own
 }
 
 // Whether a character passes a test.
@@ -38,7 +39,7 @@ fn passes(c: char, test: Test) -> bool
     ensures { result ≡ passes test c }
 {
     match test {
-        Test::Other(than, big) => !class_for(c, big).is(than),
+        Test::Other(than, kind) => !class_for(c, kind).is(than),
         Test::Solid => {
             let own = class(c);
             !(own.is(Class::Blank) || own.is(Class::Line))
@@ -48,14 +49,14 @@ fn passes(c: char, test: Test) -> bool
 }
 
 /// The place of the character after a place, or before it.
-pub(crate) fn beside_place(lines: &Lines, at: Coord, forward: bool) -> Option<Coord>
+pub(crate) fn beside_place(lines: &Lines, at: Coord, direction: Direction) -> Option<Coord>
     requires { IsPlace lines.now at }
-    ensures gives { OffsetsAre lines.now result (offset_beside lines.now (offset lines.now at) forward) }
+    ensures gives { OffsetsAre lines.now result (offset_beside lines.now (offset lines.now at) direction) }
 {
-    if forward {
-        return lines.next(at);
+    match direction {
+        Direction::Forward => lines.next(at),
+        Direction::Backward => lines.prev(at),
     }
-    lines.prev(at)
 }
 
 /// The nearest place on a way, the one where it begins itself included, whose character passes a test. It costs the text
@@ -66,7 +67,7 @@ pub fn nearest(lines: &Lines, from: Coord, direction: Direction, test: Test) -> 
 {
     let mut at = from;
     while !passes(lines.char_at(at), test) {
-        match beside_place(lines, at, direction.is_forward()) {
+        match beside_place(lines, at, direction) {
             Some(next) => at = next,
             None => return None,
         }

@@ -1,8 +1,6 @@
 -- The selections of a list that go somewhere, one after another, and the settled list of where they went.
-use Rattle.std.proofs.Common.{◌≡◌, ℕ, ◌+◌, ◌<◌, ◌≤◌, List, [], ◌∷◌, ◌++◌, length, map, get_or, drop, sym, ap, subst₂, ◌∙◌, arith, append_assoc, append-nil, add-one}
-use Rattle.std.proofs.Math.Seq.{drop-cons}
-use Rattle.std.proofs.Math.ListN.{drop_of_length-le}
-use Rattle.std.proofs.lemmas.List.{length-map, map-append}
+use Rattle.std.proofs.Common.{◌≡◌, ℕ, ◌+◌, ◌<◌, List, [], ◌∷◌, ◌++◌, length, map, get_or, take, sym, ap, ap₂, subst₂, ◌∙◌, arith}
+use Rattle.std.proofs.lemmas.List.{length-map, map-append, take_more}
 use Rattle.list_model.specs.Ranges.{Range}
 use Rattle.list_model.specs.Settling.{settled, each_settled}
 use Rattle.selection_set.specs.declared.sel.Sel.{Sel}
@@ -10,21 +8,18 @@ use Rattle.selection_set.specs.Inside.{range_of}
 use Rattle.selection_set.specs.Listing.{Listed, AreInside, ranges_of, IsSettledIn}
 use Rattle.selection_set.proofs.SettleLemmas.{ranges-inside}
 use Rattle.selection_set.specs.Held.{selected, IsHeld}
-use Rattle.selection_set.proofs.HeldLemmas.{selected-is}
+use Rattle.selection_set.proofs.HeldLemmas.{zero_sel, selected-is}
 
 -- one more went
-pub moved-more : (text : List ℕ) (f : Range → Range) (list all : List Sel) (x d : Sel) (n : ℕ) (whole : List Range) → n < length all → range_of text x ≡ f (range_of text (get_or all n d))
-    → ranges_of text list ++ map f (ranges_of text (drop n all)) ≡ whole → ranges_of text (list ++ x ∷ []) ++ map f (ranges_of text (drop (n + 1) all)) ≡ whole
-moved-more text f list all x d n whole h e k =
-    ap (λ l. l ++ map f (ranges_of text (drop (n + 1) all))) (map-append (range_of text) list (x ∷ []))
-    ∙ append_assoc (ranges_of text list) (range_of text x ∷ []) (map f (ranges_of text (drop (n + 1) all)))
-    ∙ ap (λ (r : Range). ranges_of text list ++ (r ∷ map f (ranges_of text (drop (n + 1) all)))) e
-    ∙ ap (λ l. ranges_of text list ++ map f (ranges_of text l)) (sym (drop-cons all n d h ∙ ap (λ j. get_or all n d ∷ drop j all) (sym (add-one n))))
-    ∙ k
-
--- all went
-pub moved-all : (text : List ℕ) (f : Range → Range) (list all : List Sel) (n : ℕ) (whole : List Range) → length all ≤ n → ranges_of text list ++ map f (ranges_of text (drop n all)) ≡ whole → ranges_of text list ≡ whole
-moved-all text f list all n whole h k = sym (append-nil (ranges_of text list)) ∙ ap (λ l. ranges_of text list ++ map f (ranges_of text l)) (sym (drop_of_length-le all h)) ∙ k
+pub moved-step : (text : List ℕ) (f : Range → Range) (list all : List Sel) (x : Sel) (n : ℕ) → n < length all → range_of text x ≡ f (range_of text (get_or all n zero_sel)) → ranges_of text list ≡ map f (ranges_of text (take n all))
+    → ranges_of text (list ++ x ∷ []) ≡ map f (ranges_of text (take (n + 1) all))
+moved-step text f list all x n h e k =
+    let y : Sel = get_or all n zero_sel in
+    map-append (range_of text) list (x ∷ [])
+    ∙ ap₂ (λ (l : List Range) (r : Range). l ++ r ∷ []) k e
+    ∙ sym (map-append f (ranges_of text (take n all)) (range_of text y ∷ []))
+    ∙ ap (map f) (sym (map-append (range_of text) (take n all) (y ∷ [])))
+    ∙ ap (λ l. map f (ranges_of text l)) (sym (take_more all n zero_sel h))
 
 -- as many as before
 pub moved-length : (text : List ℕ) (f : Range → Range) (list all : List Sel) → ranges_of text list ≡ map f (ranges_of text all) → length list ≡ length all

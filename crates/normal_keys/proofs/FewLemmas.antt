@@ -1,14 +1,20 @@
 -- Lists that don't become longer.
-use Rattle.std.proofs.Common.{◌≡◌, ℕ, suc, ◌≤◌, Bool, true, false, ◌||◌, List, [], ◌∷◌, length, map, refl, sym, ap, ◌∙◌, arith, inl, inr}
-use Rattle.std.specs.Prelude.{if◌then◌else◌, nat_le, ◌==◌}
+use Rattle.std.proofs.Common.{◌≡◌, ℕ, suc, ◌≤◌, Bool, true, false, List, [], ◌∷◌, length, map, None, refl, sym, ap, ◌∙◌, arith}
+use Rattle.std.specs.Prelude.{if◌then◌else◌, nat_le}
+use Rattle.std.proofs.lemmas.Bool.{false≢true}
 use Rattle.std.proofs.lemmas.List.{length-map}
-use Rattle.text_model.proofs.CoordLemmas.{test_cases}
 use Rattle.list_model.specs.Ranges.{Range, Selected}
 use Rattle.list_model.specs.Settling.{placed, sorted, swept, ranges, each_settled}
 use Rattle.list_model.proofs.EmbedLemmas.{swept_no_longer}
-use Rattle.kak_world.specs.Flat.{Client, Flat, is_here, client_in, changed_in, is_joined, sels_of, view_of, text_of, with_sels, with_units, cleared}
-use Rattle.kak_world.specs.declared.state.Awaiting.TheVariants as awaits
+use Rattle.kak_world.specs.Flat.{Flat, is_joined, sels_of, view_of, tabstop_of, text_of, units_of, with_units}
+use Rattle.kak_world.proofs.WorldLaws.{sels_sels, sels_own, sels_units, joined_sels, joined_units}
+use Rattle.list_keys.specs.declared.changes.ListChange.{ListChange}
+use Rattle.list_keys.specs.declared.changes.ListChange.TheVariants.{WholeText, MainAlone, WithoutMain, Cut, Split, Copied}
+use Rattle.list_keys.specs.Cuts.{cut_by}
 use Rattle.list_keys.specs.Rows.{main_turned}
+use Rattle.list_keys.specs.Changes.{change_adds, made_count}
+use Rattle.list_keys.proofs.RowLemmas.{made-few}
+use Rattle.normal_keys.specs.Rows.{cleared}
 use Rattle.normal_keys.specs.declared.actions.Repeated.{Repeated}
 use Rattle.normal_keys.specs.declared.actions.Repeated.TheVariants.{Moves, TurnsMain}
 use Rattle.normal_keys.specs.declared.each.Each.{Each}
@@ -36,46 +42,42 @@ swept-few (r ∷ rs) = swept_no_longer ranges r rs
 each-few : (f : Range → Range) (s : Selected) → length (each_settled f s).list ≤ length s.list
 each-few f s = omega (arith, swept-few (sorted (map f s.list)), length-sorted (map f s.list), length-map s.list f)
 
-absent : false ≡ true → ⊥
-absent e = cc
-
--- a client that was changed
-client-changed : (who : ℕ) (f : Client → Client) (cs : List Client) → ((c : Client) → (f c).who ≡ c.who) → is_here who cs ≡ true → client_in who (changed_in who f cs) ≡ f (client_in who cs)
-client-changed who f [] w h = absurd (absent h)
-client-changed who f (c ∷ cs) w h =
-    elim (test_cases (c.who == who)) [
-      | inl e ↦ ap (λ b. let x : Client = if b then f c else c in if x.who == who then x else client_in who (changed_in who f cs)) e
-          ∙ ap (λ n. if n == who then f c else client_in who (changed_in who f cs)) (w c)
-          ∙ ap (λ b. if b then f c else client_in who (changed_in who f cs)) e
-          ∙ sym (ap (λ b. f (if b then c else client_in who cs)) e)
-      | inr e ↦ ap (λ b. let x : Client = if b then f c else c in if x.who == who then x else client_in who (changed_in who f cs)) e
-          ∙ ap (λ b. if b then c else client_in who (changed_in who f cs)) e
-          ∙ client-changed who f cs w (sym (ap (λ b. b || is_here who cs) e) ∙ h)
-          ∙ sym (ap (λ b. f (if b then c else client_in who cs)) e)
-    ]
-
-sels-set : (who : ℕ) (sels : Selected) (flat : Flat) → is_joined who flat ≡ true → sels_of who (with_sels who sels flat) ≡ sels
-sels-set who sels flat j = ap (λ (c : Client). c.sels) (client-changed who (λ c. record c { sels = sels }) flat.clients (λ c. refl) j)
-
-sels-cleared : (who : ℕ) (flat : Flat) → is_joined who flat ≡ true → sels_of who (cleared who flat) ≡ sels_of who flat
-sels-cleared who flat j = ap (λ (c : Client). c.sels) (client-changed who (λ c. record c { count = 0; awaiting = awaits.Nothing }) flat.clients (λ c. refl) j)
-
 changed-few : (change : Each) (who : ℕ) (flat : Flat) → is_joined who flat ≡ true → length (sels_of who (each_changed change who flat)).list ≤ length (sels_of who flat).list
 changed-few change who flat j =
-    let f : Range → Range = each_range change (view_of who flat) (text_of who flat) in
-    omega (arith, each-few f (sels_of who flat), ap (λ (s : Selected). length s.list) (sels-set who (each_settled f (sels_of who flat)) flat j))
+    let f : Range → Range = each_range change (view_of who flat) (tabstop_of who flat) (text_of who flat) in
+    omega (arith, each-few f (sels_of who flat), ap (λ (s : Selected). length s.list) (sels_sels who (each_settled f (sels_of who flat)) flat j))
 
 -- one run makes no list longer
 once-few : (what : Repeated) (who : ℕ) (flat : Flat) → is_joined who flat ≡ true → length (sels_of who (once what who flat)).list ≤ length (sels_of who flat).list
 once-few (Moves motion reach) who flat j = changed-few (each.Moved motion reach) who flat j
-once-few (TurnsMain direction) who flat j = omega (arith, ap (λ (s : Selected). length s.list) (sels-set who (main_turned direction (sels_of who flat)) flat j))
+once-few (TurnsMain direction) who flat j = omega (arith, ap (λ (s : Selected). length s.list) (sels_sels who (main_turned direction (sels_of who flat)) flat j))
 
 pub run-few : (what : Repeated) (who : ℕ) (before after : Flat) → is_joined who before ≡ true → after ≡ once what who before → length (sels_of who before).list ≤ 4 → length (sels_of who after).list ≤ 4
 run-few what who before after j e h = omega (arith, h, once-few what who before j, ap (λ (w : Flat). length (sels_of who w).list) e)
 
--- a unit that was taken is none of the list's
-pub unit-few : (who : ℕ) (before after : Flat) → after ≡ with_units after.units before → length (sels_of who before).list ≤ 4 → length (sels_of who after).list ≤ 4
-unit-few who before after e h = omega (arith, h, ap (λ (w : Flat). length (sels_of who w).list) e)
+-- and nobody goes
+pub run-stays : (what : Repeated) (who : ℕ) (before after : Flat) → is_joined who before ≡ true → after ≡ once what who before → is_joined who after ≡ true
+run-stays what who before after j e = ap (is_joined who) e ∙ once-stays what ∙ j
+  where
+    once-stays : (x : Repeated) → is_joined who (once x who before) ≡ is_joined who before
+    once-stays (Moves motion reach) = joined_sels who who (each_settled (each_range (each.Moved motion reach) (view_of who before) (tabstop_of who before) (text_of who before)) (sels_of who before)) before
+    once-stays (TurnsMain direction) = joined_sels who who (main_turned direction (sels_of who before)) before
 
-pub cleared-few : (who : ℕ) (before after : Flat) → is_joined who before ≡ true → after ≡ cleared who before → length (sels_of who before).list ≤ 4 → length (sels_of who after).list ≤ 4
-cleared-few who before after j e h = omega (arith, h, ap (λ (w : Flat). length (sels_of who w).list) e, ap (λ (s : Selected). length s.list) (sels-cleared who before j))
+-- a unit that was taken is none of the list's
+pub unit-few : (who : ℕ) (before after : Flat) → after ≡ with_units (units_of after) before → length (sels_of who before).list ≤ 4 → length (sels_of who after).list ≤ 4
+unit-few who before after e h = omega (arith, h, ap (λ (w : Flat). length (sels_of who w).list) e, ap (λ (s : Selected). length s.list) (sels_units who (units_of after) before))
+
+pub unit-stays : (who : ℕ) (before after : Flat) → after ≡ with_units (units_of after) before → is_joined who before ≡ true → is_joined who after ≡ true
+unit-stays who before after e j = ap (is_joined who) e ∙ joined_units who (units_of after) before ∙ j
+
+pub cleared-few : (who : ℕ) (before after : Flat) → after ≡ cleared who before → length (sels_of who before).list ≤ 4 → length (sels_of who after).list ≤ 4
+cleared-few who before after e h = omega (arith, h, ap (λ (w : Flat). length (sels_of who w).list) e, ap (λ (s : Selected). length s.list) (sels_own who who (λ o. record o { count = 0; pending = None }) before))
+
+-- a change that adds none makes no more than there were, or one
+pub unadding-few : (change : ListChange) (text : List ℕ) (s : Selected) → change_adds change ≡ false → length s.list ≤ 4 → made_count change text s ≤ 4
+unadding-few WholeText text s e h = omega arith
+unadding-few MainAlone text s e h = omega arith
+unadding-few WithoutMain text s e h = omega (arith, h)
+unadding-few (Cut how) text s e h = omega (arith, h, made-few (cut_by how text) s.list)
+unadding-few (Split how) text s e h = absurd (false≢true (sym e))
+unadding-few (Copied direction) text s e h = absurd (false≢true (sym e))

@@ -1,84 +1,129 @@
--- The table of normal mode: what each key does. Characters stand by their numbers, with their letters beside them.
-use Rattle.std.specs.Prelude.{ℕ, ◌==◌, ◌||◌, Bool, true, false, if◌then◌else◌}
+-- The table of normal mode: what each key does.
+use Prim.Native.String.{String}
+use Rattle.std.specs.Prelude.{ℕ, ◌==◌, ◌||◌, if◌then◌else◌, List, [], ◌∷◌, slice_index, codes}
 use Rattle.std.specs.Char.{digit_value, is_ascii_digit, is_ascii_uppercase, to_ascii_lowercase}
 use Rattle.key_names.specs.declared.key.Key.{Key}
 use Rattle.key_names.specs.declared.key.Base.{Base}
 use Rattle.key_names.specs.declared.key.Base.TheVariants as base
-use Rattle.motion_keys.specs.declared.words.WordMove.TheVariants as word
-use Rattle.motion_keys.specs.declared.landmarks.LinePart.TheVariants as part
+use Rattle.motion_keys.specs.declared.direction.Direction.{Direction}
 use Rattle.motion_keys.specs.declared.direction.Direction.TheVariants.{Forward, Backward}
-use Rattle.kak_world.specs.declared.state.Reach.{Reach}
-use Rattle.kak_world.specs.declared.state.Reach.TheVariants.{Select, Extend}
-use Rattle.normal_keys.specs.declared.actions.Motion.{Motion}
-use Rattle.normal_keys.specs.declared.actions.Motion.TheVariants as motion
+use Rattle.motion_keys.specs.declared.char_moves.Until.{Until}
+use Rattle.motion_keys.specs.declared.char_moves.Until.TheVariants.{On, Before}
+use Rattle.motion_keys.specs.declared.words.WordMove.TheVariants.{Next, End, Back}
+use Rattle.motion_keys.specs.declared.words.WordKind.TheVariants.{Small, Big}
+use Rattle.motion_keys.specs.declared.landmarks.LinePart.TheVariants.{ToStart, ToEnd}
+use Rattle.motion_keys.specs.declared.finding.Motion.{Motion}
+use Rattle.motion_keys.specs.declared.finding.Motion.TheVariants.{Step, Line, Page, Word, Along, Bracket}
+use Rattle.motion_keys.specs.declared.finding.Reach.{Reach}
+use Rattle.motion_keys.specs.declared.finding.Reach.TheVariants.{Select, Extend}
+use Rattle.list_keys.specs.declared.cuts.Cut.TheVariants as cut
+use Rattle.list_keys.specs.declared.parts.Split.TheVariants as split
+use Rattle.list_keys.specs.declared.changes.ListChange.TheVariants as list
 use Rattle.normal_keys.specs.declared.actions.Shape.TheVariants as shape
-use Rattle.normal_keys.specs.declared.actions.ListChange.TheVariants as list
 use Rattle.normal_keys.specs.declared.actions.Repeated.TheVariants as repeated
 use Rattle.normal_keys.specs.declared.actions.Action.{Action}
 use Rattle.normal_keys.specs.declared.actions.Action.TheVariants as action
 
+-- the number of a character, by the character
+abbrev pub code : String → ℕ
+code c = slice_index (codes c) 0
+
+-- what stands beside a character in the first of some rows that has it; in none, the other
+abbrev pub looked_up : {A : Type 0} → A → ℕ → List (ℕ × A) → A
+looked_up other c [] = other
+looked_up other c (row ∷ rows) = if c == row.0 then row.1 else looked_up other c rows
+
 -- a motion of each selection, as often as the count says
 abbrev pub moves : Motion → Reach → Action
-moves how reach = action.Repeats (repeated.Moves how reach)
+moves motion reach = action.Repeats (repeated.Moves motion reach)
 
--- looking for a character, behind the cursor or before it, up to it or on the way
-abbrev pub sought : Bool → Bool → Reach → Action
-sought forward onto reach = action.Seeks (record { forward = forward; onto = onto }) reach
+-- looking for a character, behind the cursor or before it, onto it or up to it
+abbrev pub seeks : Direction → Until → Reach → Action
+seeks direction until reach = action.Seeks (record { direction = direction; until = until }) reach
 
--- what a small letter does; its capital does the same and extends
-abbrev pub letter_action : ℕ → Reach → Action
-letter_action c reach =
-    if c == 104 then moves motion.Back reach  -- h
-    else (if c == 106 then moves motion.Down reach  -- j
-    else (if c == 107 then moves motion.Up reach  -- k
-    else (if c == 108 then moves motion.On reach  -- l
-    else (if c == 119 then moves (motion.Word word.Next) reach  -- w
-    else (if c == 101 then moves (motion.Word word.End) reach  -- e
-    else (if c == 98 then moves (motion.Word word.Back) reach  -- b
-    else (if c == 102 then sought true true reach  -- f
-    else (if c == 116 then sought true false reach  -- t
-    else (if c == 103 then action.Goes reach  -- g
-    else action.Nothing)))))))))
+-- small letters; their capitals do the same and extend
+abbrev pub letters : Reach → List (ℕ × Action)
+letters reach =
+    (code "h", moves (Step Backward) reach)
+    ∷ (code "j", moves (Line Forward) reach)
+    ∷ (code "k", moves (Line Backward) reach)
+    ∷ (code "l", moves (Step Forward) reach)
+    ∷ (code "w", moves (Word Next Small) reach)
+    ∷ (code "e", moves (Word End Small) reach)
+    ∷ (code "b", moves (Word Back Small) reach)
+    ∷ (code "f", seeks Forward On reach)
+    ∷ (code "t", seeks Forward Before reach)
+    ∷ (code "g", action.Goes reach)
+    ∷ []
 
--- the same for letters with alt
-abbrev pub alt_letter_action : ℕ → Reach → Action
-alt_letter_action c reach =
-    if c == 119 then moves (motion.BigWord word.Next) reach  -- w
-    else (if c == 101 then moves (motion.BigWord word.End) reach  -- e
-    else (if c == 98 then moves (motion.BigWord word.Back) reach  -- b
-    else (if c == 102 then sought false true reach  -- f
-    else (if c == 116 then sought false false reach  -- t
-    else (if c == 104 then action.MovesOnce (motion.Along part.ToStart) reach  -- h
-    else (if c == 108 then action.MovesOnce (motion.Along part.ToEnd) reach  -- l
-    else action.Nothing))))))
+-- small letters with alt; their capitals too
+abbrev pub alt_letters : Reach → List (ℕ × Action)
+alt_letters reach =
+    (code "w", moves (Word Next Big) reach)
+    ∷ (code "e", moves (Word End Big) reach)
+    ∷ (code "b", moves (Word Back Big) reach)
+    ∷ (code "f", seeks Backward On reach)
+    ∷ (code "t", seeks Backward Before reach)
+    ∷ (code "h", action.MovesOnce (Along ToStart) reach)
+    ∷ (code "l", action.MovesOnce (Along ToEnd) reach)
+    ∷ []
 
--- what a character does that is no such letter
-abbrev pub sign_action : ℕ → Action
-sign_action c =
-    if c == 120 then action.Shapes shape.Lines  -- x
-    else (if c == 109 then action.MovesOnce motion.Bracket Select  -- m
-    else (if c == 59 then action.Shapes shape.Cursor  -- ;
-    else (if c == 37 then action.Lists list.WholeText  -- %
-    else (if c == 44 then action.Lists list.MainAlone  -- ,
-    else (if c == 95 then action.Lists list.Trimmed  -- _
-    else (if c == 67 then action.Lists (list.Copied Forward)  -- C
-    else (if c == 40 then action.Repeats (repeated.TurnsMain Backward)  -- (
-    else (if c == 41 then action.Repeats (repeated.TurnsMain Forward)  -- )
-    else (if c == 105 then action.Inserts  -- i
-    else (if c == 58 then action.Prompts  -- :
-    else action.Nothing))))))))))
+-- the other characters
+abbrev pub signs : List (ℕ × Action)
+signs =
+    (code "x", action.Shapes shape.Lines)
+    ∷ (code "m", action.MovesOnce Bracket Select)
+    ∷ (code ";", action.Shapes shape.Cursor)
+    ∷ (code "%", action.Lists list.WholeText)
+    ∷ (code ",", action.Lists list.MainAlone)
+    ∷ (code "_", action.Lists (list.Cut cut.Trimmed))
+    ∷ (code "C", action.Lists (list.Copied Forward))
+    ∷ (code "(", action.Repeats (repeated.TurnsMain Backward))
+    ∷ (code ")", action.Repeats (repeated.TurnsMain Forward))
+    ∷ (code "i", action.Inserts)
+    ∷ (code ":", action.Prompts)
+    ∷ []
 
 -- the same with alt
+abbrev pub alt_signs : List (ℕ × Action)
+alt_signs =
+    (code "x", action.Lists (list.Cut cut.WholeLines))
+    ∷ (code ";", action.Shapes shape.Turned)
+    ∷ (code ":", action.Shapes shape.Straight)
+    ∷ (code ",", action.Lists list.WithoutMain)
+    ∷ (code "C", action.Lists (list.Copied Backward))
+    ∷ (code "s", action.Lists (list.Split split.AtLineEnds))
+    ∷ (code "S", action.Lists (list.Split split.IntoEnds))
+    ∷ []
+
+-- characters with control
+abbrev pub controls : List (ℕ × Action)
+controls =
+    (code "f", action.MovesOnce (Page Forward) Select)
+    ∷ (code "b", action.MovesOnce (Page Backward) Select)
+    ∷ []
+
+-- the keys that go along the text do as letters do
+abbrev pub arrow_action : Base → Reach → Action
+arrow_action base.Left reach = moves (Step Backward) reach
+arrow_action base.Right reach = moves (Step Forward) reach
+arrow_action base.Down reach = moves (Line Forward) reach
+arrow_action base.Up reach = moves (Line Backward) reach
+arrow_action base.Home reach = action.MovesOnce (Along ToStart) reach
+arrow_action base.End reach = action.MovesOnce (Along ToEnd) reach
+arrow_action _ reach = action.Nothing
+
+abbrev pub letter_action : ℕ → Reach → Action
+letter_action c reach = looked_up action.Nothing c (letters reach)
+
+abbrev pub alt_letter_action : ℕ → Reach → Action
+alt_letter_action c reach = looked_up action.Nothing c (alt_letters reach)
+
+abbrev pub sign_action : ℕ → Action
+sign_action c = looked_up action.Nothing c signs
+
 abbrev pub alt_sign_action : ℕ → Action
-alt_sign_action c =
-    if c == 120 then action.Lists list.WholeLines  -- x
-    else (if c == 59 then action.Shapes shape.Turned  -- ;
-    else (if c == 58 then action.Shapes shape.Straight  -- :
-    else (if c == 44 then action.Lists list.WithoutMain  -- ,
-    else (if c == 67 then action.Lists (list.Copied Backward)  -- C
-    else (if c == 115 then action.Lists list.SplitLines  -- s
-    else (if c == 83 then action.Lists list.Ends  -- S
-    else action.Nothing))))))
+alt_sign_action c = looked_up action.Nothing c alt_signs
 
 -- one action, or another where that does nothing
 abbrev pub otherwise : Action → Action → Action
@@ -95,28 +140,16 @@ character_action c =
     if is_ascii_digit c then action.Digit (digit_value c)
     else otherwise (letter_action (to_ascii_lowercase c) (reach_of c)) (sign_action c)
 
--- the keys that go along the text do as letters do
-abbrev pub arrow_action : Base → Reach → Action
-arrow_action base.Left reach = moves motion.Back reach
-arrow_action base.Right reach = moves motion.On reach
-arrow_action base.Down reach = moves motion.Down reach
-arrow_action base.Up reach = moves motion.Up reach
-arrow_action base.Home reach = action.MovesOnce (motion.Along part.ToStart) reach
-arrow_action base.End reach = action.MovesOnce (motion.Along part.ToEnd) reach
-arrow_action _ reach = action.Nothing
-
 -- a key without modifiers
 abbrev pub plain_action : Base → Action
 plain_action (base.Char c) = character_action c
-plain_action base.PageDown = action.MovesOnce motion.PageDown Select
-plain_action base.PageUp = action.MovesOnce motion.PageUp Select
+plain_action base.PageDown = action.MovesOnce (Page Forward) Select
+plain_action base.PageUp = action.MovesOnce (Page Backward) Select
 plain_action key = arrow_action key Select
 
--- a key with control alone: f and b
+-- a key with control alone
 abbrev pub control_action : Base → Action
-control_action (base.Char c) =
-    if c == 102 then action.MovesOnce motion.PageDown Select
-    else (if c == 98 then action.MovesOnce motion.PageUp Select else action.Nothing)
+control_action (base.Char c) = looked_up action.Nothing c controls
 control_action _ = action.Nothing
 
 -- a key with alt alone

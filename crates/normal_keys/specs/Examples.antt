@@ -5,9 +5,10 @@ use Rattle.key_names.specs.declared.key.Base.{Base}
 use Rattle.key_names.specs.declared.key.Base.TheVariants.{Char, Ret, Esc, Right, Home, PageDown}
 use Rattle.list_model.specs.Ranges.{Range, Selected, only}
 use Rattle.kak_world.specs.declared.ask.EditError.TheVariants.{NothingSelected}
-use Rattle.kak_world.specs.declared.state.Mode.{Mode}
-use Rattle.kak_world.specs.declared.state.Mode.TheVariants.{Insert, Prompt}
-use Rattle.kak_world.specs.Flat.{Flat, newcomer, sels_of, mode_of, count_of}
+use Rattle.kak_world.specs.declared.own.Mode.{Mode}
+use Rattle.kak_world.specs.declared.own.Mode.TheVariants.{Insert, Prompt}
+use Rattle.kak_world.specs.declared.holder.Holder.TheVariants.{Of}
+use Rattle.kak_world.specs.Flat.{Flat, fresh, newcomer, sels_of, mode_of, count_of}
 use Rattle.kak_world.specs.Rows.{Fails, GivesUp, error_text}
 use Rattle.normal_keys.specs.Rows.{row_normal}
 
@@ -35,7 +36,11 @@ after_keys (k ∷ ks) flat = after_keys ks (row_normal k 0 flat).world
 
 -- client 0 on a text, with a list, and so many units that may still be taken
 abbrev pub client_on : List ℕ → Selected → ℕ → Flat
-client_on text sels units = record { text = text; clients = record (newcomer 0 0) { sels = sels } ∷ []; units = units }
+client_on text sels units = record {
+  buffers = Some (record { name = codes "n"; is_file = true; text = text; lists = record (fresh (Of 0)) { sels = sels } ∷ [] }) ∷ [];
+  clients = newcomer 0 0 0 ∷ [];
+  rest = record { units = units };
+}
 
 -- the client's list after keys, from one selection or from a list
 abbrev pub one : Range → Selected

@@ -1,40 +1,11 @@
 //! The table of normal mode: what each key does.
 
 ghost use Rattle.std.specs.Prelude.{◌≡◌};
-ghost use Rattle.normal_keys.specs.Actions.{moves, sought, letter_action, alt_letter_action, sign_action, alt_sign_action, otherwise, reach_of, character_action, arrow_action, plain_action, control_action, alt_action, action_of};
+ghost use Rattle.normal_keys.specs.Actions.{moves, seeks, letter_action, alt_letter_action, sign_action, alt_sign_action, otherwise, reach_of, character_action, arrow_action, plain_action, control_action, alt_action, action_of};
 
-use kak_world::{Reach, Search};
 use key_names::{Base, Key};
-use motion_keys::{Direction, LinePart, Place, WordMove};
-
-/// Where a motion leads from a selection.
-#[derive(Clone, Copy, PartialEq, Eq, Debug)]
-pub enum Motion {
-    /// To the character before the cursor.
-    Back,
-    /// To the character behind the cursor.
-    On,
-    /// To the place one line below the cursor.
-    Down,
-    /// To the place one line above the cursor.
-    Up,
-    /// To the place as many lines below as the window has.
-    PageDown,
-    /// To the place as many lines above as the window has.
-    PageUp,
-    /// By words.
-    Word(WordMove),
-    /// By words of all that is no blank.
-    BigWord(WordMove),
-    /// To a character.
-    Character(Search, char),
-    /// To a place that has a name.
-    To(Place),
-    /// To an end of the line.
-    Along(LinePart),
-    /// To the bracket that belongs to another one.
-    Bracket,
-}
+use list_keys::{Cut, ListChange, Split};
+use motion_keys::{Direction, LinePart, Motion, Reach, Search, Until, WordKind, WordMove};
 
 /// What becomes of each selection by itself, without a motion.
 #[derive(Clone, Copy, PartialEq, Eq, Debug)]
@@ -49,27 +20,6 @@ pub enum Shape {
     Straight,
     /// Its cursor is at its first character; one of one character is straight.
     AtStart,
-}
-
-/// What becomes of a list as a whole.
-#[derive(Clone, Copy, PartialEq, Eq, Debug)]
-pub enum ListChange {
-    /// One selection of the whole text.
-    WholeText,
-    /// The main one alone.
-    MainAlone,
-    /// All but the main one.
-    WithoutMain,
-    /// Each without the blanks and newlines at its ends.
-    Trimmed,
-    /// Of each the whole lines inside it.
-    WholeLines,
-    /// Each cut behind each newline.
-    SplitLines,
-    /// Of each its first and its last character.
-    Ends,
-    /// A copy of each on other lines.
-    Copied(Direction),
 }
 
 /// What is done as often as the count says.
@@ -113,11 +63,11 @@ fn moves(motion: Motion, reach: Reach) -> Action
     Action::Repeats(Repeated::Moves(motion, reach))
 }
 
-// Looking for a character, on its way or up to it.
-fn sought(forward: bool, onto: bool, reach: Reach) -> Action
-    ensures { result ≡ sought forward onto reach }
+// Looking for a character, onto it or up to it.
+fn seeks(direction: Direction, until: Until, reach: Reach) -> Action
+    ensures { result ≡ seeks direction until reach }
 {
-    Action::Seeks(Search { forward, onto }, reach)
+    Action::Seeks(Search { direction, until }, reach)
 }
 
 // What a small letter does, and its capital.
@@ -125,15 +75,15 @@ fn letter_action(c: char, reach: Reach) -> Action
     ensures { result ≡ letter_action c reach }
 {
     match c {
-        'h' => moves(Motion::Back, reach),
-        'j' => moves(Motion::Down, reach),
-        'k' => moves(Motion::Up, reach),
-        'l' => moves(Motion::On, reach),
-        'w' => moves(Motion::Word(WordMove::Next), reach),
-        'e' => moves(Motion::Word(WordMove::End), reach),
-        'b' => moves(Motion::Word(WordMove::Back), reach),
-        'f' => sought(true, true, reach),
-        't' => sought(true, false, reach),
+        'h' => moves(Motion::Step(Direction::Backward), reach),
+        'j' => moves(Motion::Line(Direction::Forward), reach),
+        'k' => moves(Motion::Line(Direction::Backward), reach),
+        'l' => moves(Motion::Step(Direction::Forward), reach),
+        'w' => moves(Motion::Word(WordMove::Next, WordKind::Small), reach),
+        'e' => moves(Motion::Word(WordMove::End, WordKind::Small), reach),
+        'b' => moves(Motion::Word(WordMove::Back, WordKind::Small), reach),
+        'f' => seeks(Direction::Forward, Until::On, reach),
+        't' => seeks(Direction::Forward, Until::Before, reach),
         'g' => Action::Goes(reach),
         _ => Action::Nothing,
     }
@@ -144,11 +94,11 @@ fn alt_letter_action(c: char, reach: Reach) -> Action
     ensures { result ≡ alt_letter_action c reach }
 {
     match c {
-        'w' => moves(Motion::BigWord(WordMove::Next), reach),
-        'e' => moves(Motion::BigWord(WordMove::End), reach),
-        'b' => moves(Motion::BigWord(WordMove::Back), reach),
-        'f' => sought(false, true, reach),
-        't' => sought(false, false, reach),
+        'w' => moves(Motion::Word(WordMove::Next, WordKind::Big), reach),
+        'e' => moves(Motion::Word(WordMove::End, WordKind::Big), reach),
+        'b' => moves(Motion::Word(WordMove::Back, WordKind::Big), reach),
+        'f' => seeks(Direction::Backward, Until::On, reach),
+        't' => seeks(Direction::Backward, Until::Before, reach),
         'h' => Action::MovesOnce(Motion::Along(LinePart::ToStart), reach),
         'l' => Action::MovesOnce(Motion::Along(LinePart::ToEnd), reach),
         _ => Action::Nothing,
@@ -165,7 +115,7 @@ fn sign_action(c: char) -> Action
         ';' => Action::Shapes(Shape::Cursor),
         '%' => Action::Lists(ListChange::WholeText),
         ',' => Action::Lists(ListChange::MainAlone),
-        '_' => Action::Lists(ListChange::Trimmed),
+        '_' => Action::Lists(ListChange::Cut(Cut::Trimmed)),
         'C' => Action::Lists(ListChange::Copied(Direction::Forward)),
         '(' => Action::Repeats(Repeated::TurnsMain(Direction::Backward)),
         ')' => Action::Repeats(Repeated::TurnsMain(Direction::Forward)),
@@ -180,13 +130,13 @@ fn alt_sign_action(c: char) -> Action
     ensures { result ≡ alt_sign_action c }
 {
     match c {
-        'x' => Action::Lists(ListChange::WholeLines),
+        'x' => Action::Lists(ListChange::Cut(Cut::WholeLines)),
         ';' => Action::Shapes(Shape::Turned),
         ':' => Action::Shapes(Shape::Straight),
         ',' => Action::Lists(ListChange::WithoutMain),
         'C' => Action::Lists(ListChange::Copied(Direction::Backward)),
-        's' => Action::Lists(ListChange::SplitLines),
-        'S' => Action::Lists(ListChange::Ends),
+        's' => Action::Lists(ListChange::Split(Split::AtLineEnds)),
+        'S' => Action::Lists(ListChange::Split(Split::IntoEnds)),
         _ => Action::Nothing,
     }
 }
@@ -230,10 +180,10 @@ fn arrow_action(base: Base, reach: Reach) -> Action
     ensures { result ≡ arrow_action base reach }
 {
     match base {
-        Base::Left => moves(Motion::Back, reach),
-        Base::Right => moves(Motion::On, reach),
-        Base::Down => moves(Motion::Down, reach),
-        Base::Up => moves(Motion::Up, reach),
+        Base::Left => moves(Motion::Step(Direction::Backward), reach),
+        Base::Right => moves(Motion::Step(Direction::Forward), reach),
+        Base::Down => moves(Motion::Line(Direction::Forward), reach),
+        Base::Up => moves(Motion::Line(Direction::Backward), reach),
         Base::Home => Action::MovesOnce(Motion::Along(LinePart::ToStart), reach),
         Base::End => Action::MovesOnce(Motion::Along(LinePart::ToEnd), reach),
         _ => Action::Nothing,
@@ -246,8 +196,8 @@ fn plain_action(base: Base) -> Action
 {
     match base {
         Base::Char(c) => character_action(c),
-        Base::PageDown => Action::MovesOnce(Motion::PageDown, Reach::Select),
-        Base::PageUp => Action::MovesOnce(Motion::PageUp, Reach::Select),
+        Base::PageDown => Action::MovesOnce(Motion::Page(Direction::Forward), Reach::Select),
+        Base::PageUp => Action::MovesOnce(Motion::Page(Direction::Backward), Reach::Select),
         _ => arrow_action(base, Reach::Select),
     }
 }
@@ -257,8 +207,8 @@ fn control_action(base: Base) -> Action
     ensures { result ≡ control_action base }
 {
     match base {
-        Base::Char('f') => Action::MovesOnce(Motion::PageDown, Reach::Select),
-        Base::Char('b') => Action::MovesOnce(Motion::PageUp, Reach::Select),
+        Base::Char('f') => Action::MovesOnce(Motion::Page(Direction::Forward), Reach::Select),
+        Base::Char('b') => Action::MovesOnce(Motion::Page(Direction::Backward), Reach::Select),
         _ => Action::Nothing,
     }
 }

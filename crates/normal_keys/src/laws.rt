@@ -1,6 +1,12 @@
-//! Worked examples of the definitions.
+//! Laws of the rows, and worked examples of the definitions: each is the contract of a function that does nothing.
 
 ghost use Rattle.normal_keys.specs.Examples.{Examples};
+ghost use Rattle.normal_keys.specs.Laws.{RowsKeepClients};
+
+/// No key of normal mode makes a client come or go.
+pub fn rows_keep_clients()
+    ensures { RowsKeepClients }
+{}
 
 /// Worked examples of the rows.
 pub fn worked_examples()

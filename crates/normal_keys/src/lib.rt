@@ -7,7 +7,6 @@ mod each;
 pub mod keys;
 pub mod laws;
 mod lists;
-mod moving;
 mod runs;
 mod shapes;
 

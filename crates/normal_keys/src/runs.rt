@@ -1,6 +1,7 @@
 //! Keys that are run as often as a count says.
+#![tactic(auto, using(kak_world::proofs::WorldLaws::world_laws))]
 
-ghost use Rattle.std.specs.Prelude.{◌≡◌, ◌≤◌, true, length, OnOk, IsOk, IsErrOf};
+ghost use Rattle.std.specs.Prelude.{◌≡◌, ◌≤◌, true, length, OnOk, OnErr, IsOk, IsErrOf};
 ghost use Rattle.kak_world.specs.Flat.{is_joined, sels_of};
 ghost use Rattle.kak_world.specs.Rows.{Gives};
 ghost use Rattle.normal_keys.specs.Moving.{runs};
@@ -17,8 +18,7 @@ use std::alloc::{AllocError, Global};
 // Another selection becomes the main one.
 fn turn_main(world: &mut World, who: u32, direction: Direction)
     requires { is_joined who world.old.flat ≡ true }
-    ensures turns { world.new.flat ≡ main_moved direction who world.old.flat }
-    ensures stays { is_joined who world.new.flat ≡ true }
+    ensures { world.new.flat ≡ main_moved direction who world.old.flat }
 {
     let main = main_beside(world.sels(who), direction);
     world.set_main(who, main);
@@ -29,7 +29,7 @@ fn run_once(alloc: Global, world: &mut World, who: u32, what: Repeated) -> Resul
     requires { is_joined who world.old.flat ≡ true }
     ensures does { OnOk result (world.new.flat ≡ once what who world.old.flat) }
     ensures few { length (sels_of who world.old.flat).list ≤ 4 → IsOk result }
-    ensures stays { is_joined who world.new.flat ≡ true }
+    ensures err { OnErr result (world.new.flat ≡ world.old.flat) }
 {
     match what {
         Repeated::Moves(motion, reach) => {
@@ -54,7 +54,6 @@ pub(crate) fn run_often(
     requires { is_joined who world.old.flat ≡ true }
     ensures row { Gives result world.new.flat (runs count (once what who) world.old.flat) }
     ensures few { length (sels_of who world.old.flat).list ≤ 4 → ¬ IsErrOf result EditError.NoMemory }
-    ensures stays { is_joined who world.new.flat ≡ true }
 {
     run_once(alloc, world, who, what)?;
     for _ in 1..count {

@@ -4,12 +4,12 @@ use Rattle.std.specs.Prelude.{ℕ, ◌+◌, ◌-◌, ◌==◌, nat_lt, nat_le, B
 use Rattle.std.specs.declared.option.Option.{Option}
 use Rattle.kak_text.specs.declared.classes.Class.TheVariants.{Line, Blank, Word}
 use Rattle.kak_text.specs.Classes.{class_of, is_same}
-use Rattle.motion_keys.specs.Words.{Ends, ends, class_for}
+use Rattle.motion_keys.specs.Words.{Ends, ends, word_kind, class_for}
 use Rattle.text_objects.specs.Runs.{chars_end, char_run}
 
 -- whether words are made of a character, or big words, for which marks count too
 abbrev pub is_in_word : Bool → ℕ → Bool
-is_in_word big c = is_same (class_for big c) Word
+is_in_word big c = is_same (class_for (word_kind big) c) Word
 
 -- whether a character is a blank
 abbrev pub is_blank : ℕ → Bool

@@ -3,66 +3,26 @@ use Rattle.std.proofs.Common.{◌≡◌, [], ◌∷◌, refl, arith}
 use Rattle.std.specs.Prelude.{decimal}
 use Rattle.std.proofs.lemmas.Fmt.{decimal_digit}
 use Rattle.unicode_width.proofs.Computing.{unicode_width}
+use Rattle.kak_world.specs.Flat.{client_of, shown_of, buffer_of, list_of, own_of, number_of, name_of, text_of, sels_of, view_of, tabstop_of, with_own, with_list_of, with_sels, with_view, joined_by}
 use Rattle.draw_model.specs.Drawings.{drawing_of}
-use Rattle.draw_model.specs.Examples.{CharExamples, LineExamples, SeenExamples, ListExamples, PlaceExamples}
+use Rattle.draw_model.specs.Examples.{PlaceExamples}
 use Rattle.draw_model.proofs.laws.worked_examples.Goals as goal
 
-chars : CharExamples
-chars = search
-
-cells : LineExamples
-unfolding unicode_width
-cells = search
-
-seen : SeenExamples
-unfolding unicode_width
-seen = search
-
-lists : ListExamples
-unfolding unicode_width
-lists =
-    let two : decimal 2 ≡ 50 ∷ [] = decimal_digit 2 (omega arith) in
-    let one : decimal 1 ≡ 49 ∷ [] = decimal_digit 1 (omega arith) in
-    let three : decimal 3 ≡ 51 ∷ [] = decimal_digit 3 (omega arith) in
-    record {
-      first_is_main = refl;
-      turned_other = refl;
-      turned_main = refl;
-      neighbours = refl;
-      cursors_that_touch = refl;
-      both_on_newlines = refl;
-      over_lines = refl;
-      over_a_whole_line = refl;
-      one_in_the_window = refl;
-      cut_by_the_window = refl;
-      mode_of_three = rw (two, one, three) refl;
-    }
-
 places : PlaceExamples
-unfolding unicode_width
+unfolding unicode_width client_of shown_of buffer_of list_of own_of number_of name_of text_of sels_of view_of tabstop_of with_own with_list_of with_sels with_view joined_by
 places = search
 
 pub returns : goal.returns
-unfolding drawing_of unicode_width
+unfolding drawing_of unicode_width client_of shown_of buffer_of list_of own_of number_of name_of text_of sels_of view_of tabstop_of with_own with_list_of with_sels with_view joined_by
 returns c =
     let zero : decimal 0 ≡ 48 ∷ [] = decimal_digit 0 (omega arith) in
     let one : decimal 1 ≡ 49 ∷ [] = decimal_digit 1 (omega arith) in
     let two : decimal 2 ≡ 50 ∷ [] = decimal_digit 2 (omega arith) in
+    let three : decimal 3 ≡ 51 ∷ [] = decimal_digit 3 (omega arith) in
     record {
-      chars = chars;
-      cells = cells;
-      seen = seen;
-      lists = lists;
       places = places;
       opened_world = rw (one, zero) refl;
       drawn_before = refl;
-      cursor_in_the_middle = refl;
-      turned_selection = refl;
-      two_selections = refl;
-      cut_at_both_sides = refl;
-      cut_whole = refl;
-      from_the_top = refl;
-      below_the_end = refl;
       nothing_said = refl;
       said = refl;
       refused = refl;
@@ -72,4 +32,5 @@ returns c =
       cursor_in_window = refl;
       mode_of_second = rw (two) refl;
       followed_world = refl;
+      mode_of_three = rw (two, one, three) refl;
     }

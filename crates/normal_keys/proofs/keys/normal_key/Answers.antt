@@ -1,9 +1,11 @@
 use Rattle.std.proofs.Common.{◌≡◌, true, subst}
+use Rattle.std.specs.declared.option.Option.{Option}
+use Rattle.key_names.specs.declared.key.Key.{Key}
 use Rattle.normal_keys.specs.Adding.{key_adds}
 use Rattle.normal_keys.proofs.FewLemmas.{cleared-few}
 use Rattle.normal_keys.proofs.keys.normal_key.Goals as goal
 
 pub returns-clause-few : goal.returns-clause-few
 returns-clause-few c = λ h k.
-    subst (λ a. key_adds a c.args.key ≡ true) c.awaiting-awaiting.ensures
-    (c.run_awaited.ensures.few (cleared-few c.args.who c.args.world.now.flat c.clear_count.new.self.flat c.requires c.clear_count.ensures.clears h) k)
+    let P : Option Key → Type 0 = λ p. key_adds p c.args.key ≡ true in
+    subst P c.take_count-count.ensures.pending (c.run_pending.ensures.few (cleared-few c.args.who c.args.world.now.flat c.take_count-count.new.world.flat c.take_count-count.ensures.clears h) k)

@@ -1,5 +1,0 @@
-use Rattle.draw_model.proofs.LawLemmas.{atoms_of-runs, spelled-atoms_of}
-use Rattle.draw_model.proofs.laws.atoms_are_runs.Goals as goal
-
-pub returns : goal.returns
-returns c = record { same = spelled-atoms_of; runs = atoms_of-runs }

@@ -1,5 +1,0 @@
-use Rattle.draw_model.proofs.PlainLemmas.{plain_lines, ascii}
-use Rattle.draw_model.proofs.laws.plain_lines_are_cut.Goals as goal
-
-pub returns : goal.returns
-returns c = record { cut = plain_lines; ascii = ascii }

@@ -1,8 +1,0 @@
--- The characters gone over are plain.
-use Rattle.std.proofs.Common.{take}
-use Rattle.std.specs.List.{AllByRecursion}
-use Rattle.draw_model.specs.Laws.{IsPlain}
-use Rattle.draw_model.proofs.stretches.plain_ahead.Given as goal
-
-abbrev pub invariant-loop-i : goal.invariant-loop-i
-invariant-loop-i l = AllByRecursion IsPlain (take l.i l.chars)

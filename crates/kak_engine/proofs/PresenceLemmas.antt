@@ -1,0 +1,92 @@
+-- Who is there, and has joined, after an event.
+use Rattle.std.proofs.Common.{◌≡◌, ◌≢◌, ℕ, ◌≤◌, Bool, true, false, ◌||◌, List, [], length, refl, ◌∙◌, subst, arith}
+use Rattle.std.specs.Prelude.{if◌then◌else◌, ◌==◌}
+use Rattle.std.proofs.lemmas.Bool.{eqb-true, ne_eqb}
+use Rattle.kak_world.specs.declared.world.TheConstants.{MAX_CLIENTS}
+use Rattle.kak_world.specs.Flat.{Flat, is_here as is_among, is_joined, left_by, joined_by}
+use Rattle.kak_world.proofs.KeepingLaws.{here_kept, count_kept, here_come, count_come, joined_others_come, here_goes, here_others_go, count_goes, joined_goes, joined_others_go, here_joined}
+use Rattle.session_events.specs.declared.event.Event.{Event}
+use Rattle.session_events.specs.declared.event.Event.TheVariants.{Join, Key as Struck, Refresh, Leave}
+use Rattle.session_events.specs.declared.event.Answered.{Answered}
+use Rattle.session_events.specs.Entries.{is_join, is_leave}
+use Rattle.session_events.specs.Legal.{Presence, is_here, moved_by}
+use Rattle.kak_engine.specs.Steps.{after_event}
+use Rattle.kak_engine.specs.Held.{CanRun}
+use Rattle.kak_engine.proofs.KeepingLaws.{keeps_key, keeps_refresh}
+
+-- whether a client is there behind an event, which is its own or not, by whether it was there
+abbrev pub there_after : Event → Bool → Bool → Bool
+there_after Join true before = true
+there_after Leave true before = false
+there_after _ _ before = before
+
+pub presence-after : (event : Event) (t : Bool) (p : Presence) → is_here (if t then moved_by event p else p) ≡ there_after event t (is_here p)
+presence-after Join true p = refl
+presence-after Join false p = refl
+presence-after (Struck key) true p = refl
+presence-after (Struck key) false p = refl
+presence-after (Refresh asked) true p = refl
+presence-after (Refresh asked) false p = refl
+presence-after Leave true p = refl
+presence-after Leave false p = refl
+
+unchanged : (event : Event) (t b : Bool) → is_join event ≡ false → is_leave event ≡ false → b ≡ there_after event t b
+unchanged Join t b e f = cc
+unchanged (Struck key) t b e f = refl
+unchanged (Refresh asked) t b e f = refl
+unchanged Leave t b e f = cc
+
+come : (b t : Bool) → (b || (t || false)) ≡ there_after Join t b
+come true true = refl
+come true false = refl
+come false true = refl
+come false false = refl
+
+-- who is there
+pub here-after : (k who : ℕ) (event : Event) (flat : Flat) → is_among k (after_event who event [] flat).clients ≡ there_after event (who == k) (is_among k flat.clients)
+here-after k who Join flat = here_come k who flat ∙ come (is_among k flat.clients) (who == k)
+here-after k who (Struck key) flat = here_kept k flat _ (keeps_key who key [] flat) ∙ unchanged (Struck key) (who == k) (is_among k flat.clients) refl refl
+here-after k who (Refresh asked) flat = here_kept k flat _ (keeps_refresh who flat) ∙ unchanged (Refresh asked) (who == k) (is_among k flat.clients) refl refl
+here-after k who Leave flat = by (who == k) refl
+  where
+    by : (t : Bool) → (who == k) ≡ t → is_among k (left_by who flat).clients ≡ there_after Leave t (is_among k flat.clients)
+    by true e = subst (λ n. is_among n (left_by who flat).clients ≡ false) (eqb-true who k e) (here_goes who flat)
+    by false e = here_others_go k who flat e
+
+-- who has joined, where one that came has
+pub joined-after : (k who : ℕ) (event : Event) (flat : Flat) → (is_join event ≡ true → is_joined who (after_event who event [] flat) ≡ true)
+    → is_joined k (after_event who event [] flat) ≡ there_after event (who == k) (is_joined k flat)
+joined-after k who Join flat came = by (who == k) refl
+  where
+    by : (t : Bool) → (who == k) ≡ t → is_joined k (joined_by who flat) ≡ there_after Join t (is_joined k flat)
+    by true e = subst (λ n. is_joined n (joined_by who flat) ≡ true) (eqb-true who k e) (came refl)
+    by false e = joined_others_come k who flat e
+joined-after k who (Struck key) flat came = (keeps_key who key [] flat).joined k ∙ unchanged (Struck key) (who == k) (is_joined k flat) refl refl
+joined-after k who (Refresh asked) flat came = (keeps_refresh who flat).joined k ∙ unchanged (Refresh asked) (who == k) (is_joined k flat) refl refl
+joined-after k who Leave flat came = by (who == k) refl
+  where
+    by : (t : Bool) → (who == k) ≡ t → is_joined k (left_by who flat) ≡ there_after Leave t (is_joined k flat)
+    by true e = subst (λ n. is_joined n (left_by who flat) ≡ false) (eqb-true who k e) (joined_goes who flat)
+    by false e = joined_others_go k who flat e
+
+-- how many are there
+pub few-after : (who : ℕ) (event : Event) (flat : Flat) → CanRun event who flat → length flat.clients ≤ MAX_CLIENTS → length (after_event who event [] flat).clients ≤ MAX_CLIENTS
+few-after who Join flat can few = omega (arith, count_come who flat, can.few)
+few-after who (Struck key) flat can few = omega (arith, count_kept flat _ (keeps_key who key [] flat), few)
+few-after who (Refresh asked) flat can few = omega (arith, count_kept flat _ (keeps_refresh who flat), few)
+few-after who Leave flat can few = omega (arith, count_goes who flat (here_joined who flat can), few)
+
+-- a client that made an event, and didn't leave by it, has joined
+pub own-after : (who : ℕ) (event : Event) (flat : Flat) → CanRun event who flat → is_leave event ≡ false → (is_join event ≡ true → is_joined who (after_event who event [] flat) ≡ true)
+    → is_joined who (after_event who event [] flat) ≡ true
+own-after who Join flat can stays came = came refl
+own-after who (Struck key) flat can stays came = (keeps_key who key [] flat).joined who ∙ can
+own-after who (Refresh asked) flat can stays came = (keeps_refresh who flat).joined who ∙ can
+own-after who Leave flat can stays came = cc
+
+-- the others stay
+pub others_stay : (who k : ℕ) (event : Event) (answers : List Answered) (flat : Flat) → who ≢ k → is_joined k (after_event who event answers flat) ≡ is_joined k flat
+others_stay who k Join answers flat other = joined_others_come k who flat (ne_eqb who k other)
+others_stay who k (Struck key) answers flat other = (keeps_key who key answers flat).joined k
+others_stay who k (Refresh asked) answers flat other = (keeps_refresh who flat).joined k
+others_stay who k Leave answers flat other = joined_others_go k who flat (ne_eqb who k other)

@@ -1,0 +1,198 @@
+-- Which changes keep the clients, and who is there when one comes or goes.
+use Rattle.std.proofs.Common.{◌≡◌, ℕ, zero, suc, ◌+◌, ◌≤◌, Bool, true, false, ◌||◌, List, [], ◌∷◌, length, map, refl, sym, ap, ◌∙◌, length-append}
+use Rattle.std.specs.Prelude.{◌&&◌, ◌==◌, is_some, option_map, slice_index_or, Some, None}
+use Rattle.std.specs.List.{list_any}
+use Rattle.std.specs.declared.option.Option.{Option}
+use Rattle.std.proofs.lemmas.Bool.{eqb-true}
+use Rattle.std.proofs.lemmas.List.{length-map}
+use Rattle.tables.specs.Tables.{changed_where}
+use Rattle.tables.proofs.RowLemmas.{any-changed, first-kept, map-changed, any-added, first-added, any-left, none-left, first-left, fewer-left, any-with_other}
+use Rattle.list_model.specs.Ranges.{Selected}
+use Rattle.window_view.specs.View.{View}
+use Rattle.text_model.specs.Changes.{Change}
+use Rattle.kak_world.specs.declared.holder.Holder.{Holder}
+use Rattle.kak_world.specs.declared.holder.Holder.TheVariants.{Of}
+use Rattle.kak_world.specs.declared.own.Own.{Own}
+use Rattle.kak_world.specs.declared.clients.Client.{Client}
+use Rattle.kak_world.specs.Flat.{Held, Buffer, Flat, fresh, newcomer, is_of, is_here, is_held_by, has_list, with_list, listed_for, unlisted_for, buffer_or_scratch, changed_at, lowest, least_free, numbers_of, client_of, shown_of, buffer_of, is_joined, with_own, with_list_of, with_sels, with_view, with_units, joined_by, left_by}
+use Rattle.kak_world.specs.Changing.{list_moved, buffer_changed, changed_in, put_before_cursors}
+use Rattle.kak_world.specs.Keeping.{whos_of, KeepsClients}
+
+pub keeps_same : (flat : Flat) → KeepsClients flat flat
+keeps_same flat = record { whos = refl; joined = λ k. refl }
+
+-- one change after another
+pub keeps_after : (a b c : Flat) → KeepsClients a b → KeepsClients b c → KeepsClients a c
+keeps_after a b c f g = record { whos = g.whos ∙ f.whos; joined = λ k. g.joined k ∙ f.joined k }
+
+here-whos : (k : ℕ) (cs : List Client) → is_here k cs ≡ list_any (λ n. n == k) (whos_of cs)
+here-whos k [] = refl
+here-whos k (c ∷ cs) = ap (λ b. (c.who == k) || b) (here-whos k cs)
+
+-- the same clients are here
+pub here_kept : (k : ℕ) (old new : Flat) → KeepsClients old new → is_here k new.clients ≡ is_here k old.clients
+here_kept k old new f = here-whos k new.clients ∙ ap (list_any (λ n. n == k)) f.whos ∙ sym (here-whos k old.clients)
+
+-- and as many
+pub count_kept : (old new : Flat) → KeepsClients old new → length new.clients ≡ length old.clients
+count_kept old new f = sym (length-map new.clients (λ c. c.who)) ∙ ap length f.whos ∙ length-map old.clients (λ c. c.who)
+
+-- whether a client has a list on a buffer, where one is
+abbrev pub listed_in : ℕ → Option Buffer → Bool
+listed_in k o = is_some o && has_list (Of k) (buffer_or_scratch o)
+
+-- whether a client has joined, by whether it is here, the number of the buffer that it sees, and the buffers
+abbrev pub joined_in : ℕ → Bool → ℕ → List (Option Buffer) → Bool
+joined_in k here n buffers = here && listed_in k (slice_index_or buffers n None)
+
+pub is-joined-in : (k : ℕ) (flat : Flat) → is_joined k flat ≡ joined_in k (is_here k flat.clients) (shown_of k flat) flat.buffers
+unfolding is_joined buffer_of
+is-joined-in k flat = refl
+
+-- who has joined is here
+pub here_joined : (k : ℕ) (flat : Flat) → is_joined k flat ≡ true → is_here k flat.clients ≡ true
+here_joined k flat j = first-true (is_here k flat.clients) (listed_in k (slice_index_or flat.buffers (shown_of k flat) None)) (sym (is-joined-in k flat) ∙ j)
+  where
+    first-true : (a b : Bool) → (a && b) ≡ true → a ≡ true
+    first-true true b e = refl
+    first-true false b e = e
+
+pub joined-by-parts : (k : ℕ) (old new : Flat) → is_here k new.clients ≡ is_here k old.clients → shown_of k new ≡ shown_of k old
+    → ((n : ℕ) → listed_in k (slice_index_or new.buffers n None) ≡ listed_in k (slice_index_or old.buffers n None)) → is_joined k new ≡ is_joined k old
+joined-by-parts k old new here shown listed =
+    is-joined-in k new
+    ∙ ap (λ b. joined_in k b (shown_of k new) new.buffers) here
+    ∙ ap (λ b. is_here k old.clients && b) (listed (shown_of k new))
+    ∙ ap (λ n. joined_in k (is_here k old.clients) n old.buffers) shown
+    ∙ sym (is-joined-in k old)
+
+pub keeps-by-parts : (old new : Flat) → whos_of new.clients ≡ whos_of old.clients → ((k : ℕ) → shown_of k new ≡ shown_of k old)
+    → ((k n : ℕ) → listed_in k (slice_index_or new.buffers n None) ≡ listed_in k (slice_index_or old.buffers n None)) → KeepsClients old new
+keeps-by-parts old new whos shown listed = record {
+  whos = whos;
+  joined = λ k. joined-by-parts k old new (here-whos k new.clients ∙ ap (list_any (λ n. n == k)) whos ∙ sym (here-whos k old.clients)) (shown k) (listed k);
+}
+
+-- what is a client's own
+pub keeps_own : (who : ℕ) (f : Own → Own) (flat : Flat) → KeepsClients flat (with_own who f flat)
+unfolding with_own shown_of client_of
+keeps_own who f flat =
+    let g : Client → Client = λ c. record c { own = f c.own } in
+    keeps-by-parts flat (with_own who f flat)
+    (map-changed (is_of who) g (λ c. c.who) flat.clients (λ c. refl))
+    (λ k. first-kept (is_of who) (is_of k) g (λ c. c.shown) (newcomer k 0 0) flat.clients (λ c. refl) (λ c. refl))
+    (λ k n. refl)
+
+option-kept : (k : ℕ) (f : Buffer → Buffer) (o : Option Buffer) → ((b : Buffer) → has_list (Of k) (f b) ≡ has_list (Of k) b) → listed_in k (option_map f o) ≡ listed_in k o
+option-kept k f None h = refl
+option-kept k f (Some b) h = h b
+
+pub listed-changed : (k m n : ℕ) (f : Buffer → Buffer) (bs : List (Option Buffer)) → ((b : Buffer) → has_list (Of k) (f b) ≡ has_list (Of k) b)
+    → listed_in k (slice_index_or (changed_at m f bs) n None) ≡ listed_in k (slice_index_or bs n None)
+listed-changed k m n f [] h = refl
+listed-changed k zero zero f (b ∷ bs) h = option-kept k f b h
+listed-changed k zero (suc n) f (b ∷ bs) h = refl
+listed-changed k (suc m) zero f (b ∷ bs) h = refl
+listed-changed k (suc m) (suc n) f (b ∷ bs) h = listed-changed k m n f bs h
+
+listed-each : (k n : ℕ) (f : Buffer → Buffer) (bs : List (Option Buffer)) → ((b : Buffer) → has_list (Of k) (f b) ≡ has_list (Of k) b)
+    → listed_in k (slice_index_or (map (option_map f) bs) n None) ≡ listed_in k (slice_index_or bs n None)
+listed-each k n f [] h = refl
+listed-each k zero f (b ∷ bs) h = option-kept k f b h
+listed-each k (suc n) f (b ∷ bs) h = listed-each k n f bs h
+
+-- a list whose holder stays
+any-held : (k : ℕ) (p : Held → Bool) (f : Held → Held) (hs : List Held) → ((h : Held) → is_held_by (Of k) (f h) ≡ is_held_by (Of k) h)
+    → list_any (is_held_by (Of k)) (changed_where p f hs) ≡ list_any (is_held_by (Of k)) hs
+any-held k p f hs keeps = any-changed p (is_held_by (Of k)) f hs keeps
+
+keeps-list_of : (who : ℕ) (f : Held → Held) (flat : Flat) → ((k : ℕ) (h : Held) → is_held_by (Of k) (f h) ≡ is_held_by (Of k) h) → KeepsClients flat (with_list_of who f flat)
+unfolding with_list_of shown_of client_of
+keeps-list_of who f flat keeps =
+    keeps-by-parts flat (with_list_of who f flat) refl (λ k. refl)
+    (λ k n. listed-changed k (shown_of who flat) n (with_list (Of who) f) flat.buffers (λ b. any-held k (is_held_by (Of who)) f b.lists (keeps k)))
+
+-- its selections, and its window
+pub keeps_sels : (who : ℕ) (sels : Selected) (flat : Flat) → KeepsClients flat (with_sels who sels flat)
+unfolding with_sels
+keeps_sels who sels flat = keeps-list_of who (λ held. record held { sels = sels }) flat (λ k h. refl)
+
+pub keeps_view : (who : ℕ) (view : View) (flat : Flat) → KeepsClients flat (with_view who view flat)
+unfolding with_view
+keeps_view who view flat = keeps-list_of who (λ held. record held { view = view }) flat (λ k h. refl)
+
+-- the units
+pub keeps_units : (units : ℕ) (flat : Flat) → KeepsClients flat (with_units units flat)
+unfolding with_units shown_of client_of
+keeps_units units flat = keeps-by-parts flat (with_units units flat) refl (λ k. refl) (λ k n. refl)
+
+any-moved : (k : ℕ) (text : List ℕ) (cs : List Change) (hs : List Held) → list_any (is_held_by (Of k)) (map (list_moved text cs) hs) ≡ list_any (is_held_by (Of k)) hs
+any-moved k text cs [] = refl
+any-moved k text cs (h ∷ hs) = ap (λ b. is_held_by (Of k) h || b) (any-moved k text cs hs)
+
+-- changes of a text
+pub keeps_changed : (n : ℕ) (cs : List Change) (flat : Flat) → KeepsClients flat (changed_in n cs flat)
+unfolding changed_in shown_of client_of
+keeps_changed n cs flat =
+    keeps-by-parts flat (changed_in n cs flat) refl (λ k. refl)
+    (λ k m. listed-changed k n m (buffer_changed cs) flat.buffers (λ b. any-moved k b.text cs b.lists))
+
+pub keeps_put : (s : List ℕ) (who : ℕ) (flat : Flat) → KeepsClients flat (put_before_cursors s who flat)
+unfolding put_before_cursors
+keeps_put s who flat = keeps_changed _ _ flat
+
+-- who is here when a client has come
+pub here_come : (k who : ℕ) (flat : Flat) → is_here k (joined_by who flat).clients ≡ (is_here k flat.clients || ((who == k) || false))
+unfolding joined_by
+here_come k who flat = any-added (is_of k) (newcomer who (least_free (numbers_of flat.clients)) (lowest flat.buffers)) flat.clients
+
+-- and how many
+pub count_come : (who : ℕ) (flat : Flat) → length (joined_by who flat).clients ≡ length flat.clients + 1
+unfolding joined_by
+count_come who flat = length-append flat.clients (newcomer who (least_free (numbers_of flat.clients)) (lowest flat.buffers) ∷ [])
+
+or-nothing : (a b : Bool) → b ≡ false → (a || (b || false)) ≡ a
+or-nothing true b e = refl
+or-nothing false b e = ap (λ c. c || false) e
+
+-- another one has joined as before
+pub joined_others_come : (k who : ℕ) (flat : Flat) → (who == k) ≡ false → is_joined k (joined_by who flat) ≡ is_joined k flat
+unfolding joined_by shown_of client_of
+joined_others_come k who flat other =
+    joined-by-parts k flat (joined_by who flat)
+    (here_come k who flat ∙ or-nothing (is_here k flat.clients) (who == k) other)
+    (ap (λ (c : Client). c.shown) (first-added (is_of k) (newcomer k 0 0) (newcomer who (least_free (numbers_of flat.clients)) (lowest flat.buffers)) flat.clients other))
+    (λ n. listed-changed k (lowest flat.buffers) n (listed_for (Of who)) flat.buffers (λ b. any-with_other (is_held_by (Of who)) (is_held_by (Of k)) (fresh (Of who)) b.lists other))
+
+apart : (a k x : ℕ) → (a == k) ≡ false → (x == a) ≡ true → (x == k) ≡ false
+apart a k x other e = ap (λ n. n == k) (eqb-true x a e) ∙ other
+
+-- who goes isn't here any more, and the others are
+pub here_goes : (who : ℕ) (flat : Flat) → is_here who (left_by who flat).clients ≡ false
+unfolding left_by
+here_goes who flat = none-left (is_of who) flat.clients
+
+pub here_others_go : (k who : ℕ) (flat : Flat) → (who == k) ≡ false → is_here k (left_by who flat).clients ≡ is_here k flat.clients
+unfolding left_by
+here_others_go k who flat other = any-left (is_of who) (is_of k) flat.clients (λ c e. apart who k c.who other e)
+
+pub count_goes : (who : ℕ) (flat : Flat) → is_here who flat.clients ≡ true → length (left_by who flat).clients + 1 ≤ length flat.clients
+unfolding left_by
+count_goes who flat here = fewer-left (is_of who) flat.clients here
+
+pub joined_goes : (who : ℕ) (flat : Flat) → is_joined who (left_by who flat) ≡ false
+joined_goes who flat = is-joined-in who (left_by who flat) ∙ ap (λ b. joined_in who b (shown_of who (left_by who flat)) (left_by who flat).buffers) (here_goes who flat)
+
+pub joined_others_go : (k who : ℕ) (flat : Flat) → (who == k) ≡ false → is_joined k (left_by who flat) ≡ is_joined k flat
+unfolding left_by shown_of client_of
+joined_others_go k who flat other =
+    joined-by-parts k flat (left_by who flat)
+    (here_others_go k who flat other)
+    (ap (λ (c : Client). c.shown) (first-left (is_of who) (is_of k) (newcomer k 0 0) flat.clients (λ c e. apart who k c.who other e)))
+    (λ n. listed-each k n (unlisted_for (Of who)) flat.buffers (λ b. any-left (is_held_by (Of who)) (is_held_by (Of k)) b.lists (λ h e. held-apart h e)))
+  where
+    held-apart : (h : Held) → is_held_by (Of who) h ≡ true → is_held_by (Of k) h ≡ false
+    held-apart h e = by h.holder e
+      where
+        by : (holder : Holder) → is_held_by (Of who) (record (fresh holder) { holder = holder }) ≡ true → is_held_by (Of k) (record (fresh holder) { holder = holder }) ≡ false
+        by (Of n) e = apart who k n other e

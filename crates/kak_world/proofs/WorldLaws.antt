@@ -1,0 +1,258 @@
+-- What each change of the world leaves of what it says of its clients.
+use Rattle.std.proofs.Common.{◌≡◌, ◌≢◌, ℕ, Bool, true, false, List, refl, sym, ap, ◌∙◌}
+use Rattle.std.specs.Prelude.{◌&&◌}
+use Rattle.std.proofs.lemmas.Bool.{eqb-true, ne_eqb}
+use Rattle.tables.specs.Tables.{first_where}
+use Rattle.tables.proofs.RowLemmas.{Leaves, AreApart, first-changed, first-changed_other, first-kept, any-changed, changed-same, changed-stays, changed-changed, any-map}
+use Rattle.list_model.specs.Ranges.{Selected}
+use Rattle.window_view.specs.View.{View}
+use Rattle.text_model.specs.Changes.{Change, all_changed}
+use Rattle.kak_world.specs.declared.holder.Holder.{Holder}
+use Rattle.kak_world.specs.declared.holder.Holder.TheVariants.{Of}
+use Rattle.kak_world.specs.declared.own.Own.{Own}
+use Rattle.kak_world.specs.declared.clients.Client.{Client}
+use Rattle.kak_world.specs.Flat.{Held, Buffer, Flat, same_holder, is_of, is_here, is_held_by, has_list, list_on, with_list, fresh, newcomer, is_there, buffer_at, changed_at, client_of, shown_of, buffer_of, list_of, is_joined, own_of, number_of, name_of, text_of, sels_of, view_of, units_of, with_own, with_list_of, with_sels, with_view, with_units}
+use Rattle.kak_world.specs.Changing.{list_moved, buffer_changed, changed_in, put_before_cursors}
+use Rattle.kak_world.proofs.SlotLemmas.{buffer-changed, buffer-kept, there-kept}
+
+and-first : (a b : Bool) → (a && b) ≡ true → a ≡ true
+and-first true b h = refl
+and-first false b h = h
+
+and-second : (a b : Bool) → (a && b) ≡ true → b ≡ true
+and-second true b h = h
+and-second false b h = absurd (let no : false ≡ true = h in cc)
+
+-- a client that has joined is here, and so is its buffer, with a list of its own
+pub joined_here : (who : ℕ) (flat : Flat) → is_joined who flat ≡ true → is_here who flat.clients ≡ true
+unfolding is_joined
+joined_here who flat h = and-first _ _ h
+
+pub joined_there : (who : ℕ) (flat : Flat) → is_joined who flat ≡ true → is_there (shown_of who flat) flat.buffers ≡ true
+unfolding is_joined
+joined_there who flat h = and-first _ _ (and-second _ _ h)
+
+pub joined_list : (who : ℕ) (flat : Flat) → is_joined who flat ≡ true → has_list (Of who) (buffer_of who flat) ≡ true
+unfolding is_joined
+joined_list who flat h = and-second _ _ (and-second _ _ h)
+
+-- what is a client's own, changed
+pub own_own : (who : ℕ) (f : Own → Own) (flat : Flat) → is_joined who flat ≡ true → own_of who (with_own who f flat) ≡ f (own_of who flat)
+unfolding own_of client_of with_own
+own_own who f flat j = ap (λ (c : Client). c.own) (first-changed (is_of who) (λ c. record c { own = f c.own }) (newcomer who 0 0) flat.clients (λ c. refl) (joined_here who flat j))
+
+own-apart : (k who : ℕ) → k ≢ who → AreApart (is_of who) (is_of k)
+own-apart k who apart c e = ne_eqb c.who k (λ same. apart (sym same ∙ eqb-true c.who who e))
+
+pub own_other : (k who : ℕ) (f : Own → Own) (flat : Flat) → k ≢ who → own_of k (with_own who f flat) ≡ own_of k flat
+unfolding own_of client_of with_own
+own_other k who f flat apart = ap (λ (c : Client). c.own) (first-changed_other (is_of who) (is_of k) (λ c. record c { own = f c.own }) (newcomer k 0 0) flat.clients (λ c. refl) (own-apart k who apart))
+
+-- two changes that make the same of what is a client's own
+pub own_known : (who : ℕ) (o : Own) (f : Own → Own) (flat : Flat) → o ≡ f (own_of who flat) → with_own who (λ _. o) flat ≡ with_own who f flat
+unfolding own_of client_of with_own
+own_known who o f flat e = ap (λ cs. let x : Flat = record { buffers = flat.buffers; clients = cs; rest = flat.rest } in x)
+    (changed-same (is_of who) (λ c. record c { own = o }) (λ c. record c { own = f c.own }) (newcomer who 0 0) flat.clients (ap (λ x. let c : Client = first_where (is_of who) (newcomer who 0 0) flat.clients in record c { own = x }) e))
+
+pub own_same : (who : ℕ) (o : Own) (flat : Flat) → o ≡ own_of who flat → with_own who (λ _. o) flat ≡ flat
+unfolding own_of client_of with_own
+own_same who o flat e = ap (λ cs. let x : Flat = record { buffers = flat.buffers; clients = cs; rest = flat.rest } in x)
+    (changed-stays (is_of who) (λ c. record c { own = o }) (newcomer who 0 0) flat.clients (ap (λ x. let c : Client = first_where (is_of who) (newcomer who 0 0) flat.clients in record c { own = x }) e))
+
+-- one change behind another
+pub own_twice : (who : ℕ) (f g : Own → Own) (flat : Flat) → with_own who g (with_own who f flat) ≡ with_own who (λ o. g (f o)) flat
+unfolding with_own
+own_twice who f g flat = ap (λ cs. let x : Flat = record { buffers = flat.buffers; clients = cs; rest = flat.rest } in x)
+    (changed-changed (is_of who) (λ c. record c { own = f c.own }) (λ c. record c { own = g c.own }) flat.clients (λ c. refl))
+
+pub shown_own : (k who : ℕ) (f : Own → Own) (flat : Flat) → shown_of k (with_own who f flat) ≡ shown_of k flat
+unfolding shown_of client_of with_own
+shown_own k who f flat = first-kept (is_of who) (is_of k) (λ c. record c { own = f c.own }) (λ (c : Client). c.shown) (newcomer k 0 0) flat.clients (λ c. refl) (λ c. refl)
+
+pub number_own : (k who : ℕ) (f : Own → Own) (flat : Flat) → number_of k (with_own who f flat) ≡ number_of k flat
+unfolding number_of client_of with_own
+number_own k who f flat = first-kept (is_of who) (is_of k) (λ c. record c { own = f c.own }) (λ (c : Client). c.number) (newcomer k 0 0) flat.clients (λ c. refl) (λ c. refl)
+
+pub here_own : (k who : ℕ) (f : Own → Own) (flat : Flat) → is_here k (with_own who f flat).clients ≡ is_here k flat.clients
+unfolding with_own
+here_own k who f flat = any-changed (is_of who) (is_of k) (λ c. record c { own = f c.own }) flat.clients (λ c. refl)
+
+pub buffer_own : (k who : ℕ) (f : Own → Own) (flat : Flat) → buffer_of k (with_own who f flat) ≡ buffer_of k flat
+unfolding buffer_of with_own
+buffer_own k who f flat = ap (λ n. buffer_at n flat.buffers) (shown_own k who f flat)
+
+pub text_own : (k who : ℕ) (f : Own → Own) (flat : Flat) → text_of k (with_own who f flat) ≡ text_of k flat
+unfolding text_of
+text_own k who f flat = ap (λ (b : Buffer). b.text) (buffer_own k who f flat)
+
+pub name_own : (k who : ℕ) (f : Own → Own) (flat : Flat) → name_of k (with_own who f flat) ≡ name_of k flat
+unfolding name_of
+name_own k who f flat = ap (λ (b : Buffer). b.name) (buffer_own k who f flat)
+
+pub sels_own : (k who : ℕ) (f : Own → Own) (flat : Flat) → sels_of k (with_own who f flat) ≡ sels_of k flat
+unfolding sels_of list_of
+sels_own k who f flat = ap (λ (b : Buffer). (list_on (Of k) b).sels) (buffer_own k who f flat)
+
+pub view_own : (k who : ℕ) (f : Own → Own) (flat : Flat) → view_of k (with_own who f flat) ≡ view_of k flat
+unfolding view_of list_of
+view_own k who f flat = ap (λ (b : Buffer). (list_on (Of k) b).view) (buffer_own k who f flat)
+
+pub units_own : (who : ℕ) (f : Own → Own) (flat : Flat) → units_of (with_own who f flat) ≡ units_of flat
+unfolding units_of with_own
+units_own who f flat = refl
+
+pub joined_own : (k who : ℕ) (f : Own → Own) (flat : Flat) → is_joined k (with_own who f flat) ≡ is_joined k flat
+unfolding is_joined with_own
+joined_own k who f flat =
+    ap (λ h. h && (is_there (shown_of k (with_own who f flat)) flat.buffers && has_list (Of k) (buffer_of k (with_own who f flat)))) (here_own k who f flat)
+    ∙ ap (λ n. is_here k flat.clients && (is_there n flat.buffers && has_list (Of k) (buffer_of k (with_own who f flat)))) (shown_own k who f flat)
+    ∙ ap (λ b. is_here k flat.clients && (is_there (shown_of k flat) flat.buffers && has_list (Of k) b)) (buffer_own k who f flat)
+
+-- a change that leaves the holder of a list alone leaves its test alone
+list-leaves : (k : Holder) (f : Held → Held) → ((h : Held) → (f h).holder ≡ h.holder) → Leaves (is_held_by k) f
+list-leaves k f keeps h = ap (same_holder k) (keeps h)
+
+shown_list : (k who : ℕ) (f : Held → Held) (flat : Flat) → shown_of k (with_list_of who f flat) ≡ shown_of k flat
+unfolding shown_of client_of with_list_of
+shown_list k who f flat = refl
+
+joined_list_of : (k who : ℕ) (f : Held → Held) (flat : Flat) → ((h : Held) → (f h).holder ≡ h.holder) → is_joined k (with_list_of who f flat) ≡ is_joined k flat
+unfolding is_joined buffer_of shown_of client_of with_list_of
+joined_list_of k who f flat keeps =
+    ap (λ t. is_here k flat.clients && (t && has_list (Of k) (buffer_at (first_where (is_of k) (newcomer k 0 0) flat.clients).shown (changed_at (first_where (is_of who) (newcomer who 0 0) flat.clients).shown (with_list (Of who) f) flat.buffers)))) (there-kept _ _ _ flat.buffers)
+    ∙ ap (λ t. is_here k flat.clients && (is_there (first_where (is_of k) (newcomer k 0 0) flat.clients).shown flat.buffers && t)) (buffer-kept _ _ (with_list (Of who) f) (has_list (Of k)) flat.buffers (λ b. any-changed (is_held_by (Of who)) (is_held_by (Of k)) f b.lists (list-leaves (Of k) f keeps)))
+
+buffer_list_kept : {B : Type 0} (pr : Buffer → B) (k who : ℕ) (f : Held → Held) (flat : Flat) → ((b : Buffer) → pr (with_list (Of who) f b) ≡ pr b) → pr (buffer_of k (with_list_of who f flat)) ≡ pr (buffer_of k flat)
+unfolding buffer_of shown_of client_of with_list_of
+buffer_list_kept pr k who f flat same = buffer-kept _ _ (with_list (Of who) f) pr flat.buffers same
+
+in-buffer : (who : ℕ) (f : Held → Held) (flat : Flat) → ((h : Held) → (f h).holder ≡ h.holder) → is_there (shown_of who flat) flat.buffers ≡ true → has_list (Of who) (buffer_of who flat) ≡ true → list_of who (with_list_of who f flat) ≡ f (list_of who flat)
+unfolding list_of buffer_of shown_of client_of with_list_of
+in-buffer who f flat keeps there has =
+    ap (list_on (Of who)) (buffer-changed _ (with_list (Of who) f) flat.buffers there)
+    ∙ first-changed (is_held_by (Of who)) f (fresh (Of who)) (buffer_at (first_where (is_of who) (newcomer who 0 0) flat.clients).shown flat.buffers).lists (list-leaves (Of who) f keeps) has
+
+list_list : (who : ℕ) (f : Held → Held) (flat : Flat) → ((h : Held) → (f h).holder ≡ h.holder) → is_joined who flat ≡ true → list_of who (with_list_of who f flat) ≡ f (list_of who flat)
+list_list who f flat keeps j = in-buffer who f flat keeps (joined_there who flat j) (joined_list who flat j)
+
+-- other selections
+pub own_sels : (k who : ℕ) (s : Selected) (flat : Flat) → own_of k (with_sels who s flat) ≡ own_of k flat
+unfolding own_of client_of with_sels with_list_of
+own_sels k who s flat = refl
+
+pub shown_sels : (k who : ℕ) (s : Selected) (flat : Flat) → shown_of k (with_sels who s flat) ≡ shown_of k flat
+unfolding shown_of client_of with_sels with_list_of
+shown_sels k who s flat = refl
+
+pub number_sels : (k who : ℕ) (s : Selected) (flat : Flat) → number_of k (with_sels who s flat) ≡ number_of k flat
+unfolding number_of client_of with_sels with_list_of
+number_sels k who s flat = refl
+
+pub units_sels : (who : ℕ) (s : Selected) (flat : Flat) → units_of (with_sels who s flat) ≡ units_of flat
+unfolding units_of with_sels with_list_of
+units_sels who s flat = refl
+
+pub joined_sels : (k who : ℕ) (s : Selected) (flat : Flat) → is_joined k (with_sels who s flat) ≡ is_joined k flat
+unfolding with_sels
+joined_sels k who s flat = joined_list_of k who (λ held. record held { sels = s }) flat (λ h. refl)
+
+pub text_sels : (k who : ℕ) (s : Selected) (flat : Flat) → text_of k (with_sels who s flat) ≡ text_of k flat
+unfolding text_of with_sels
+text_sels k who s flat = buffer_list_kept (λ b. b.text) k who (λ held. record held { sels = s }) flat (λ b. refl)
+
+pub name_sels : (k who : ℕ) (s : Selected) (flat : Flat) → name_of k (with_sels who s flat) ≡ name_of k flat
+unfolding name_of with_sels
+name_sels k who s flat = buffer_list_kept (λ b. b.name) k who (λ held. record held { sels = s }) flat (λ b. refl)
+
+pub sels_sels : (who : ℕ) (s : Selected) (flat : Flat) → is_joined who flat ≡ true → sels_of who (with_sels who s flat) ≡ s
+unfolding sels_of with_sels
+sels_sels who s flat j = ap (λ (h : Held). h.sels) (list_list who (λ held. record held { sels = s }) flat (λ h. refl) j)
+
+pub view_sels : (k who : ℕ) (s : Selected) (flat : Flat) → view_of k (with_sels who s flat) ≡ view_of k flat
+unfolding view_of list_of with_sels
+view_sels k who s flat = buffer_list_kept (λ b. (list_on (Of k) b).view) k who (λ held. record held { sels = s }) flat
+    (λ b. first-kept (is_held_by (Of who)) (is_held_by (Of k)) (λ held. record held { sels = s }) (λ (h : Held). h.view) (fresh (Of k)) b.lists (λ h. refl) (λ h. refl))
+
+-- another window
+pub own_view : (k who : ℕ) (v : View) (flat : Flat) → own_of k (with_view who v flat) ≡ own_of k flat
+unfolding own_of client_of with_view with_list_of
+own_view k who v flat = refl
+
+pub number_view : (k who : ℕ) (v : View) (flat : Flat) → number_of k (with_view who v flat) ≡ number_of k flat
+unfolding number_of client_of with_view with_list_of
+number_view k who v flat = refl
+
+pub joined_view : (k who : ℕ) (v : View) (flat : Flat) → is_joined k (with_view who v flat) ≡ is_joined k flat
+unfolding with_view
+joined_view k who v flat = joined_list_of k who (λ held. record held { view = v }) flat (λ h. refl)
+
+pub text_view : (k who : ℕ) (v : View) (flat : Flat) → text_of k (with_view who v flat) ≡ text_of k flat
+unfolding text_of with_view
+text_view k who v flat = buffer_list_kept (λ b. b.text) k who (λ held. record held { view = v }) flat (λ b. refl)
+
+pub sels_view : (k who : ℕ) (v : View) (flat : Flat) → sels_of k (with_view who v flat) ≡ sels_of k flat
+unfolding sels_of list_of with_view
+sels_view k who v flat = buffer_list_kept (λ b. (list_on (Of k) b).sels) k who (λ held. record held { view = v }) flat
+    (λ b. first-kept (is_held_by (Of who)) (is_held_by (Of k)) (λ held. record held { view = v }) (λ (h : Held). h.sels) (fresh (Of k)) b.lists (λ h. refl) (λ h. refl))
+
+pub view_view : (who : ℕ) (v : View) (flat : Flat) → is_joined who flat ≡ true → view_of who (with_view who v flat) ≡ v
+unfolding view_of with_view
+view_view who v flat j = ap (λ (h : Held). h.view) (list_list who (λ held. record held { view = v }) flat (λ h. refl) j)
+
+-- other units
+pub joined_units : (k u : ℕ) (flat : Flat) → is_joined k (with_units u flat) ≡ is_joined k flat
+unfolding is_joined buffer_of shown_of client_of with_units
+joined_units k u flat = refl
+
+pub own_units : (k u : ℕ) (flat : Flat) → own_of k (with_units u flat) ≡ own_of k flat
+unfolding own_of client_of with_units
+own_units k u flat = refl
+
+pub text_units : (k u : ℕ) (flat : Flat) → text_of k (with_units u flat) ≡ text_of k flat
+unfolding text_of buffer_of shown_of client_of with_units
+text_units k u flat = refl
+
+pub sels_units : (k u : ℕ) (flat : Flat) → sels_of k (with_units u flat) ≡ sels_of k flat
+unfolding sels_of list_of buffer_of shown_of client_of with_units
+sels_units k u flat = refl
+
+pub units_units : (u : ℕ) (flat : Flat) → units_of (with_units u flat) ≡ u
+unfolding units_of with_units
+units_units u flat = refl
+
+-- a changed buffer
+pub own_changed : (k n : ℕ) (cs : List Change) (flat : Flat) → own_of k (changed_in n cs flat) ≡ own_of k flat
+unfolding own_of client_of changed_in
+own_changed k n cs flat = refl
+
+pub units_changed : (n : ℕ) (cs : List Change) (flat : Flat) → units_of (changed_in n cs flat) ≡ units_of flat
+unfolding units_of changed_in
+units_changed n cs flat = refl
+
+pub joined_changed : (k n : ℕ) (cs : List Change) (flat : Flat) → is_joined k (changed_in n cs flat) ≡ is_joined k flat
+unfolding is_joined buffer_of shown_of client_of changed_in
+joined_changed k n cs flat =
+    ap (λ t. is_here k flat.clients && (t && has_list (Of k) (buffer_at (first_where (is_of k) (newcomer k 0 0) flat.clients).shown (changed_at n (buffer_changed cs) flat.buffers)))) (there-kept _ n (buffer_changed cs) flat.buffers)
+    ∙ ap (λ t. is_here k flat.clients && (is_there (first_where (is_of k) (newcomer k 0 0) flat.clients).shown flat.buffers && t)) (buffer-kept _ n (buffer_changed cs) (has_list (Of k)) flat.buffers (λ b. any-map (is_held_by (Of k)) (list_moved b.text cs) b.lists))
+
+pub own_put : (k : ℕ) (s : List ℕ) (who : ℕ) (flat : Flat) → own_of k (put_before_cursors s who flat) ≡ own_of k flat
+unfolding put_before_cursors
+own_put k s who flat = own_changed k _ _ flat
+
+pub joined_put : (k : ℕ) (s : List ℕ) (who : ℕ) (flat : Flat) → is_joined k (put_before_cursors s who flat) ≡ is_joined k flat
+unfolding put_before_cursors
+joined_put k s who flat = joined_changed k _ _ flat
+
+pub units_put : (s : List ℕ) (who : ℕ) (flat : Flat) → units_of (put_before_cursors s who flat) ≡ units_of flat
+unfolding put_before_cursors
+units_put s who flat = units_changed _ _ flat
+
+-- the text and the selections of a client whose buffer was changed
+text-there : (who : ℕ) (cs : List Change) (flat : Flat) → is_there (shown_of who flat) flat.buffers ≡ true → text_of who (changed_in (shown_of who flat) cs flat) ≡ all_changed (text_of who flat) cs
+unfolding text_of buffer_of shown_of client_of changed_in
+text-there who cs flat h = ap (λ (b : Buffer). b.text) (buffer-changed _ (buffer_changed cs) flat.buffers h)
+
+pub text_changed : (who : ℕ) (cs : List Change) (flat : Flat) → is_joined who flat ≡ true → text_of who (changed_in (shown_of who flat) cs flat) ≡ all_changed (text_of who flat) cs
+text_changed who cs flat j = text-there who cs flat (joined_there who flat j)
+
+pub ruleset world_laws = (own_known, own_same, own_own, joined_own, joined_sels, joined_view, joined_units, joined_changed, joined_put, own_sels, own_view, own_units, own_changed, own_put, text_own, text_sels, text_view, text_units, sels_own, sels_sels, sels_view, sels_units, name_own, name_sels, number_own, number_sels, view_own, view_sels, units_own, units_sels, units_units, units_changed, units_put)

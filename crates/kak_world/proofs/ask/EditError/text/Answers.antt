@@ -1,0 +1,24 @@
+use Rattle.std.proofs.Common.{refl, ap, ◌∙◌, ◌++◌}
+use Rattle.std.specs.Str.{chars}
+use Rattle.kak_world.proofs.ask.EditError.text.Goals as goal
+
+pub returns-in-TextFull-clause-text : goal.returns-in-TextFull-clause-text
+unfolding chars
+returns-in-TextFull-clause-text c = rw c.in-TextFull.is c.from_str.ensures
+
+pub returns-in_ok-extend_from_slice-in-NoSuchCommand-clause-text :
+    goal.returns-in_ok-extend_from_slice-in-NoSuchCommand-clause-text
+unfolding chars
+returns-in_ok-extend_from_slice-in-NoSuchCommand-clause-text c = rw c.in-NoSuchCommand.is (c.in_ok-extend_from_slice-in-NoSuchCommand.ensures.ok ∙ ap (λ t. t ++ c.as_slice.result.now) c.in_ok-text-in-NoSuchCommand.ensures ∙ (rw c.as_slice.ensures refl))
+
+pub returns-in-NothingSelected-clause-text : goal.returns-in-NothingSelected-clause-text
+unfolding chars
+returns-in-NothingSelected-clause-text c = rw c.in-NothingSelected.is c.from_str-in-NothingSelected.ensures
+
+pub returns-in-TooManySelections-clause-text : goal.returns-in-TooManySelections-clause-text
+unfolding chars
+returns-in-TooManySelections-clause-text c = rw c.in-TooManySelections.is c.from_str-in-TooManySelections.ensures
+
+pub returns-in-BudgetSpent-clause-text : goal.returns-in-BudgetSpent-clause-text
+unfolding chars
+returns-in-BudgetSpent-clause-text c = rw c.in-BudgetSpent.is c.from_str-in-BudgetSpent.ensures

@@ -1,0 +1,7 @@
+use Rattle.std.proofs.Common.{◌≡◌, ◌+◌, drop}
+use Rattle.kak_world.specs.Flat.{lowest}
+use Rattle.kak_world.specs.Dropping.{emptied}
+use Rattle.kak_world.proofs.dropping.lowest_other.Given as goal
+
+abbrev pub invariant-loop-i : goal.invariant-loop-i
+invariant-loop-i l = l.i + lowest (drop l.i (emptied l.n l.buffers)) ≡ lowest (emptied l.n l.buffers)

@@ -1,0 +1,7 @@
+use Rattle.std.proofs.Common.{ap, ◌∙◌}
+use Rattle.kak_world.specs.Flat.{Buffer, text_of}
+use Rattle.kak_world.proofs.world.World.lines.Goals as goal
+
+pub returns : goal.returns
+unfolding text_of
+returns c = c.lines.ensures ∙ ap (λ (b : Buffer). b.text) c.shown.ensures

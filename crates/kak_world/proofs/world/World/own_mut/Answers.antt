@@ -1,0 +1,15 @@
+use Rattle.std.proofs.Common.{refl, ap, ◌∙◌}
+use Rattle.kak_world.specs.Flat.{with_own, own_of, client_of}
+use Rattle.kak_world.specs.Seen.{Kept}
+use Rattle.kak_world.proofs.WorldLemmas.{here-of}
+use Rattle.kak_world.proofs.world.World.own_mut.Goals as goal
+
+pub own_mut-requires : goal.own_mut-requires
+own_mut-requires c = here-of c.args.who _ _ _ _ c.self.view_is c.requires
+
+pub returns : goal.returns
+unfolding with_own own_of client_of
+returns c = (
+  (refl, λ w. ap (λ (k : Kept). let x : Kept = record { flat = with_own c.args.who (λ _. w) k.flat } in x) c.self.view_is),
+  record { writes_back = tt; value = c.own_mut.ensures.value ∙ ap (λ (k : Kept). own_of c.args.who k.flat) c.self.view_is },
+)

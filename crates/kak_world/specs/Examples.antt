@@ -1,0 +1,76 @@
+-- Worked examples of the flat world, which hold by computation.
+use Rattle.std.specs.Prelude.{◌≡◌, ℕ, true, false, None, Some, [], ◌∷◌, List, codes, map}
+use Rattle.list_model.specs.Ranges.{Range, Selected, only}
+use Rattle.text_model.specs.Changes.{Erasure}
+use Rattle.kak_world.specs.declared.holder.Holder.TheVariants.{Of}
+use Rattle.kak_world.specs.Flat.{Held, Flat, opening, is_joined, name_of, text_of, sels_of, joined_by, left_by, buffer_at, numbers_of, fresh, newcomer}
+use Rattle.kak_world.specs.Changing.{changed_in, put_before_cursors}
+
+-- a straight selection, and a turned one
+abbrev pub straight : ℕ → ℕ → Range
+straight a b = record { low = a; high = b; turned = false; target = None }
+
+abbrev pub turned : ℕ → ℕ → Range
+turned a b = record { low = a; high = b; turned = true; target = None }
+
+abbrev pub sels : List Range → ℕ → Selected
+sels list main = record { list = list; main = main }
+
+-- one client on an empty text, and then two
+abbrev pub one_client : Flat
+one_client = joined_by 7 opening
+
+abbrev pub two_clients : Flat
+two_clients = joined_by 9 one_client
+
+-- a list of a client
+abbrev pub list_for : ℕ → Selected → Held
+list_for who s = record (fresh (Of who)) { sels = s }
+
+-- clients 7 and 9 on a text, with these selections
+abbrev pub on_text : List ℕ → Selected → Selected → Flat
+on_text text first second = record {
+  buffers = Some (record { name = codes "n"; is_file = true; text = text; lists = list_for 7 first ∷ list_for 9 second ∷ [] }) ∷ [];
+  clients = newcomer 7 0 0 ∷ newcomer 9 1 0 ∷ [];
+  rest = record { units = 0 };
+}
+
+abbrev pub at : ℕ → Selected
+at o = sels (only o ∷ []) 0
+
+-- both type: 7 an x, 9 a y, and 7 a z
+abbrev pub both_typed : Flat
+both_typed = put_before_cursors (codes "z") 7 (put_before_cursors (codes "y") 9 (put_before_cursors (codes "x") 7 (on_text (codes "ab\n") (at 0) (at 1))))
+
+-- 9 has two selections, of which the first is turned, and three characters between them and in them go
+abbrev pub middle_gone : Flat
+middle_gone = changed_in 0 (Erasure 2 5 ∷ []) (on_text (codes "abcdefgh\n") (at 0) (sels (turned 1 2 ∷ straight 5 6 ∷ []) 1))
+
+pub record ComingExamples : Type 0 where
+  pub nobody_is_there : is_joined 7 opening ≡ false
+  pub first_comes : is_joined 7 one_client ≡ true
+  pub others_are_not_there : is_joined 9 one_client ≡ false
+  pub sees_the_scratch_buffer : name_of 7 one_client ≡ codes "*scratch*"
+  pub begins_at_the_first_character : sels_of 7 one_client ≡ at 0
+  pub names_of_two : numbers_of two_clients.clients ≡ 0 ∷ 1 ∷ []
+  pub second_stays : is_joined 9 (left_by 7 two_clients) ≡ true
+  pub first_is_gone : is_joined 7 (left_by 7 two_clients) ≡ false
+  pub its_list_is_gone : map (λ held. held.holder) (buffer_at 0 (left_by 7 two_clients).buffers).lists ≡ Of 9 ∷ []
+  pub freed_name_is_taken_again : numbers_of (joined_by 11 (left_by 7 two_clients)).clients ≡ 1 ∷ 0 ∷ []
+
+pub record ChangeExamples : Type 0 where
+  pub one_types : text_of 9 (put_before_cursors (codes "x") 7 (on_text (codes "ab\n") (at 0) (at 1))) ≡ codes "xab\n"
+  pub the_other_moves_along : sels_of 9 (put_before_cursors (codes "x") 7 (on_text (codes "ab\n") (at 0) (at 1))) ≡ at 2
+  pub both_type : text_of 7 both_typed ≡ codes "xzayb\n"
+  pub where_the_first_is : sels_of 7 both_typed ≡ at 2
+  pub where_the_second_is : sels_of 9 both_typed ≡ at 4
+  pub at_each_cursor : text_of 7 (put_before_cursors (codes "x") 7 (on_text (codes "ab\n") (sels (only 0 ∷ only 1 ∷ []) 1) (at 1))) ≡ codes "xaxb\n"
+  pub each_moves_on : sels_of 7 (put_before_cursors (codes "x") 7 (on_text (codes "ab\n") (sels (only 0 ∷ only 1 ∷ []) 1) (at 1))) ≡ sels (only 1 ∷ only 3 ∷ []) 1
+  pub two_become_one : sels_of 9 middle_gone ≡ sels (turned 1 3 ∷ []) 0
+  pub and_shrink : sels_of 9 (changed_in 0 (Erasure 1 2 ∷ []) middle_gone) ≡ sels (turned 1 2 ∷ []) 0
+  pub other_buffers_stay : text_of 9 (changed_in 1 (Erasure 0 1 ∷ []) (on_text (codes "ab\n") (at 0) (at 1))) ≡ codes "ab\n"
+
+-- all of them
+pub record Examples : Type 0 where
+  pub coming : ComingExamples
+  pub changes : ChangeExamples

@@ -1,0 +1,56 @@
+-- Buffers that are opened, and clients that are shown another one.
+use Rattle.std.specs.Prelude.{◌≡◌, ◌≢◌, ℕ, suc, ◌<◌, Bool, true, false, List, [], ◌∷◌, slice_index_or}
+use Rattle.std.specs.declared.option.Option.{Option}
+use Rattle.std.specs.Prelude.{Some, None}
+use Rattle.tables.specs.Tables.{changed_where}
+use Rattle.kak_world.specs.declared.holder.Holder.TheVariants.{Of}
+use Rattle.kak_world.specs.declared.clients.Client.{Client}
+use Rattle.kak_world.specs.Flat.{Buffer, Flat, made, is_of, listed_for, is_there, changed_at}
+
+-- a client that sees the buffer of a number
+abbrev pub seeing : ℕ → Client → Client
+seeing n c = record c { shown = n }
+
+-- the world in which a client sees the buffer of a number, with the list that it has there, or the one to begin with
+unfoldable pub shows : ℕ → ℕ → Flat → Flat
+shows who n flat = record flat {
+  buffers = changed_at n (listed_for (Of who)) flat.buffers;
+  clients = changed_where (is_of who) (seeing n) flat.clients;
+}
+
+-- the least number that no buffer has
+abbrev pub first_gap : List (Option Buffer) → ℕ
+first_gap [] = 0
+first_gap (None ∷ bs) = 0
+first_gap (Some b ∷ bs) = suc (first_gap bs)
+
+-- the buffers with one more, which takes the least number that no buffer has
+abbrev pub placed : Buffer → List (Option Buffer) → List (Option Buffer)
+placed b [] = Some b ∷ []
+placed b (None ∷ bs) = Some b ∷ bs
+placed b (Some a ∷ bs) = Some a ∷ placed b bs
+
+-- the world with one more buffer, with nobody's list on it
+unfoldable pub opened : List ℕ → Bool → List ℕ → Flat → Flat
+opened name is_file text flat = record flat { buffers = placed (made name is_file text) flat.buffers }
+
+-- how many buffers there are
+abbrev pub buffer_count : List (Option Buffer) → ℕ
+buffer_count [] = 0
+buffer_count (None ∷ bs) = buffer_count bs
+buffer_count (Some b ∷ bs) = suc (buffer_count bs)
+
+-- a number is no buffer's, and each one below it is
+pub record IsFirstGap (buffers : List (Option Buffer)) (n : ℕ) : Type 0 where
+  pub free : is_there n buffers ≡ false
+  pub taken_below : (k : ℕ) → k < n → is_there k buffers ≡ true
+
+-- one more buffer stands at a number, and each other number has what it had
+pub record StandsAt (n : ℕ) (b : Buffer) (old new : List (Option Buffer)) : Type 0 where
+  pub here : slice_index_or new n None ≡ Some b
+  pub others : (k : ℕ) → k ≢ n → slice_index_or new k None ≡ slice_index_or old k None
+
+-- so it is with the number of a new buffer, whatever buffers there are
+pub record GapsAreTaken : Type 0 where
+  pub least : (buffers : List (Option Buffer)) → IsFirstGap buffers (first_gap buffers)
+  pub stands : (b : Buffer) (buffers : List (Option Buffer)) → StandsAt (first_gap buffers) b buffers (placed b buffers)

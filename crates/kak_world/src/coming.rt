@@ -1,0 +1,74 @@
+//! Clients that come and go.
+
+ghost use Rattle.std.specs.Prelude.{◌≡◌, ◌<◌, true, false, length, map, option_map, OnOk, OnErr};
+ghost use Rattle.kak_world.specs.Flat.{is_here, is_joined, joined_by, left_by, lowest, unlisted_for};
+ghost use Rattle.kak_world.specs.declared.world.TheConstants.{MAX_CLIENTS};
+
+use crate::buffer::Buffer;
+use crate::holder::Holder;
+use crate::world::{MAX_CLIENTS, World};
+use std::alloc::{AllocError, Global};
+
+// The least number of a buffer, or how many numbers there are where none is a buffer's.
+fn lowest(buffers: &[Option<Buffer>]) -> usize
+    ensures { result ≡ lowest buffers.now }
+{
+    for (i, buffer) in buffers.iter().enumerate() {
+        if buffer.is_some() {
+            return i;
+        }
+    }
+    buffers.len()
+}
+
+// Takes a holder's lists off a buffer, where there is one.
+fn drop_lists(slot: &mut Option<Buffer>, holder: Holder)
+    ensures { slot.new ≡ option_map (unlisted_for holder) slot.old }
+{
+    match slot {
+        None => {}
+        Some(buffer) => buffer.drop_lists(holder),
+    }
+}
+
+// Takes a holder's lists off each buffer.
+fn drop_all_lists(buffers: &mut Vec<Option<Buffer>>, holder: Holder)
+    ensures { buffers.new.items ≡ map (option_map (unlisted_for holder)) buffers.old.items }
+{
+    for n in 0..buffers.len() {
+        drop_lists(&mut buffers[n], holder);
+    }
+}
+
+impl World {
+    /// A client comes: it sees the buffer with the least number, and is named by the least number that no other client
+    /// has. An `Err` leaves the world.
+    pub fn join(&mut self, alloc: Global, who: u32) -> Result<(), AllocError>
+        requires away { is_here who self.old.flat.clients ≡ false }
+        requires few { length self.old.flat.clients < MAX_CLIENTS }
+        ensures ok { OnOk result (self.new.flat ≡ joined_by who self.old.flat) }
+        ensures joined { OnOk result (is_joined who self.new.flat ≡ true) }
+        ensures err { OnErr result (self.new.flat ≡ self.old.flat) }
+    {
+        let n = lowest(self.buffers.as_slice());
+        self.clients.add(alloc, who, n as u32)?;
+        match &mut self.buffers[n] {
+            None => unreachable!(),
+            Some(buffer) => match buffer.add_list(alloc, Holder::Of(who)) {
+                Ok(()) => Ok(()),
+                Err(error) => {
+                    self.clients.remove(who);
+                    Err(error)
+                }
+            },
+        }
+    }
+
+    /// A client goes, with all that is its own and its lists. Takes no memory.
+    pub fn leave(&mut self, who: u32)
+        ensures { self.new.flat ≡ left_by who self.old.flat }
+    {
+        self.clients.remove(who);
+        drop_all_lists(&mut self.buffers, Holder::Of(who));
+    }
+}

@@ -1,0 +1,108 @@
+//! Buffers that are dropped, with all lists on them.
+
+ghost use Rattle.std.specs.Prelude.{◌≡◌, ◌≤◌, true, length, option_map, IfOk, OnOk, OnErr};
+ghost use Rattle.kak_world.specs.Flat.{is_there, lowest, scratch};
+ghost use Rattle.kak_world.specs.Dropping.{emptied, left_without, listed_for_viewers, buffers_dropped, dropped, KeepsJoined};
+
+use crate::buffer::Buffer;
+use crate::clients::Client;
+use crate::world::{World, scratch_buffer};
+use std::alloc::{AllocError, Global};
+
+// The least number of a buffer that isn't that of a number, or how many numbers there are where none is another's.
+fn lowest_other(buffers: &[Option<Buffer>], n: usize) -> usize
+    ensures { result ≡ lowest (emptied n buffers.now) }
+{
+    for (i, buffer) in buffers.iter().enumerate() {
+        if i == n {
+            continue;
+        }
+        if buffer.is_some() {
+            return i;
+        }
+    }
+    buffers.len()
+}
+
+// Gives each client that sees the buffer of a number a list on the one in a slot, where there is one.
+fn list_viewers_in(
+    slot: &mut Option<Buffer>,
+    alloc: Global,
+    n: u32,
+    clients: &[Client],
+) -> Result<(), AllocError>
+    ensures ok { OnOk result (slot.new ≡ option_map (listed_for_viewers n clients.now) slot.old) }
+    ensures err { OnErr result (slot.new ≡ slot.old) }
+{
+    match slot {
+        None => Ok(()),
+        Some(buffer) => buffer.list_viewers(alloc, n, clients),
+    }
+}
+
+// The buffer that is there when nothing else is, with a list for each client that sees the buffer of a number.
+fn scratch_for_viewers(alloc: Global, n: u32, clients: &[Client]) -> Result<Buffer, AllocError>
+    ensures { IfOk result (λ b. b ≡ listed_for_viewers n clients.now scratch) }
+{
+    let mut buffer = scratch_buffer(alloc)?;
+    buffer.list_viewers(alloc, n, clients)?;
+    Ok(buffer)
+}
+
+// Drops the last buffer: a new one is made for those that saw it. An `Err` leaves the buffers.
+fn drop_last(
+    buffers: &mut Vec<Option<Buffer>>,
+    alloc: Global,
+    n: u32,
+    clients: &[Client],
+) -> Result<(), AllocError>
+    requires there { is_there n buffers.old.items ≡ true }
+    requires last { length buffers.old.items ≤ lowest (emptied n buffers.old.items) }
+    ensures ok { OnOk result (buffers.new.items ≡ buffers_dropped n clients.now buffers.old.items) }
+    ensures err { OnErr result (buffers.new.items ≡ buffers.old.items) }
+{
+    let buffer = scratch_for_viewers(alloc, n, clients)?;
+    buffers[n as usize] = None;
+    buffers[0] = Some(buffer);
+    Ok(())
+}
+
+// Drops the buffer of a number, and tells the least number then: that of the buffer on which those that saw it have
+// lists. An `Err` leaves the buffers.
+fn drop_at(
+    buffers: &mut Vec<Option<Buffer>>,
+    alloc: Global,
+    n: u32,
+    clients: &[Client],
+) -> Result<u32, AllocError>
+    requires there { is_there n buffers.old.items ≡ true }
+    requires few { length buffers.old.items ≤ 1024 }
+    ensures ok { OnOk result (buffers.new.items ≡ buffers_dropped n clients.now buffers.old.items) }
+    ensures number { IfOk result (λ to. to ≡ lowest (left_without n buffers.old.items)) }
+    ensures err { OnErr result (buffers.new.items ≡ buffers.old.items) }
+{
+    let to = lowest_other(buffers.as_slice(), n as usize);
+    if to >= buffers.len() {
+        drop_last(buffers, alloc, n, clients)?;
+        return Ok(0);
+    }
+    list_viewers_in(&mut buffers[to], alloc, n, clients)?;
+    buffers[n as usize] = None;
+    Ok(to as u32)
+}
+
+impl World {
+    /// Drops a buffer, with all lists on it: clients that saw it see the buffer with the least number then, with the
+    /// list that they have there or the one to begin with. Where no buffer is left, a new `*scratch*` is made, which
+    /// takes the number 0. An `Err` leaves the world.
+    pub fn drop_buffer(&mut self, alloc: Global, n: u32) -> Result<(), AllocError>
+        requires { is_there n self.old.flat.buffers ≡ true }
+        ensures ok { OnOk result (self.new.flat ≡ dropped n self.old.flat) }
+        ensures keeps { OnOk result (KeepsJoined self.old.flat self.new.flat) }
+        ensures err { OnErr result (self.new.flat ≡ self.old.flat) }
+    {
+        let to = drop_at(&mut self.buffers, alloc, n, self.clients.as_slice())?;
+        self.clients.move_on(n, to);
+        Ok(())
+    }
+}

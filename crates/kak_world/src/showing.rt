@@ -1,0 +1,46 @@
+//! Clients that are shown another buffer.
+
+ghost use Rattle.std.specs.Prelude.{◌≡◌, true, option_map, OnOk, OnErr};
+ghost use Rattle.kak_world.specs.Flat.{is_there, is_joined, listed_for};
+ghost use Rattle.kak_world.specs.Keeping.{KeepsClients};
+ghost use Rattle.kak_world.specs.Showing.{shows};
+
+use crate::buffer::Buffer;
+use crate::holder::Holder;
+use crate::world::World;
+use std::alloc::{AllocError, Global};
+
+// Gives a holder that has no list on a buffer the one to begin with, where there is a buffer.
+fn add_list_in(slot: &mut Option<Buffer>, alloc: Global, holder: Holder) -> Result<(), AllocError>
+    ensures ok { OnOk result (slot.new ≡ option_map (listed_for holder) slot.old) }
+    ensures err { OnErr result (slot.new ≡ slot.old) }
+{
+    match slot {
+        None => Ok(()),
+        Some(buffer) => buffer.add_list(alloc, holder),
+    }
+}
+
+impl World {
+    /// Shows a client the buffer of a number, with the list and the window that it has there, or those to begin with; its
+    /// lists on other buffers stay. An `Err` leaves the world.
+    pub fn show(&mut self, alloc: Global, who: u32, n: u32) -> Result<(), AllocError>
+        requires joined { is_joined who self.old.flat ≡ true }
+        requires there { is_there n self.old.flat.buffers ≡ true }
+        ensures ok { OnOk result (self.new.flat ≡ shows who n self.old.flat) }
+        ensures keeps { OnOk result (KeepsClients self.old.flat self.new.flat) }
+        ensures err { OnErr result (self.new.flat ≡ self.old.flat) }
+    {
+        add_list_in(&mut self.buffers[n as usize], alloc, Holder::Of(who))?;
+        self.clients.set_shown(who, n);
+        Ok(())
+    }
+
+    /// Brings a client's list on the buffer that it sees up to date. No list is ever behind, since each change of a text
+    /// moves every list on it at once: so this leaves the world.
+    pub fn enter(&mut self, who: u32)
+        ensures { self.new.flat ≡ self.old.flat }
+    {
+        let _client = who;
+    }
+}

@@ -1,0 +1,90 @@
+//! Buffers that are opened, each under the least number that no other has.
+
+ghost use Rattle.std.specs.Prelude.{◌≡◌, ◌≤◌, IfOk, OnOk, OnErr, Err, length};
+ghost use Rattle.kak_world.specs.Keeping.{KeepsClients};
+ghost use Rattle.kak_world.specs.Showing.{first_gap, placed, opened, buffer_count};
+ghost use Rattle.kak_world.specs.declared.slots.TheConstants.{MAX_BUFFERS};
+ghost use Rattle.kak_world.specs.declared.slots.WorldError.TheVariants.{TooManyBuffers, NoMemory};
+
+use crate::buffer::Buffer;
+use crate::world::World;
+use kak_text::Chars;
+use line_buffer::Lines;
+use std::alloc::{AllocError, Global};
+
+/// The most buffers that there can be at once.
+pub const MAX_BUFFERS: usize = 1024;
+
+/// Why a buffer can't be opened.
+#[derive(Drop, Debug)]
+pub enum WorldError {
+    /// There are as many buffers as there can be.
+    TooManyBuffers,
+    /// Memory ran out.
+    NoMemory,
+}
+
+impl From<AllocError> for WorldError {
+    ghost from_gives = { λ _ e. e ≡ NoMemory };
+
+    fn from(_e: AllocError) -> WorldError {
+        WorldError::NoMemory
+    }
+}
+
+// The least number that no buffer has.
+fn first_gap(buffers: &[Option<Buffer>]) -> usize
+    ensures { result ≡ first_gap buffers.now }
+{
+    for (i, buffer) in buffers.iter().enumerate() {
+        if buffer.is_none() {
+            return i;
+        }
+    }
+    buffers.len()
+}
+
+// Puts a buffer at the least number that no other has.
+fn put_buffer(
+    buffers: &mut Vec<Option<Buffer>>,
+    at: usize,
+    buffer: Buffer,
+) -> Result<(), AllocError>
+    requires { at ≡ first_gap buffers.old.items }
+    ensures ok { OnOk result (buffers.new.items ≡ placed buffer buffers.old.items) }
+    ensures err { OnErr result (buffers.new.items ≡ buffers.old.items) }
+{
+    if at < buffers.len() {
+        buffers[at] = Some(buffer);
+        return Ok(());
+    }
+    buffers.push(Some(buffer))?;
+    Ok(())
+}
+
+impl World {
+    /// Opens a buffer, with nobody's list on it, under the least number that no other has, and tells the number. It is
+    /// refused exactly where there are as many buffers as there can be. An `Err` leaves the world.
+    pub fn open(
+        &mut self,
+        alloc: Global,
+        name: Chars,
+        is_file: bool,
+        lines: Lines,
+    ) -> Result<u32, WorldError>
+        ensures number { IfOk result (λ n. n ≡ first_gap self.old.flat.buffers) }
+        ensures ok { OnOk result (self.new.flat ≡ opened name is_file lines self.old.flat) }
+        ensures keeps { OnOk result (KeepsClients self.old.flat self.new.flat) }
+        ensures full { buffer_count self.old.flat.buffers ≡ MAX_BUFFERS → result ≡ Err TooManyBuffers }
+        ensures refused { result ≡ Err TooManyBuffers → buffer_count self.old.flat.buffers ≡ MAX_BUFFERS }
+        ensures err { OnErr result (self.new.flat ≡ self.old.flat) }
+    {
+        let n = first_gap(self.buffers.as_slice());
+        if n >= MAX_BUFFERS {
+            return Err(WorldError::TooManyBuffers);
+        }
+        let buffer = Buffer::new(alloc, name, is_file, lines);
+        put_buffer(&mut self.buffers, n, buffer)?;
+        Ok(n as u32)
+    }
+}

@@ -1,0 +1,15 @@
+pub mod AtomLemmas
+pub mod CellLemmas
+pub mod DrawnLemmas
+pub mod FaceLemmas
+pub mod HolderLemmas
+pub mod LawLemmas
+pub mod LineLemmas
+pub mod ListLemmas
+pub mod MarkLemmas
+pub mod PaintedLemmas
+pub mod PartLemmas
+pub mod PlainLemmas
+pub mod RunLemmas
+pub mod StretchLemmas
+pub mod WindowLemmas

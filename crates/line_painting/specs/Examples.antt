@@ -1,0 +1,187 @@
+-- Worked examples of characters, atoms and lines as they are drawn, which hold by computation.
+use Rattle.std.specs.Prelude.{◌≡◌, ℕ, true, false, None, List, [], ◌∷◌, codes}
+use Rattle.list_model.specs.Ranges.{Range, Selected, only}
+use Rattle.window_view.specs.View.{View}
+use Rattle.kak_faces.specs.declared.colour.NamedColour.{NamedColour}
+use Rattle.kak_faces.specs.declared.colour.NamedColour.TheVariants as named
+use Rattle.kak_faces.specs.Standard.{plain_face, default_face}
+use Rattle.json_writing.specs.declared.drawing.Atom.{Atom}
+use Rattle.json_writing.specs.declared.drawing.DrawnLine.{DrawnLine}
+use Rattle.line_painting.specs.Cells.{char_drawn}
+use Rattle.line_painting.specs.Lines.{drawn_lines}
+use Rattle.line_painting.specs.Laws.{seen_of}
+use Rattle.line_painting.specs.Painting.{alone}
+
+-- an atom of ASCII characters in two colours
+abbrev pub atom : List ℕ → NamedColour → NamedColour → Atom
+atom contents fg bg = record { contents = contents; face = plain_face fg bg }
+
+-- an atom of ASCII characters in the default face
+abbrev pub bare : List ℕ → Atom
+bare contents = record { contents = contents; face = default_face }
+
+-- a line of atoms
+abbrev pub line : List Atom → DrawnLine
+line atoms = record { atoms = atoms }
+
+-- an atom under the main cursor
+abbrev pub under_cursor : List ℕ → Atom
+under_cursor contents = atom contents named.Black named.White
+
+-- a straight selection
+abbrev pub between : ℕ → ℕ → Range
+between a b = record { low = a; high = b; turned = false; target = None }
+
+-- a window at the start of a text, and one of another place and size
+abbrev pub whole : View
+whole = record { top = 0; left = 0; rows = 24; columns = 80 }
+
+abbrev pub narrow : ℕ → ℕ → View
+narrow top left = record { top = top; left = left; rows = 2; columns = 3 }
+
+-- the characters of a window of 3 columns whose first is that display column
+abbrev pub in_narrow : ℕ → ℕ → ℕ → ℕ → List ℕ
+in_narrow left column cells c = char_drawn (narrow 0 left) column cells c
+
+-- of single characters, of which the column, the cells and the character are said
+pub record CharExamples : Type 0 where
+  pub letter_inside : in_narrow 0 2 1 0x61 ≡ 0x61 ∷ []
+  pub letter_behind : in_narrow 0 3 1 0x61 ≡ []
+  pub letter_before : in_narrow 4 3 1 0x61 ≡ []
+  pub newline_inside : in_narrow 0 2 1 10 ≡ 10 ∷ []
+  pub control_inside : in_narrow 0 2 1 0x1B ≡ 0xFFFD ∷ []
+  pub late_control_inside : in_narrow 0 2 1 0x85 ≡ 0xFFFD ∷ []
+  pub control_behind : in_narrow 0 3 1 0x1B ≡ []
+  pub wide_inside : in_narrow 0 1 2 0x6F22 ≡ 0x6F22 ∷ []
+  pub wide_cut_at_its_end : in_narrow 0 2 2 0x6F22 ≡ 32 ∷ []
+  pub wide_cut_at_its_begin : in_narrow 1 0 2 0x6F22 ≡ 32 ∷ []
+  pub wide_behind : in_narrow 0 3 2 0x6F22 ≡ []
+  pub wide_before : in_narrow 2 0 2 0x6F22 ≡ []
+  pub tab_inside : in_narrow 6 6 2 9 ≡ 32 ∷ 32 ∷ []
+  pub tab_cut_at_both_sides : in_narrow 2 0 8 9 ≡ 32 ∷ 32 ∷ 32 ∷ []
+  pub mark_at_the_first_column : in_narrow 1 1 0 0x0301 ≡ 0x0301 ∷ []
+  pub mark_before_it : in_narrow 2 1 0 0x0301 ≡ []
+  pub mark_at_the_last_column : in_narrow 0 2 0 0x0301 ≡ 0x0301 ∷ []
+  pub mark_right_behind : in_narrow 0 3 0 0x0301 ≡ []
+
+-- the lines of a window, with a tab stop at each eighth column
+abbrev pub drawn : List ℕ → Selected → View → List DrawnLine
+drawn text sels view = drawn_lines 8 text sels view
+
+-- of lines
+pub record LineExamples : Type 0 where
+  pub tab : drawn (codes "a\tb\n") (alone true (only 0)) whole ≡ line (under_cursor (codes "a") ∷ bare (codes "       b\n") ∷ []) ∷ []
+  pub cursor_on_a_tab : drawn (codes "a\tb\n") (alone true (only 1)) whole ≡ line (bare (codes "a") ∷ under_cursor (codes "       ") ∷ bare (codes "b\n") ∷ []) ∷ []
+  -- the cursor, on the tab, reaches into the window from the left
+  pub tab_cut_at_the_left : drawn (codes "a\tbc\n") (alone true (only 1)) (narrow 0 6) ≡ line (under_cursor (codes "  ") ∷ bare (codes "b") ∷ []) ∷ []
+  pub tab_cut_at_the_right : drawn (codes "a\tb\n") (alone true (only 1)) (narrow 0 0) ≡ line (bare (codes "a") ∷ under_cursor (codes "  ") ∷ []) ∷ []
+  pub newline_behind_a_tab : drawn (codes "\t\n") (alone true (only 1)) whole ≡ line (bare (codes "        ") ∷ atom (codes "\n") named.Black named.Cyan ∷ []) ∷ []
+  pub wide : drawn (0x6F22 ∷ 0x61 ∷ 10 ∷ []) (alone true (only 1)) (narrow 0 0) ≡ line (bare (0x6F22 ∷ []) ∷ under_cursor (codes "a") ∷ []) ∷ []
+  pub wide_cut_at_the_left : drawn (0x6F22 ∷ 0x61 ∷ 10 ∷ []) (alone true (only 0)) (narrow 0 1) ≡ line (under_cursor (codes " ") ∷ bare (codes "a\n") ∷ []) ∷ []
+  pub wide_cut_at_the_right : drawn (0x61 ∷ 0x62 ∷ 0x6F22 ∷ 10 ∷ []) (alone true (between 1 2)) (narrow 0 0)
+      ≡ line (bare (codes "a") ∷ atom (codes "b") named.White named.Blue ∷ under_cursor (codes " ") ∷ []) ∷ []
+  pub cursor_on_a_mark : drawn (0x65 ∷ 0x0301 ∷ 0x61 ∷ 10 ∷ []) (alone true (only 1)) (narrow 0 0)
+      ≡ line (bare (0x65 ∷ []) ∷ under_cursor (0x0301 ∷ []) ∷ bare (0x61 ∷ 10 ∷ []) ∷ []) ∷ []
+  -- the mark begins at the window's first display column, and its letter left of it
+  pub mark_at_the_left : drawn (0x65 ∷ 0x0301 ∷ 0x61 ∷ 10 ∷ []) (alone true (only 2)) (narrow 0 1)
+      ≡ line (bare (0x0301 ∷ []) ∷ under_cursor (0x61 ∷ []) ∷ bare (10 ∷ []) ∷ []) ∷ []
+  -- the last letter fills the window, and its mark begins right behind it
+  pub mark_at_the_right : drawn (0x61 ∷ 0x62 ∷ 0x65 ∷ 0x0301 ∷ 10 ∷ []) (alone true (only 0)) (narrow 0 0) ≡ line (under_cursor (codes "a") ∷ bare (codes "be") ∷ []) ∷ []
+  pub control : drawn (0x61 ∷ 0x1B ∷ 0x62 ∷ 10 ∷ []) (alone true (only 0)) whole ≡ line (under_cursor (codes "a") ∷ bare (0xFFFD ∷ 0x62 ∷ 10 ∷ []) ∷ []) ∷ []
+
+-- what a window of 3 columns whose first is that display column shows in each cell of the n-th character of a line
+abbrev pub seen_in_narrow : ℕ → List ℕ → ℕ → ℕ
+seen_in_narrow left line n = (seen_of 8 (alone true (only 0)) (narrow 0 left) 0 line n).char
+
+-- of the cells of the characters of lines
+pub record SeenExamples : Type 0 where
+  pub letter : seen_in_narrow 0 (codes "abc\n") 1 ≡ 0x62
+  pub whole_tab : seen_in_narrow 7 (codes "1234567\tb\n") 7 ≡ 32
+  pub tab_cut_at_the_left : seen_in_narrow 6 (codes "a\tb\n") 1 ≡ 32
+  pub letter_behind_a_cut_tab : seen_in_narrow 6 (codes "a\tb\n") 2 ≡ 0x62
+  pub wide_inside : seen_in_narrow 0 (0x61 ∷ 0x6F22 ∷ 10 ∷ []) 1 ≡ 0x6F22
+  pub wide_cut_at_the_right : seen_in_narrow 0 (0x61 ∷ 0x62 ∷ 0x6F22 ∷ 10 ∷ []) 2 ≡ 32
+  -- the mark takes no cell, so the character behind it ends where the window does
+  pub wide_behind_a_mark : seen_in_narrow 0 (0x65 ∷ 0x0301 ∷ 0x6F22 ∷ 10 ∷ []) 2 ≡ 0x6F22
+  pub control : seen_in_narrow 0 (0x61 ∷ 0x1B ∷ 10 ∷ []) 1 ≡ 0xFFFD
+  pub newline : seen_in_narrow 0 (codes "ab\n") 2 ≡ 10
+  pub face_of_the_cursor : seen_of 8 (alone true (only 1)) (narrow 0 0) 0 (codes "abc\n") 1 ≡ record { char = 0x62; face = plain_face named.Black named.White }
+
+-- a turned selection
+abbrev pub turned_between : ℕ → ℕ → Range
+turned_between a b = record (between a b) { turned = true }
+
+-- a list of two selections, and of three
+abbrev pub two : Range → Range → ℕ → Selected
+two r s main = record { list = r ∷ s ∷ []; main = main }
+
+abbrev pub three : Range → Range → Range → ℕ → Selected
+three r s t main = record { list = r ∷ s ∷ t ∷ []; main = main }
+
+-- an atom of the main selection, and of another
+abbrev pub in_main : List ℕ → Atom
+in_main contents = atom contents named.White named.Blue
+
+abbrev pub in_other : List ℕ → Atom
+in_other contents = atom contents named.Black named.Blue
+
+-- of lists of selections
+pub record ListExamples : Type 0 where
+  pub first_is_main : drawn (codes "abcdef\n") (two (between 0 1) (between 3 4) 0) whole
+      ≡ line (in_main (codes "a") ∷ under_cursor (codes "b") ∷ bare (codes "c") ∷ in_other (codes "d") ∷ under_cursor (codes "e") ∷ bare (codes "f\n") ∷ []) ∷ []
+  pub turned_other : drawn (codes "abcdef\n") (two (turned_between 0 2) (between 4 4) 1) whole
+      ≡ line (under_cursor (codes "a") ∷ in_other (codes "bc") ∷ bare (codes "d") ∷ under_cursor (codes "e") ∷ bare (codes "f\n") ∷ []) ∷ []
+  pub turned_main : drawn (codes "abcdef\n") (two (between 0 1) (turned_between 3 5) 1) whole
+      ≡ line (in_other (codes "a") ∷ under_cursor (codes "b") ∷ bare (codes "c") ∷ under_cursor (codes "d") ∷ in_main (codes "ef") ∷ bare (codes "\n") ∷ []) ∷ []
+  -- selections that touch
+  pub neighbours : drawn (codes "abcd\n") (two (between 0 1) (between 2 3) 1) whole
+      ≡ line (in_other (codes "a") ∷ under_cursor (codes "b") ∷ in_main (codes "c") ∷ under_cursor (codes "d") ∷ bare (codes "\n") ∷ []) ∷ []
+  -- two cursors beside each other make one atom, since they have the same face
+  pub cursors_that_touch : drawn (codes "abcd\n") (two (only 1) (only 2) 0) whole ≡ line (bare (codes "a") ∷ under_cursor (codes "bc") ∷ bare (codes "d\n") ∷ []) ∷ []
+  pub both_on_newlines : drawn (codes "ab\nc\n") (two (between 1 2) (only 4) 1) whole
+      ≡ line (bare (codes "a") ∷ in_other (codes "b") ∷ atom (codes "\n") named.Black named.Cyan ∷ []) ∷ line (bare (codes "c") ∷ atom (codes "\n") named.Black named.Cyan ∷ []) ∷ []
+  -- each over a line's end; the main one is the second
+  pub over_lines : drawn (codes "ab\ncd\nef\n") (two (between 1 3) (turned_between 5 7) 1) whole
+      ≡ line (bare (codes "a") ∷ in_other (codes "b\n") ∷ [])
+      ∷ line (under_cursor (codes "c") ∷ bare (codes "d") ∷ atom (codes "\n") named.Black named.Cyan ∷ [])
+      ∷ line (in_main (codes "ef") ∷ bare (codes "\n") ∷ []) ∷ []
+  -- the first ends on the line on which the second begins, which goes over a whole line
+  pub over_a_whole_line : drawn (codes "ab\ncd\nef\n") (three (between 0 1) (between 2 6) (only 7) 1) whole
+      ≡ line (in_other (codes "a") ∷ under_cursor (codes "b") ∷ in_main (codes "\n") ∷ [])
+      ∷ line (in_main (codes "cd\n") ∷ [])
+      ∷ line (under_cursor (codes "ef") ∷ bare (codes "\n") ∷ []) ∷ []
+  -- the first selection is above the window, and the last one below it
+  pub one_in_the_window : drawn (codes "a\nb\nc\nd\n") (three (only 0) (between 3 4) (only 6) 0) (narrow 1 0)
+      ≡ line (bare (codes "b") ∷ in_other (codes "\n") ∷ []) ∷ line (under_cursor (codes "c") ∷ bare (codes "\n") ∷ []) ∷ []
+  -- the first selection is left of the window, and the last one right of it
+  pub cut_by_the_window : drawn (codes "abcdefgh\n") (three (between 0 1) (between 3 5) (only 7) 1) (narrow 0 4)
+      ≡ line (in_main (codes "e") ∷ under_cursor (codes "f") ∷ bare (codes "g") ∷ []) ∷ []
+
+-- of lines with other tab stops
+pub record TabExamples : Type 0 where
+  pub at_each_fourth : drawn_lines 4 (codes "a\tb\n") (alone true (only 0)) whole ≡ line (under_cursor (codes "a") ∷ bare (codes "   b\n") ∷ []) ∷ []
+  pub at_each_column : drawn_lines 1 (codes "a\tb\n") (alone true (only 0)) whole ≡ line (under_cursor (codes "a") ∷ bare (codes " b\n") ∷ []) ∷ []
+  pub cut_at_the_left : drawn_lines 4 (codes "a\tbc\n") (alone true (only 1)) (narrow 0 2) ≡ line (under_cursor (codes "  ") ∷ bare (codes "b") ∷ []) ∷ []
+  pub behind_a_tab_stop : drawn_lines 4 (codes "abcd\te\n") (alone true (only 4)) (narrow 0 6) ≡ line (under_cursor (codes "  ") ∷ bare (codes "e") ∷ []) ∷ []
+
+pub record Examples : Type 0 where
+  pub chars : CharExamples
+  pub cells : LineExamples
+  pub tabs : TabExamples
+  pub seen : SeenExamples
+  pub lists : ListExamples
+  pub cursor_in_the_middle : drawn (codes "abc\n") (alone true (only 1)) whole
+      ≡ line (bare (codes "a") ∷ under_cursor (codes "b") ∷ bare (codes "c\n") ∷ []) ∷ []
+  -- a selection over two lines, with its cursor at its begin
+  pub turned_selection : drawn (codes "ab\ncd\n") (alone true (record (between 1 3) { turned = true })) whole
+      ≡ line (bare (codes "a") ∷ under_cursor (codes "b") ∷ atom (codes "\n") named.White named.Blue ∷ [])
+      ∷ line (atom (codes "c") named.White named.Blue ∷ bare (codes "d\n") ∷ []) ∷ []
+  -- the second selection is the main one
+  pub two_selections : drawn (codes "abcdef\n") (record { list = between 0 1 ∷ between 3 4 ∷ []; main = 1 }) whole
+      ≡ line (atom (codes "a") named.Black named.Blue ∷ under_cursor (codes "b") ∷ bare (codes "c")
+      ∷ atom (codes "d") named.White named.Blue ∷ under_cursor (codes "e") ∷ bare (codes "f\n") ∷ []) ∷ []
+  pub cut_at_both_sides : drawn (codes "abcdefg\n") (alone true (only 3)) (narrow 0 2)
+      ≡ line (bare (codes "c") ∷ under_cursor (codes "d") ∷ bare (codes "e") ∷ []) ∷ []
+  pub cut_whole : drawn (codes "ab\ncdefg\n") (alone true (only 6)) (narrow 0 3) ≡ line [] ∷ line (under_cursor (codes "f") ∷ bare (codes "g\n") ∷ []) ∷ []
+  pub from_the_top : drawn (codes "a\nb\nc\nd\n") (alone true (only 4)) (narrow 1 0) ≡ line (bare (codes "b\n") ∷ []) ∷ line (under_cursor (codes "c") ∷ bare (codes "\n") ∷ []) ∷ []
+  pub below_the_end : drawn (codes "a\n") (alone true (only 0)) (narrow 1 0) ≡ []

@@ -1,0 +1,6 @@
+pub mod Atoms
+pub mod Cells
+pub mod Lines
+pub mod Painting
+pub mod Laws
+pub mod Examples

@@ -1,0 +1,106 @@
+//! Atoms that grow at their end.
+
+ghost use Rattle.std.specs.Prelude.{◌≡◌, [], ◌++◌, replicate, OnOk, IfOk};
+ghost use Rattle.line_painting.specs.Atoms.{shown_in, with_all_shown};
+
+use crate::atoms::push_run;
+use json_writing::Atom;
+use kak_faces::{Face, StandardFace};
+use kak_text::Chars;
+use std::alloc::{AllocError, Global};
+use std::marker::Model;
+
+// Atoms that grow at their end, and the face that more characters get. The characters that came last wait for others
+// of their face; contracts see the atoms that there are with them.
+#[derive(Drop, Debug)]
+pub struct Growing {
+    alloc: Global,
+    done: Vec<Atom>,
+    waiting: Chars,
+    face: Face,
+}
+
+impl Model for Growing {
+    ghost use Rattle.line_painting.specs.Atoms.{shown_in, with_all_shown};
+    ghost use Rattle.line_painting.specs.Painting.{Grown};
+
+    ghost Value = { Grown };
+
+    ghost view = { λ g. record { atoms = with_all_shown g.done.items (shown_in g.face g.waiting); face = g.face } };
+}
+
+// Adds a character so many times.
+fn add_times(chars: &mut Chars, c: char, count: u64) -> Result<(), AllocError>
+    ensures { OnOk result (chars.new ≡ chars.old ++ replicate count c) }
+{
+    for _ in 0..count {
+        chars.push(c)?;
+    }
+    Ok(())
+}
+
+// Adds characters in their face behind the atoms, and takes them away.
+fn push_taken(
+    alloc: Global,
+    atoms: &mut Vec<Atom>,
+    chars: &mut Chars,
+    face: Face,
+) -> Result<(), AllocError>
+    ensures pushed { OnOk result (atoms.new.items ≡ with_all_shown atoms.old.items (shown_in face chars.old)) }
+    ensures taken { OnOk result (chars.new ≡ []) }
+{
+    push_run(alloc, atoms, chars.as_slice(), face)?;
+    chars.clear();
+    Ok(())
+}
+
+impl Growing {
+    ghost use Rattle.line_painting.specs.Painting.{grown_by};
+
+    // No atoms. Takes no memory.
+    pub fn new(alloc: Global) -> Growing
+        ensures { result.atoms ≡ [] }
+    {
+        Growing {
+            alloc,
+            done: Vec::new(alloc),
+            waiting: Chars::new(alloc),
+            face: StandardFace::Default.face(),
+        }
+    }
+
+    // Changes the face that more characters get. An `Err` leaves some of the atoms.
+    pub fn set_face(&mut self, face: Face) -> Result<(), AllocError>
+        ensures { OnOk result (self.new ≡ record { atoms = self.old.atoms; face = face }) }
+    {
+        if self.face.is_same(face) {
+            return Ok(());
+        }
+        push_taken(self.alloc, &mut self.done, &mut self.waiting, self.face)?;
+        self.face = face;
+        Ok(())
+    }
+
+    // Adds characters. An `Err` leaves some of the atoms.
+    pub fn push_chars(&mut self, chars: &[char]) -> Result<(), AllocError>
+        ensures { OnOk result (self.new ≡ grown_by self.old chars.now) }
+    {
+        self.waiting.extend_from_slice(chars)
+    }
+
+    // Adds a character so many times. An `Err` leaves some of the atoms.
+    pub fn push_times(&mut self, c: char, count: u64) -> Result<(), AllocError>
+        ensures { OnOk result (self.new ≡ grown_by self.old (replicate count c)) }
+    {
+        add_times(&mut self.waiting, c, count)
+    }
+
+    // Takes the atoms out, with those that waited: none are left. An `Err` leaves some of them.
+    pub fn take_atoms(&mut self) -> Result<Vec<Atom>, AllocError>
+        ensures taken { IfOk result (λ atoms. atoms.items ≡ self.old.atoms) }
+        ensures left { OnOk result (self.new.atoms ≡ []) }
+    {
+        push_taken(self.alloc, &mut self.done, &mut self.waiting, self.face)?;
+        Ok(std::mem::replace(&mut self.done, Vec::new(self.alloc)))
+    }
+}

@@ -1,0 +1,19 @@
+//! What a window shows of a text with selections: which cells of a line are in it, how each character is drawn there
+//! and in which face, and the characters of one face as atoms.
+#![tactic(auto)]
+
+mod atoms;
+mod cells;
+mod growing;
+mod laws;
+mod paint;
+mod parts;
+mod stretches;
+mod window_lines;
+
+pub use atoms::{push_run, push_shown};
+pub use laws::{atoms_are_runs, plain_lines_are_cut, windows_show_cells, worked_examples};
+pub use window_lines::draw_lines;
+
+#[cfg(test)]
+mod tests;

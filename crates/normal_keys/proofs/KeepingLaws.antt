@@ -1,0 +1,114 @@
+-- No key of normal mode makes a client come or go.
+use Rattle.std.proofs.Common.{ℕ, zero, suc, ◌-◌, Bool, true, false, [], List}
+use Rattle.std.specs.Prelude.{if◌then◌else◌, ◌==◌, nat_lt, None, Some}
+use Rattle.std.specs.declared.option.Option.{Option}
+use Rattle.key_names.specs.declared.key.Key.{Key}
+use Rattle.text_model.specs.declared.TheConstants.{MAX_SELECTIONS}
+use Rattle.list_model.specs.Ranges.{Selected}
+use Rattle.motion_keys.specs.declared.char_moves.Search.{Search}
+use Rattle.motion_keys.specs.declared.landmarks.Place.{Place}
+use Rattle.motion_keys.specs.declared.landmarks.Place.TheVariants as place
+use Rattle.motion_keys.specs.declared.finding.Motion.{Motion}
+use Rattle.motion_keys.specs.declared.finding.Motion.TheVariants.{Character, To}
+use Rattle.motion_keys.specs.declared.finding.Reach.{Reach}
+use Rattle.list_keys.specs.Changes.{changed_list, made_count}
+use Rattle.kak_world.specs.declared.ask.EditError.TheVariants.{NothingSelected, TooManySelections}
+use Rattle.kak_world.specs.declared.own.Mode.TheVariants.{Insert, Prompt}
+use Rattle.kak_world.specs.Flat.{Flat, text_of, sels_of, units_of, with_units, count_of, pending_of, with_own}
+use Rattle.kak_world.specs.Rows.{RowEnd, does, fails}
+use Rattle.kak_world.specs.Keeping.{KeepsClients}
+use Rattle.kak_world.proofs.KeepingLaws.{keeps_same, keeps_after, keeps_own, keeps_sels, keeps_units}
+use Rattle.normal_keys.specs.declared.actions.Action.{Action}
+use Rattle.normal_keys.specs.declared.actions.Action.TheVariants as action
+use Rattle.normal_keys.specs.declared.actions.Repeated.{Repeated}
+use Rattle.normal_keys.specs.declared.actions.Repeated.TheVariants.{Moves, TurnsMain}
+use Rattle.normal_keys.specs.declared.actions.Shape.TheVariants as shape
+use Rattle.normal_keys.specs.declared.each.Each.{Each}
+use Rattle.normal_keys.specs.declared.each.Each.TheVariants as each
+use Rattle.normal_keys.specs.Actions.{action_of}
+use Rattle.normal_keys.specs.Moving.{each_changed, moved, after_unit, further_runs, runs}
+use Rattle.normal_keys.specs.Listing.{taken_if_any, taken, list_changed}
+use Rattle.normal_keys.specs.Repeating.{once}
+use Rattle.normal_keys.specs.Rows.{cleared, waiting, insert_before, go_to_line, acted, character_of, place_of, sought_character, sought_place, answered, row_pending, row_normal}
+
+-- a change of the world that keeps the clients
+abbrev Keeps : (Flat → Flat) → Type 0
+Keeps change = (flat : Flat) → KeepsClients flat (change flat)
+
+-- the world after a row has the clients of the one before it
+abbrev KeepsIn : (Flat → RowEnd) → Type 0
+KeepsIn row = (flat : Flat) → KeepsClients flat (row flat).world
+
+keeps-each : (change : Each) (who : ℕ) → Keeps (each_changed change who)
+keeps-each change who flat = keeps_sels who _ flat
+
+keeps-unit : (units : ℕ) (next : Flat → RowEnd) → KeepsIn next → KeepsIn (after_unit units next)
+keeps-unit zero next k flat = keeps_same flat
+keeps-unit (suc left) next k flat = keeps_after flat (with_units left flat) (next (with_units left flat)).world (keeps_units left flat) (k (with_units left flat))
+
+keeps-further : (n : ℕ) (change : Flat → Flat) → Keeps change → KeepsIn (further_runs n change)
+keeps-further zero change k flat = keeps_same flat
+keeps-further (suc n) change k flat =
+    keeps-unit (units_of flat) (λ w. further_runs n change (change w)) (λ w. keeps_after w (change w) (further_runs n change (change w)).world (k w) (keeps-further n change k (change w))) flat
+
+keeps-runs : (count : ℕ) (change : Flat → Flat) → Keeps change → KeepsIn (runs count change)
+keeps-runs count change k flat = keeps_after flat (change flat) (runs count change flat).world (k flat) (keeps-further (count - 1) change k (change flat))
+
+keeps-once : (what : Repeated) (who : ℕ) → Keeps (once what who)
+keeps-once (Moves motion reach) who flat = keeps_sels who _ flat
+keeps-once (TurnsMain direction) who flat = keeps_sels who _ flat
+
+keeps-chosen : (t : Bool) (flat : Flat) (a b : RowEnd) → KeepsClients flat a.world → KeepsClients flat b.world → KeepsClients flat (if t then a else b).world
+keeps-chosen true flat a b f g = f
+keeps-chosen false flat a b f g = g
+
+keeps-choice : (t : Bool) (flat a b : Flat) → KeepsClients flat a → KeepsClients flat b → KeepsClients flat (if t then a else b)
+keeps-choice true flat a b f g = f
+keeps-choice false flat a b f g = g
+
+keeps-any : (found : Option Selected) (who : ℕ) → KeepsIn (taken_if_any found who)
+keeps-any None who flat = keeps_same flat
+keeps-any (Some sels) who flat = keeps_sels who sels flat
+
+keeps-taken : (count : ℕ) (found : Option Selected) (who : ℕ) → KeepsIn (taken count found who)
+keeps-taken count found who flat = keeps-chosen (nat_lt MAX_SELECTIONS count) flat (fails TooManySelections flat) (taken_if_any found who flat) (keeps_same flat) (keeps-any found who flat)
+
+keeps-line : (key : Key) (reach : Reach) (count who : ℕ) → Keeps (go_to_line key reach count who)
+keeps-line key reach count who flat =
+    keeps-choice (count == 0) flat (waiting key 0 who flat) (moved (To (place.Line (count - 1))) reach who flat) (keeps_own who _ flat) (keeps_sels who _ flat)
+
+keeps-acted : (key : Key) (a : Action) (count who : ℕ) → KeepsIn (acted key a count who)
+keeps-acted key action.Nothing count who flat = keeps_same flat
+keeps-acted key (action.Digit digit) count who flat = keeps_own who _ flat
+keeps-acted key (action.Repeats what) count who flat = keeps-runs count (once what who) (keeps-once what who) flat
+keeps-acted key (action.MovesOnce motion reach) count who flat = keeps_sels who _ flat
+keeps-acted key (action.Seeks search reach) count who flat = keeps_own who _ flat
+keeps-acted key (action.Goes reach) count who flat = keeps-line key reach count who flat
+keeps-acted key (action.Shapes shape) count who flat = keeps_sels who _ flat
+keeps-acted key (action.Lists change) count who flat = keeps-taken (made_count change (text_of who flat) (sels_of who flat)) (changed_list change (text_of who flat) (sels_of who flat)) who flat
+keeps-acted key action.Inserts count who flat =
+    keeps_after flat (each_changed (each.Reshaped shape.AtStart) who flat) (insert_before who flat) (keeps-each (each.Reshaped shape.AtStart) who flat) (keeps_own who _ (each_changed (each.Reshaped shape.AtStart) who flat))
+keeps-acted key action.Prompts count who flat = keeps_own who _ flat
+
+keeps-character : (search : Search) (reach : Reach) (count who : ℕ) (c : Option ℕ) → KeepsIn (sought_character search reach count who c)
+keeps-character search reach count who None flat = keeps_same flat
+keeps-character search reach count who (Some c) flat = keeps-runs count (moved (Character search c) reach who) (λ w. keeps_sels who _ w) flat
+
+keeps-place : (reach : Reach) (who : ℕ) (p : Option Place) → KeepsIn (sought_place reach who p)
+keeps-place reach who None flat = keeps_same flat
+keeps-place reach who (Some p) flat = keeps_sels who _ flat
+
+keeps-answered : (a : Action) (key : Key) (count who : ℕ) → KeepsIn (answered a key count who)
+keeps-answered (action.Seeks search reach) key count who flat = keeps-character search reach count who (character_of key) flat
+keeps-answered (action.Goes reach) key count who flat = keeps-place reach who (place_of key) flat
+keeps-answered _ key count who flat = keeps_same flat
+
+keeps-pending : (waits : Option Key) (key : Key) (count who : ℕ) → KeepsIn (row_pending waits key count who)
+keeps-pending None key count who flat = keeps-acted key (action_of key) count who flat
+keeps-pending (Some first) key count who flat = keeps-answered (action_of first) key count who flat
+
+pub keeps_normal : (key : Key) (who : ℕ) (flat : Flat) → KeepsClients flat (row_normal key who flat).world
+unfolding row_normal
+keeps_normal key who flat =
+    keeps_after flat (cleared who flat) (row_normal key who flat).world (keeps_own who _ flat)
+    (keeps-pending (pending_of who flat) key (count_of who flat) who (cleared who flat))

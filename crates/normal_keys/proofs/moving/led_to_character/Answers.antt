@@ -1,5 +1,0 @@
-use Rattle.normal_keys.proofs.LedLemmas.{pair-led}
-use Rattle.normal_keys.proofs.moving.led_to_character.Goals as goal
-
-pub returns : goal.returns
-returns c = rw c.of_pair.ensures (pair-led c.args.lines.now c.in_ok-pair.pair _ c.in_ok-pair.ensures.gives)
