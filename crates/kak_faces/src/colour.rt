@@ -1,3 +1,5 @@
+//! Colours, and the attributes of a face.
+
 ghost use Rattle.std.specs.Prelude.{◌≡◌};
 ghost use Rattle.kak_faces.specs.Colours.{colour_name, attribute_name, has_attribute, united};
 

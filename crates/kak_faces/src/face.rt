@@ -1,3 +1,5 @@
+//! Faces, and how one lies over another.
+
 ghost use Rattle.std.specs.Prelude.{◌≡◌};
 ghost use Rattle.kak_faces.specs.Faces.{merged, merged_colour, merged_attributes};
 

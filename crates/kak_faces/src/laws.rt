@@ -1,3 +1,5 @@
+//! Laws of the definitions, and worked examples: each is the contract of a function that does nothing.
+
 ghost use Rattle.std.specs.Prelude.{◌≡◌};
 ghost use Rattle.kak_faces.specs.Faces.{merged};
 ghost use Rattle.kak_faces.specs.Examples.{WorkedExamples};

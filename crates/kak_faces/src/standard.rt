@@ -1,3 +1,5 @@
+//! The faces that have a name.
+
 ghost use Rattle.std.specs.Prelude.{◌≡◌};
 ghost use Rattle.kak_faces.specs.Standard.{standard_face, plain_face};
 

@@ -1,3 +1,5 @@
+//! A key that was struck.
+
 ghost use Rattle.std.specs.Prelude.{◌≡◌};
 
 use std::marker::Model;

@@ -1,3 +1,5 @@
+//! The spelling of a key.
+
 ghost use Rattle.std.specs.Prelude.{◌≡◌, ◌++◌, Ok, [], ◌∷◌, true, false, IfOk, OnOk, encode_utf8_all};
 ghost use Rattle.std.specs.Str.{chars};
 ghost use Rattle.std.specs.String.{string_bytes};

@@ -1,3 +1,5 @@
+//! Coordinates in a text, and how a change moves them.
+
 ghost use Rattle.std.specs.Prelude.{◌≡◌};
 
 /// A coordinate in a text: the number of a line and of a character in it, both from 0. The end of a text, behind its
