@@ -3,3 +3,5 @@ pub mod TreeLemmas
 pub mod StoryLemmas
 pub mod EditLemmas
 pub mod MarkLemmas
+pub mod WayLemmas
+pub mod MoveLemmas

@@ -84,7 +84,7 @@ pub parent-there : (nodes : List Node) (child : ℕ) → IsTree nodes → 0 < ch
 parent-there nodes child t p lt = omega (arith, (t.children child p lt).below)
 
 -- a parent that remembers its child
-with_heir-tree : (nodes : List Node) (child : ℕ) → IsTree nodes → 0 < child → child < length nodes → IsTree (with_heir (node_at nodes child).parent child nodes)
+pub with_heir-tree : (nodes : List Node) (child : ℕ) → IsTree nodes → 0 < child → child < length nodes → IsTree (with_heir (node_at nodes child).parent child nodes)
 with_heir-tree nodes child t p lt = tree-same ms nodes same t (λ n h. at n h (test_cases (eqb n (node_at nodes child).parent)))
   where
     ms : List Node
@@ -105,25 +105,25 @@ with_heir-tree nodes child t p lt = tree-same ms nodes same t (λ n h. at n h (t
         (weaker_if_some (node_at nodes n).heir (IsHeir nodes n) (IsHeir ms n) (λ x k. heir-same ms nodes n x same k) (t.heirs n (omega (arith, same.long))))
 
 -- the three ways of a route, and of what is remembered on it
-route-here : (k : ℕ) (nodes : List Node) (a b : ℕ) → eqb a b ≡ true → route (suc k) nodes a b ≡ []
+pub route-here : (k : ℕ) (nodes : List Node) (a b : ℕ) → eqb a b ≡ true → route (suc k) nodes a b ≡ []
 route-here k nodes a b e = ap (λ v. cond v [] (cond (ltb b a) (up nodes a ++ route k nodes (node_at nodes a).parent b) (route k nodes a (node_at nodes b).parent ++ (node_at nodes b).changes))) e
 
-route-up : (k : ℕ) (nodes : List Node) (a b : ℕ) → eqb a b ≡ false → ltb b a ≡ true → route (suc k) nodes a b ≡ up nodes a ++ route k nodes (node_at nodes a).parent b
+pub route-up : (k : ℕ) (nodes : List Node) (a b : ℕ) → eqb a b ≡ false → ltb b a ≡ true → route (suc k) nodes a b ≡ up nodes a ++ route k nodes (node_at nodes a).parent b
 route-up k nodes a b e l = ap₂ (λ v w. cond v [] (cond w (up nodes a ++ route k nodes (node_at nodes a).parent b) (route k nodes a (node_at nodes b).parent ++ (node_at nodes b).changes))) e l
 
-route-down : (k : ℕ) (nodes : List Node) (a b : ℕ) → eqb a b ≡ false → ltb b a ≡ false → route (suc k) nodes a b ≡ route k nodes a (node_at nodes b).parent ++ (node_at nodes b).changes
+pub route-down : (k : ℕ) (nodes : List Node) (a b : ℕ) → eqb a b ≡ false → ltb b a ≡ false → route (suc k) nodes a b ≡ route k nodes a (node_at nodes b).parent ++ (node_at nodes b).changes
 route-down k nodes a b e l = ap₂ (λ v w. cond v [] (cond w (up nodes a ++ route k nodes (node_at nodes a).parent b) (route k nodes a (node_at nodes b).parent ++ (node_at nodes b).changes))) e l
 
-remembering-here : (k : ℕ) (nodes : List Node) (a b : ℕ) → eqb a b ≡ true → remembering k nodes a b ≡ nodes
+pub remembering-here : (k : ℕ) (nodes : List Node) (a b : ℕ) → eqb a b ≡ true → remembering k nodes a b ≡ nodes
 remembering-here zero nodes a b e = refl
 remembering-here (suc k) nodes a b e =
     ap (λ v. cond v nodes (cond (ltb b a) (remembering k (with_heir (node_at nodes a).parent a nodes) (node_at nodes a).parent b) (with_heir (node_at nodes b).parent b (remembering k nodes a (node_at nodes b).parent)))) e
 
-remembering-up : (k : ℕ) (nodes : List Node) (a b : ℕ) → eqb a b ≡ false → ltb b a ≡ true → remembering (suc k) nodes a b ≡ remembering k (with_heir (node_at nodes a).parent a nodes) (node_at nodes a).parent b
+pub remembering-up : (k : ℕ) (nodes : List Node) (a b : ℕ) → eqb a b ≡ false → ltb b a ≡ true → remembering (suc k) nodes a b ≡ remembering k (with_heir (node_at nodes a).parent a nodes) (node_at nodes a).parent b
 remembering-up k nodes a b e l =
     ap₂ (λ v w. cond v nodes (cond w (remembering k (with_heir (node_at nodes a).parent a nodes) (node_at nodes a).parent b) (with_heir (node_at nodes b).parent b (remembering k nodes a (node_at nodes b).parent)))) e l
 
-remembering-down : (k : ℕ) (nodes : List Node) (a b : ℕ) → eqb a b ≡ false → ltb b a ≡ false → remembering (suc k) nodes a b ≡ with_heir (node_at nodes b).parent b (remembering k nodes a (node_at nodes b).parent)
+pub remembering-down : (k : ℕ) (nodes : List Node) (a b : ℕ) → eqb a b ≡ false → ltb b a ≡ false → remembering (suc k) nodes a b ≡ with_heir (node_at nodes b).parent b (remembering k nodes a (node_at nodes b).parent)
 remembering-down k nodes a b e l =
     ap₂ (λ v w. cond v nodes (cond w (remembering k (with_heir (node_at nodes a).parent a nodes) (node_at nodes a).parent b) (with_heir (node_at nodes b).parent b (remembering k nodes a (node_at nodes b).parent)))) e l
 

@@ -5,6 +5,9 @@ use Rattle.list_model.specs.Ranges.{Selected, only}
 use Rattle.undo_model.specs.Steps.{undoing}
 use Rattle.undo_model.specs.Tree.{node_at, crossed}
 use Rattle.undo_model.specs.Stories.{Story, opened, committed, committed_by, edited, is_undo_full, moved_to, changes_to, undone, redone, heir_of, is_modified, marked_saved, nodes_due}
+use Rattle.undo_model.specs.declared.travel.Travel.TheVariants.{Undo, Redo, Node}
+use Rattle.undo_model.specs.Ways.{leaving, entering}
+use Rattle.undo_model.specs.Moves.{target_of, moved_by, move_changes, forgotten}
 use Rattle.undo_model.specs.Edits.{Splice, edit_changes}
 use Rattle.undo_model.specs.Marks.{marks, left_by}
 
@@ -91,9 +94,36 @@ pub record MarkExamples : Type 0 where
   pub what_was_put_in : marks (codes "\n") [] (Insertion 0 (codes "abc") ∷ []) ≡ record { low = 0; high = 2; turned = false; target = None } ∷ []
   pub end_means_the_last : marks (codes "a\nb\n") [] (Erasure 2 4 ∷ []) ≡ only 1 ∷ []
 
+pub record MoveExamples : Type 0 where
+  pub undo_to_the_parent : target_of Undo two_children ≡ Some 0
+  pub the_root_has_none : target_of Undo empty ≡ None
+  pub redo_to_the_heir : target_of Redo (undone two_children) ≡ Some 2
+  pub a_leaf_has_none : target_of Redo two_children ≡ None
+  pub to_a_number : target_of (Node 1) two_children ≡ Some 1
+  pub to_where_it_is : target_of (Node 2) two_children ≡ Some 2
+  pub to_no_number : target_of (Node 3) two_children ≡ None
+  pub pending_is_a_node_first : target_of Undo (typed 0 97 empty) ≡ Some 0
+  pub and_may_be_the_target : target_of (Node 1) (typed 0 97 empty) ≡ Some 1
+  pub and_has_no_heir : target_of Redo (typed 0 98 (undone one_node)) ≡ None
+  pub over_the_ancestor : moved_by (Node 1) two_children ≡ at_the_first
+  pub its_changes : move_changes (Node 1) two_children ≡ Erasure 0 1 ∷ Insertion 0 (codes "a") ∷ []
+  pub undo_by_name : move_changes Undo two_children ≡ Erasure 0 1 ∷ []
+  pub redo_by_name : move_changes Redo (undone two_children) ≡ Insertion 0 (codes "b") ∷ []
+  pub no_changes_to_itself : move_changes (Node 2) two_children ≡ []
+  pub no_changes_to_nowhere : move_changes Redo two_children ≡ []
+  pub refused_commits : moved_by Redo (typed 0 97 empty) ≡ committed (typed 0 97 empty)
+  pub left_for_its_parent : leaving 3 two_children.nodes 2 1 ≡ 2 ∷ []
+  pub gone_to_from_its_parent : entering 3 two_children.nodes 2 1 ≡ 1 ∷ []
+  pub two_up : leaving 2 (committed two_clients).nodes 2 0 ≡ 2 ∷ 1 ∷ []
+  pub two_down : entering 2 (committed two_clients).nodes 0 2 ≡ 1 ∷ 2 ∷ []
+  pub nothing_to_undo_when_forgotten : (undone (forgotten (codes "a\n"))).text ≡ codes "a\n"
+  pub forgotten_is_one_node : (forgotten (codes "a\n")).nodes ≡ (opened (codes "a\n")).nodes
+  pub forgotten_is_modified : is_modified (forgotten (codes "a\n")) ≡ true
+
 -- all of them
 pub record WorkedExamples : Type 0 where
   pub trees : TreeExamples
   pub groups : GroupExamples
+  pub moves : MoveExamples
   pub edits : EditExamples
   pub marks_of_moves : MarkExamples

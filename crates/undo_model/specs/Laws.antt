@@ -1,14 +1,18 @@
 -- Laws of the definitions, each proved as the contract of a function of `laws`.
-use Rattle.std.specs.Prelude.{◌≡◌, ℕ, ◌+◌, ◌<◌, ◌≤◌, false, List, [], length, All, Some}
+use Rattle.std.specs.Prelude.{◌≡◌, ℕ, ◌+◌, ◌<◌, ◌≤◌, true, false, List, [], ◌++◌, length, All, Some}
 use Rattle.text_model.specs.Texts.{IsStored}
 use Rattle.text_model.specs.Changes.{Change, all_changed}
 use Rattle.list_model.specs.Ranges.{Range}
 use Rattle.undo_model.specs.Steps.{AreSteps, undoing}
-use Rattle.undo_model.specs.Tree.{node_at, crossed, heir_after}
-use Rattle.undo_model.specs.Stories.{Story, opened, committed, committed_by, edited, is_undo_full, moved_to, changes_to, undone, redone, heir_of, marked_saved}
+use Rattle.undo_model.specs.declared.travel.Travel.{Travel}
+use Rattle.undo_model.specs.declared.travel.Travel.TheVariants.{Undo, Redo, Node as NodeOf}
+use Rattle.undo_model.specs.Tree.{Node, node_at, route, remembering, crossed, heir_after}
+use Rattle.undo_model.specs.Ways.{leaving, entering, rising, falling, remembered, IsWay}
+use Rattle.undo_model.specs.Stories.{Story, opened, committed, committed_by, edited, is_undo_full, moved_to, changes_to, undone, redone, heir_of, is_modified, marked_saved}
+use Rattle.undo_model.specs.Moves.{target_of, moved_by, move_changes, forgotten}
 use Rattle.undo_model.specs.Edits.{Splice, AreInOrder, edit_changes, is_too_long}
 use Rattle.undo_model.specs.Marks.{marks}
-use Rattle.undo_model.specs.Kept.{IsStory}
+use Rattle.undo_model.specs.Kept.{IsTree, IsStory}
 
 -- steps and what takes them back
 pub record StepsAreTakenBack : Type 0 where
@@ -41,6 +45,28 @@ pub record HeirsAreRemembered : Type 0 where
   pub by_redo : (s : Story) (n : ℕ) → IsStory s → heir_of (committed s) ≡ Some n → (node_at (redone s).nodes (committed s).current).heir ≡ Some n
   pub redo_goes_back : (s : Story) → IsStory s → 0 < (committed s).current → (redone (undone s)).current ≡ (committed s).current
   pub redo_brings_back : (s : Story) → IsStory s → 0 < (committed s).current → (redone (undone s)).text ≡ s.text
+
+-- a move by its name is undo, redo or the move to a node; it leads to a node that is there, and its changes to the new text
+pub record MovesByName : Type 0 where
+  pub undo : (s : Story) → IsStory s → moved_by Undo s ≡ undone s
+  pub redo : (s : Story) → moved_by Redo s ≡ redone s
+  pub to_node : (n : ℕ) (s : Story) → moved_by (NodeOf n) s ≡ moved_to n s
+  pub is_there : (travel : Travel) (n : ℕ) (s : Story) → IsStory s → target_of travel s ≡ Some n → n < length (committed s).nodes
+  pub are_steps : (travel : Travel) (s : Story) → IsStory s → AreSteps s.text (move_changes travel s)
+  pub lead : (travel : Travel) (s : Story) → IsStory s → all_changed s.text (move_changes travel s) ≡ (moved_by travel s).text
+  pub kept : (travel : Travel) (s : Story) → IsStory s → IsStory (moved_by travel s)
+
+-- a text without its history is a story, and is modified until it is saved
+pub record ForgottenIsAStory : Type 0 where
+  pub kept : (text : List ℕ) → IsStored text → IsStory (forgotten text)
+  pub modified : (text : List ℕ) → is_modified (forgotten text) ≡ true
+  pub stays_so : (text : List ℕ) → is_modified (committed (forgotten text)) ≡ true
+
+-- a move can be made node by node: up to the nearest common ancestor, and from there down
+pub record MovesGoByNodes : Type 0 where
+  pub way : (k : ℕ) (nodes : List Node) (a b : ℕ) → IsTree nodes → a < length nodes → b < length nodes → a + b ≤ k → IsWay nodes a b (leaving k nodes a b) (entering k nodes a b)
+  pub changes : (k : ℕ) (nodes : List Node) (a b : ℕ) → route k nodes a b ≡ rising nodes (leaving k nodes a b) ++ falling nodes (entering k nodes a b)
+  pub heirs : (k : ℕ) (nodes : List Node) (a b : ℕ) → IsTree nodes → a < length nodes → b < length nodes → remembering k nodes a b ≡ remembered (remembered nodes (leaving k nodes a b)) (entering k nodes a b)
 
 -- the single changes of an edit that isn't refused are steps
 pub record EditsAreSteps : Type 0 where

@@ -1,6 +1,8 @@
 pub mod Steps
 pub mod Tree
+pub mod Ways
 pub mod Stories
+pub mod Moves
 pub mod Edits
 pub mod Marks
 pub mod Kept

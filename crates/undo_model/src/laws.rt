@@ -2,7 +2,7 @@
 
 ghost use Rattle.std.specs.Prelude.{◌≡◌};
 ghost use Rattle.undo_model.specs.declared.TheConstants.{MAX_NODES};
-ghost use Rattle.undo_model.specs.Laws.{StepsAreTakenBack, StoriesAreKept, MovesLead, HeirsAreRemembered, EditsAreSteps, MarksLieInside};
+ghost use Rattle.undo_model.specs.Laws.{StepsAreTakenBack, StoriesAreKept, MovesLead, HeirsAreRemembered, MovesByName, ForgottenIsAStory, MovesGoByNodes, EditsAreSteps, MarksLieInside};
 ghost use Rattle.undo_model.specs.Examples.{WorkedExamples};
 
 /// Changes and then their inverses from the last to the first give the old text, over texts that can be kept.
@@ -23,6 +23,21 @@ pub fn moves_lead()
 /// Undo and redo are remembered, and redo brings back what undo took.
 pub fn heirs_are_remembered()
     ensures { HeirsAreRemembered }
+{}
+
+/// Moves by their names are undo, redo and the move to a node, and lead where these do.
+pub fn moves_by_name()
+    ensures { MovesByName }
+{}
+
+/// A text whose history was lost is a story again, and is modified.
+pub fn forgotten_is_a_story()
+    ensures { ForgottenIsAStory }
+{}
+
+/// A move goes node by node up to the nearest common ancestor, and from there down.
+pub fn moves_go_by_nodes()
+    ensures { MovesGoByNodes }
 {}
 
 /// The single changes of an edit are changes of texts that can be kept.

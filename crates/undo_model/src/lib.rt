@@ -4,6 +4,9 @@
 #![tactic(auto)]
 
 pub mod laws;
+pub mod travel;
+
+pub use travel::Travel;
 
 /// The most nodes that an undo tree may have.
 pub const MAX_NODES: usize = 100_000;

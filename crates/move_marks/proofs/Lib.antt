@@ -1,0 +1,7 @@
+pub mod PlainLemmas
+pub mod JoinLemmas
+pub mod LawLemmas
+pub mod MergeLemmas
+pub mod MarkedLemmas
+pub mod LeftLemmas
+pub mod TrialLemmas

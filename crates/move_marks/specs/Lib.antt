@@ -1,0 +1,5 @@
+pub mod Marking
+pub mod Joining
+pub mod Laws
+pub mod Examples
+pub mod Trials
