@@ -60,6 +60,7 @@ kept_as old new at insert chars s c is back h step n shift i b =
     record {
       fits = fits;
       is_change = ap (λ x. x ∷ []) (sym same);
+      leads = n ∙ ap (changed old) (sym same);
       made = record { before = old; fit = (fits, tt); is_made = n ∙ ap (changed old) (sym same) };
     }
 

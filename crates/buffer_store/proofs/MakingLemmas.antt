@@ -1,6 +1,6 @@
 -- Lemmas on kept changes: what they are by offsets, and that they can be made and taken back.
-use Rattle.std.proofs.Common.{◌≡◌, ℕ, zero, suc, ◌+◌, ◌-◌, ◌<◌, ◌≤◌, Bool, true, false, not, ◌&&◌, List, [], ◌∷◌, ◌++◌, length, take, drop, get_or, refl, sym, ap, ap₂, subst, ◌∙◌, arith, inl, inr, ◌⊎◌, append-nil, length-append, length-take-le, take_at, take_all, get_or-take, get_or-append-add, eq-eqb, lt-ltb, take-append-drop, append_assoc, OnOk, OnErr, Ok, Err}
-use Rattle.std.proofs.lemmas.List.{drop_all, drop_more, take_more, take-append-le}
+use Rattle.std.proofs.Common.{◌≡◌, ℕ, ◌+◌, ◌-◌, ◌<◌, ◌≤◌, Bool, true, false, not, ◌&&◌, List, [], ◌∷◌, ◌++◌, length, take, drop, get_or, refl, sym, ap, ap₂, subst, ◌∙◌, arith, inl, inr, ◌⊎◌, append-nil, length-append, length-take-le, take_at, get_or-take, get_or-append-add, eq-eqb, lt-ltb, take-append-drop, OnOk, OnErr, Ok, Err}
+use Rattle.std.proofs.lemmas.List.{drop_all, drop_more, take_more}
 use Rattle.std.specs.declared.result.Result.{Result}
 use Rattle.text_model.specs.declared.coords.Coord.{Coord}
 use Rattle.text_model.specs.declared.coords.Shift.{Shift}
@@ -13,7 +13,7 @@ use Rattle.line_buffer.proofs.InsertLemmas.{put_in-ended}
 use Rattle.change_list.specs.declared.change.Change.{Change as Kept}
 use Rattle.undo_model.specs.Steps.{IsStep, undoing}
 use Rattle.undo_model.proofs.StepLemmas.{inverse-step}
-use Rattle.buffer_store.specs.Stored.{turn, flat, flat_back, shift_of, shifts_of, Fits, AllFit, flats, made, backs, IsAfterSome, IsMade}
+use Rattle.buffer_store.specs.Stored.{turn, flat, flat_back, shift_of, shifts_of, Fits, AllFit, flats, made, backs, IsMade}
 
 -- what ends a text is one
 text_tail : (xs ys : List ℕ) → IsText (xs ++ ys) → 0 < length ys → IsText ys
@@ -207,6 +207,11 @@ pub weaker_on_ok : {T E : Type 0} (r : Result T E) (P Q : Type 0) → (P → Q) 
 weaker_on_ok (Ok x) P Q f h = f h
 weaker_on_ok (Err e) P Q f h = tt
 
+-- and what holds at an error
+pub weaker_on_err : {T E : Type 0} (r : Result T E) (P Q : Type 0) → (P → Q) → OnErr r P → OnErr r Q
+weaker_on_err (Ok x) P Q f h = tt
+weaker_on_err (Err e) P Q f h = f h
+
 -- the n-th kept change fits the text behind those before it
 pub fit-at : (text : List ℕ) (ks : List Kept) (n : ℕ) (k : Kept) → AllFit text ks → n < length ks → k ≡ get_or ks n k → Fits (made text (take n ks)) k
 fit-at text ks n k h lt is =
@@ -221,16 +226,6 @@ made-more text ks n k lt is = ap (made text) (take_more ks n k lt ∙ ap (λ x. 
 pub shifts-more : (text : List ℕ) (ks : List Kept) (n : ℕ) (k : Kept) → n < length ks → k ≡ get_or ks n k → shifts_of text (flats text (take (n + 1) ks)) ≡ shifts_of text (flats text (take n ks)) ++ shift_of (made text (take n ks)) (flat (made text (take n ks)) k) ∷ []
 shifts-more text ks n k lt is =
     ap (λ x. shifts_of text (flats text x)) (take_more ks n k lt ∙ ap (λ x. take n ks ++ x ∷ []) (sym is)) ∙ ap (shifts_of text) (flats-append text (take n ks) (k ∷ [])) ∙ shifts_of-append text (flats text (take n ks)) (flat (made text (take n ks)) k ∷ []) ∙ ap (λ t. shifts_of text (flats text (take n ks)) ++ shift_of t (flat (made text (take n ks)) k) ∷ []) (sym (made-flats text (take n ks)))
-
-flats-take : (text : List ℕ) (ks : List Kept) (n : ℕ) → flats text (take n ks) ≡ take n (flats text ks)
-flats-take text [] zero = refl
-flats-take text [] (suc n) = refl
-flats-take text (k ∷ ks) zero = refl
-flats-take text (k ∷ ks) (suc n) = ap (λ cs. flat text k ∷ cs) (flats-take (changed text (flat text k)) ks n)
-
--- the text behind some kept changes
-pub after-made : (text : List ℕ) (ks : List Kept) (n : ℕ) (new : List ℕ) → new ≡ made text (take n ks) → IsAfterSome text (flats text ks) new
-after-made text ks n new e = record { count = n; is_after = e ∙ made-flats text (take n ks) ∙ ap (all_changed text) (flats-take text ks n) }
 
 -- one kept change less
 pub backs-more : (text : List ℕ) (ks : List Kept) (n m : ℕ) (k : Kept) → n + 1 ≡ m → n < length ks → k ≡ get_or ks n k → backs text (drop n ks) ≡ backs text (drop m ks) ++ flat_back (all_changed text (backs text (drop m ks))) k ∷ []
@@ -257,28 +252,6 @@ is_made-back text ks n m k h e lt is =
       fit = (fit-at h.before ks n k h.fit lt is, tt);
       is_made = back ∙ ap (λ x. made h.before (take x ks)) (sym e) ∙ made-more h.before ks n k lt is;
     }
-
-backs-shorter : (text : List ℕ) (ks : List Kept) (m : ℕ) → length (backs text (drop m ks)) ≤ length (backs text ks)
-backs-shorter text [] zero = omega arith
-backs-shorter text [] (suc m) = omega arith
-backs-shorter text (k ∷ ks) zero = omega arith
-backs-shorter text (k ∷ ks) (suc m) = omega (arith, backs-shorter text ks m, length-append (backs text ks) (flat_back (all_changed text (backs text ks)) k ∷ []))
-
--- the text behind some kept changes taken back
-pub after-back : (text : List ℕ) (ks : List Kept) (m : ℕ) (new : List ℕ) → new ≡ all_changed text (backs text (drop m ks)) → IsAfterSome text (backs text ks) new
-after-back text ks m new e = record { count = length (backs text (drop m ks)); is_after = e ∙ ap (all_changed text) (sym (begins text ks m)) }
-  where
-    begins : (text : List ℕ) (ks : List Kept) (m : ℕ) → take (length (backs text (drop m ks))) (backs text ks) ≡ backs text (drop m ks)
-    begins text [] zero = refl
-    begins text [] (suc m) = refl
-    begins text (k ∷ ks) zero = take_all (length (backs text (k ∷ ks))) (backs text (k ∷ ks)) (omega arith)
-    begins text (k ∷ ks) (suc m) =
-        let short : length (backs text (drop m ks)) ≤ length (backs text ks) = backs-shorter text ks m in
-        take-append-le (length (backs text (drop m ks))) (backs text ks) (flat_back (all_changed text (backs text ks)) k ∷ []) short ∙ begins text ks m
-
--- one shift more in a list
-pub one_more : (old now new ss ts : List Shift) (s t : Shift) → now ≡ old ++ ss → new ≡ now ++ s ∷ [] → s ≡ t → ts ≡ ss ++ t ∷ [] → new ≡ old ++ ts
-one_more old now new ss ts s t h n e k = n ∙ ap₂ (λ x y. x ++ y ∷ []) h e ∙ append_assoc old ss (t ∷ []) ∙ ap (λ x. old ++ x) (sym k)
 
 -- a change that was taken back fits again
 pub back-fits : (text : List ℕ) (k : Kept) → IsMade text (k ∷ []) → Fits (changed text (flat_back text k)) k

@@ -19,7 +19,7 @@ use Rattle.buffer_store.proofs.MakingLemmas.{backs-undoing}
 use Rattle.buffer_store.proofs.SeenLemmas.{nodes-long, node-parent, node-heir, node-text, nodes-with_heir, told-story}
 
 -- a branch of which one has another heir has its parent and its changes
-aimed-parent : (bs : List Branch) (p child m : ℕ) → p < length bs → (branch_at (set bs p (aimed_branch (branch_at bs p) child)) m).parent ≡ (branch_at bs m).parent
+pub aimed-parent : (bs : List Branch) (p child m : ℕ) → p < length bs → (branch_at (set bs p (aimed_branch (branch_at bs p) child)) m).parent ≡ (branch_at bs m).parent
 aimed-parent bs p child m h =
     elim (test_cases (eqb m p)) [
       | inl e ↦ (let same : m ≡ p = eqb-true m p e in
@@ -27,7 +27,7 @@ aimed-parent bs p child m h =
       | inr e ↦ ap (λ (b : Branch). b.parent) (get_or-set_other bs p m (aimed_branch (branch_at bs p) child) (record { parent = 0; heir = None; changes = [] }) (eqb-false m p e))
     ]
 
-aimed-changes : (bs : List Branch) (p child m : ℕ) → p < length bs → (branch_at (set bs p (aimed_branch (branch_at bs p) child)) m).changes ≡ (branch_at bs m).changes
+pub aimed-changes : (bs : List Branch) (p child m : ℕ) → p < length bs → (branch_at (set bs p (aimed_branch (branch_at bs p) child)) m).changes ≡ (branch_at bs m).changes
 aimed-changes bs p child m h =
     elim (test_cases (eqb m p)) [
       | inl e ↦ (let same : m ≡ p = eqb-true m p e in

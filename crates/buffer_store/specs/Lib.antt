@@ -1,4 +1,9 @@
 pub mod Stored
+pub mod Traces
 pub mod Seen
+pub mod Histories
+pub mod Buffers
+pub mod Limits
 pub mod Laws
+pub mod Walks
 pub mod Examples

@@ -1,5 +1,5 @@
 -- Changes as a buffer keeps them: by coordinates and with their characters, so that each can be made and taken back.
-use Rattle.std.specs.Prelude.{◌≡◌, ℕ, ◌+◌, Bool, not, if◌then◌else◌, List, [], ◌∷◌, ◌++◌, length, take, ⊤, MatchOption}
+use Rattle.std.specs.Prelude.{◌≡◌, ℕ, ◌+◌, Bool, not, if◌then◌else◌, List, [], ◌∷◌, ◌++◌, length, ⊤, MatchOption}
 use Rattle.std.specs.declared.option.Option.{Option}
 use Rattle.text_model.specs.declared.coords.Shift.{Shift}
 use Rattle.text_model.specs.Texts.{IsStored, offset, coord_at}
@@ -60,11 +60,6 @@ abbrev pub backs : List ℕ → List Kept → List Change
 backs text [] = []
 backs text (k ∷ ks) = backs text ks ++ flat_back (all_changed text (backs text ks)) k ∷ []
 
--- a text is another one behind some of its changes
-pub record IsAfterSome (old : List ℕ) (cs : List Change) (new : List ℕ) : Type 0 where
-  pub count : ℕ
-  pub is_after : new ≡ all_changed old (take count cs)
-
 -- a text behind kept changes that fit the text before them
 pub record IsMade (text : List ℕ) (ks : List Kept) : Type 0 where
   pub before : List ℕ
@@ -75,6 +70,7 @@ pub record IsMade (text : List ℕ) (ks : List Kept) : Type 0 where
 pub record IsKept (old new : List ℕ) (cs : List Change) (k : Kept) : Type 0 where
   pub fits : Fits old k
   pub is_change : cs ≡ flat old k ∷ []
+  pub leads : new ≡ changed old (flat old k)
   pub made : IsMade new (k ∷ [])
 
 -- what is kept of at most one change of a text: none where there is none

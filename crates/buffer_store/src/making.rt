@@ -2,13 +2,16 @@
 
 ghost use Rattle.std.specs.Prelude.{◌≡◌, ℕ, ◌+◌, ◌++◌, ◌⊎◌, [], ◌∷◌, length, IfOk, OnOk, OnErr, IsTrue};
 ghost use Rattle.text_model.specs.Texts.{IsStored, IsPlaceOrEnd, offset};
-ghost use Rattle.text_model.specs.Changes.{Insertion, Erasure, changed, all_changed};
+ghost use Rattle.text_model.specs.Changes.{Insertion, Erasure, changed};
 ghost use Rattle.undo_model.specs.Steps.{IsStep};
-ghost use Rattle.buffer_store.specs.Stored.{turn, flat, flat_back, shift_of, shifts_of, Fits, AllFit, flats, made, backs, IsAfterSome, IsMade};
+ghost use Rattle.buffer_store.specs.Stored.{turn, flat, flat_back, shift_of, Fits, AllFit, flats, backs, IsMade};
+ghost use Rattle.buffer_store.specs.Traces.{trace, after, IsAfterSome};
 
+use crate::marking::mark_of;
 use change_list::Change;
 use kak_text::{Coord, Shift};
 use line_buffer::{Lines, LinesError};
+use selection_set::Sel;
 use std::alloc::{AllocError, Global};
 
 /// Makes a change that fits the text, and gives its shift. After an error the text is as it was.
@@ -49,45 +52,91 @@ pub fn take_back(lines: &mut Lines, alloc: Global, change: &Change) -> Result<Sh
     )
 }
 
-/// Makes changes that fit the text, one after another, and adds their shifts to a list. After an error the text is as it is
-/// behind some of them.
-pub fn make_all(
+/// Makes changes that fit the text, one after another, and adds the shift and the mark of each to lists. After an error the
+/// text is as it is behind some of them, and these are the shifts and marks of those.
+pub(crate) fn make_all(
     lines: &mut Lines,
     alloc: Global,
     changes: &[Change],
     shifts: &mut Vec<Shift>,
+    marks: &mut Vec<Sel>,
 ) -> Result<(), AllocError>
     requires { AllFit lines.old changes.now }
-    ensures text { OnOk result (lines.new ≡ made lines.old changes.now) }
-    ensures shifts { OnOk result (shifts.new.items ≡ shifts.old.items ++ shifts_of lines.old (flats lines.old changes.now)) }
-    ensures err { OnErr result (IsAfterSome lines.old (flats lines.old changes.now) lines.new) }
+    ensures ok { OnOk result (trace lines.new shifts.new.items marks.new.items
+        ≡ after (trace lines.old shifts.old.items marks.old.items) (flats lines.old changes.now)) }
+    ensures err { OnErr result (IsAfterSome (trace lines.old shifts.old.items marks.old.items)
+        (flats lines.old changes.now) (trace lines.new shifts.new.items marks.new.items)) }
 {
     for change in changes {
-        let shift = make(lines, alloc, change)?;
-        shifts.push(shift)?;
+        make_noted(lines, alloc, change, shifts, marks)?;
     }
     Ok(())
 }
 
-/// Takes the last changes of a text back, from the last to the first, and adds the shifts of that to a list. After an error
-/// the text is as it is behind some of that.
-pub fn take_all_back(
+/// Takes the last changes of a text back, from the last to the first, and adds the shift and the mark of each to lists. After
+/// an error the text is as it is behind some of that, and these are the shifts and marks of that.
+pub(crate) fn take_all_back(
     lines: &mut Lines,
     alloc: Global,
     changes: &[Change],
     shifts: &mut Vec<Shift>,
+    marks: &mut Vec<Sel>,
 ) -> Result<(), AllocError>
     requires { IsMade lines.old changes.now }
-    ensures text { OnOk result (lines.new ≡ all_changed lines.old (backs lines.old changes.now)) }
-    ensures shifts { OnOk result (shifts.new.items ≡ shifts.old.items ++ shifts_of lines.old (backs lines.old changes.now)) }
-    ensures err { OnErr result (IsAfterSome lines.old (backs lines.old changes.now) lines.new) }
+    ensures ok { OnOk result (trace lines.new shifts.new.items marks.new.items
+        ≡ after (trace lines.old shifts.old.items marks.old.items) (backs lines.old changes.now)) }
+    ensures err { OnErr result (IsAfterSome (trace lines.old shifts.old.items marks.old.items)
+        (backs lines.old changes.now) (trace lines.new shifts.new.items marks.new.items)) }
 {
     let mut left = changes.len();
     while left > 0 {
         left -= 1;
-        let shift = take_back(lines, alloc, &changes[left])?;
-        shifts.push(shift)?;
+        take_back_noted(lines, alloc, &changes[left], shifts, marks)?;
     }
+    Ok(())
+}
+
+// Makes a change that fits the text, and adds its shift and its mark to lists. After an error all is as it was.
+fn make_noted(
+    lines: &mut Lines,
+    alloc: Global,
+    change: &Change,
+    shifts: &mut Vec<Shift>,
+    marks: &mut Vec<Sel>,
+) -> Result<(), AllocError>
+    requires { Fits lines.old change.now }
+    ensures ok { OnOk result (trace lines.new shifts.new.items marks.new.items
+        ≡ after (trace lines.old shifts.old.items marks.old.items) (flat lines.old change.now ∷ [])) }
+    ensures err { OnErr result (trace lines.new shifts.new.items marks.new.items ≡ trace lines.old shifts.old.items marks.old.items) }
+{
+    shifts.reserve(1)?;
+    marks.reserve(1)?;
+    let shift = make(lines, alloc, change)?;
+    let mark = mark_of(lines, shift);
+    shifts.push_reserved(shift);
+    marks.push_reserved(mark);
+    Ok(())
+}
+
+// Takes the last change of a text back, and adds the shift and the mark of that to lists. After an error all is as it was.
+fn take_back_noted(
+    lines: &mut Lines,
+    alloc: Global,
+    change: &Change,
+    shifts: &mut Vec<Shift>,
+    marks: &mut Vec<Sel>,
+) -> Result<(), AllocError>
+    requires { IsMade lines.old (change.now ∷ []) }
+    ensures ok { OnOk result (trace lines.new shifts.new.items marks.new.items
+        ≡ after (trace lines.old shifts.old.items marks.old.items) (flat_back lines.old change.now ∷ [])) }
+    ensures err { OnErr result (trace lines.new shifts.new.items marks.new.items ≡ trace lines.old shifts.old.items marks.old.items) }
+{
+    shifts.reserve(1)?;
+    marks.reserve(1)?;
+    let shift = take_back(lines, alloc, change)?;
+    let mark = mark_of(lines, shift);
+    shifts.push_reserved(shift);
+    marks.push_reserved(mark);
     Ok(())
 }
 

@@ -4,14 +4,14 @@ use line_buffer::Lines;
 use std::alloc::Global;
 use std::test::Fail;
 
-fn lines(alloc: Global, text: &str) -> Result<Lines, Fail> {
+pub(crate) fn lines(alloc: Global, text: &str) -> Result<Lines, Fail> {
     let chars = Chars::from_str(alloc, text)?;
     let text = Text::of_chars(alloc, chars.as_slice())?;
     Ok(Lines::of_text(alloc, &text)?)
 }
 
 // The text as a string.
-fn whole(alloc: Global, lines: &Lines) -> Result<String, Fail> {
+pub(crate) fn whole(alloc: Global, lines: &Lines) -> Result<String, Fail> {
     let text = lines.to_text(alloc)?;
     let mut out = String::new(alloc);
     for c in text.as_slice() {

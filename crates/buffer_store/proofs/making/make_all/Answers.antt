@@ -1,27 +1,18 @@
-use Rattle.std.proofs.Common.{List, ℕ, ◌+◌, ap, sym, subst, ◌∙◌}
-use Rattle.text_model.specs.Changes.{changed}
-use Rattle.buffer_store.specs.Stored.{flat, shift_of, Fits}
-use Rattle.buffer_store.proofs.MakingLemmas.{on_any, fit-at, made-more, shifts-more, after-made, one_more}
+use Rattle.std.proofs.Common.{ℕ, List, sym, subst, ◌∙◌}
+use Rattle.buffer_store.specs.Stored.{Fits}
+use Rattle.buffer_store.proofs.MakingLemmas.{on_any, fit-at}
+use Rattle.buffer_store.proofs.TraceLemmas.{text-made, flats-more, some-made, after-more}
 use Rattle.buffer_store.proofs.making.make_all.Goals as goal
 
-pub make-requires : goal.make-requires
-make-requires c =
+pub make_noted-requires : goal.make_noted-requires
+make_noted-requires c =
     let P : List ℕ → Type 0 = λ t. Fits t c.change-item.result in
-    subst P (sym c.loop-change.invariant.text) (fit-at c.args.lines.now c.args.changes.now c.loop-change.change-index c.change-item.result c.requires c.loop-change-test.true c.change-item.is)
+    subst P (sym (text-made _ _ _ _ _ _ _ c.loop-change.invariant)) (fit-at c.args.lines.now c.args.changes.now c.loop-change.change-index c.change-item.result c.requires c.loop-change-test.true c.change-item.is)
 
-pub returns-in_err-shift-clause-err : goal.returns-in_err-shift-clause-err
-returns-in_err-shift-clause-err c =
-    on_any c.from_residual.result _ (after-made c.args.lines.now c.args.changes.now c.loop-change.change-index c.make.new.lines (c.in_err-shift.ensures.err ∙ c.loop-change.invariant.text))
-
-pub returns-in_err-push-clause-err : goal.returns-in_err-push-clause-err
-returns-in_err-push-clause-err c =
-    let k = c.change-item.result in
-    on_any c.from_residual-in_err-push.result _ (after-made c.args.lines.now c.args.changes.now (c.loop-change.change-index + 1) c.make.new.lines (c.in_ok-shift.ensures.text ∙ ap (λ t. changed t (flat t k)) c.loop-change.invariant.text ∙ sym (made-more c.args.lines.now c.args.changes.now c.loop-change.change-index k c.loop-change-test.true c.change-item.is)))
+pub returns-in_err-make_noted-clause-err : goal.returns-in_err-make_noted-clause-err
+returns-in_err-make_noted-clause-err c =
+    on_any c.from_residual.result _ (some-made _ _ c.args.changes.now c.loop-change.change-index (c.in_err-make_noted.ensures.err ∙ c.loop-change.invariant))
 
 pub loop-change-preserved : goal.loop-change-preserved
 loop-change-preserved c =
-    let k = c.change-item.result in
-    record {
-      text = c.in_ok-shift.ensures.text ∙ ap (λ t. changed t (flat t k)) c.loop-change.invariant.text ∙ sym (made-more c.args.lines.now c.args.changes.now c.loop-change.change-index k c.loop-change-test.true c.change-item.is);
-      shifts = one_more c.args.shifts.now.items c.loop-change.shifts.items c.push.new.self.items _ _ c.in_ok-shift.shift _ c.loop-change.invariant.shifts c.in_ok-push.ensures.items (c.in_ok-shift.ensures.shift ∙ ap (λ t. shift_of t (flat t k)) c.loop-change.invariant.text) (shifts-more c.args.lines.now c.args.changes.now c.loop-change.change-index k c.loop-change-test.true c.change-item.is);
-    }
+    after-more _ _ _ _ _ _ c.loop-change.invariant c.in_ok-make_noted.ensures.ok (flats-more c.args.lines.now c.loop-change.lines c.args.changes.now c.loop-change.change-index c.change-item.result c.loop-change-test.true c.change-item.is (text-made _ _ _ _ _ _ _ c.loop-change.invariant))
