@@ -1,0 +1,10 @@
+pub mod TypingLemmas
+pub mod EachLemmas
+pub mod ErasingLemmas
+pub mod PuttingLemmas
+pub mod ShapeLemmas
+pub mod EndedLemmas
+pub mod CountLemmas
+pub mod UnderwayLemmas
+pub mod LeftLemmas
+pub mod HomeLemmas

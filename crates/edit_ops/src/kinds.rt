@@ -1,0 +1,25 @@
+//! What is erased at selections, and where characters are put.
+
+/// What is erased at a selection.
+#[derive(Clone, Copy, PartialEq, Eq, Debug)]
+pub enum Erase {
+    /// Its characters.
+    Selection,
+    /// The character before its cursor, where there is one.
+    BeforeCursor,
+    /// The character at its cursor.
+    AtCursor,
+}
+
+/// Where characters are put at a selection.
+#[derive(Clone, Copy, PartialEq, Eq, Debug)]
+pub enum Put {
+    /// Before its first character; whole lines before its first line.
+    Before,
+    /// Behind its last character; whole lines behind its last line.
+    After,
+    /// In the place of its characters.
+    Over,
+    /// Before its cursor.
+    BeforeCursor,
+}

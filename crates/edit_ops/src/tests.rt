@@ -1,0 +1,139 @@
+ghost use Rattle.std.specs.Prelude.{IfOk};
+ghost use Rattle.std.specs.List.{AllByRecursion};
+ghost use Rattle.selection_set.specs.Listing.{IsPairInside};
+ghost use Rattle.selection_set.specs.Held.{IsHeld};
+
+use super::*;
+use buffer_store::Splice;
+use kak_ports::Words;
+use kak_text::{Chars, Coord, Text};
+use line_buffer::Lines;
+use selection_set::{Pair, Sels};
+use std::alloc::Global;
+use std::process::Abort;
+use std::test::Fail;
+
+fn lines(alloc: Global, text: &str) -> Result<Lines, Fail> {
+    let chars = Chars::from_str(alloc, text)?;
+    let text = Text::of_chars(alloc, chars.as_slice())?;
+    Ok(Lines::of_text(alloc, &text)?)
+}
+
+// The ends of a selection, by their offsets.
+fn pair<R: Abort>(rt: &R, lines: &Lines, anchor: usize, cursor: usize) -> Pair
+    ensures { IsPairInside lines.now result }
+{
+    assert!(rt; anchor < lines.len());
+    assert!(rt; cursor < lines.len());
+    Pair {
+        anchor: lines.coord_of(anchor),
+        cursor: lines.coord_of(cursor),
+    }
+}
+
+// The selections between some ends, of which the first is the main one.
+fn listed<R: Abort>(rt: &R, alloc: Global, lines: &Lines, pairs: &[Pair]) -> Result<Sels, Fail>
+    requires { AllByRecursion (IsPairInside lines.now) pairs.now }
+    ensures { IfOk result (λ s. IsHeld lines.now s) }
+{
+    assert!(rt; 0 < pairs.len());
+    Ok(Sels::of_pairs(alloc, pairs, 0)?)
+}
+
+fn words(alloc: Global, strings: &[&str]) -> Result<Words, Fail> {
+    let mut words = Words::new(alloc);
+    for string in strings {
+        words.push(String::from_str(alloc, string)?)?;
+    }
+    Ok(words)
+}
+
+fn at(line: u32, column: u32) -> Coord {
+    Coord { line, column }
+}
+
+// The replacements are just these.
+fn assert_splices<R: Abort>(
+    rt: &R,
+    alloc: Global,
+    splices: &[Splice],
+    expected: &[(Coord, Coord, &str)],
+) -> Result<(), Fail> {
+    assert_eq!(rt; splices.len(), expected.len());
+    for (i, (from, to, text)) in expected.iter().enumerate() {
+        assert!(rt; i < splices.len());
+        let chars = Chars::from_str(alloc, text)?;
+        assert_eq!(rt; splices[i].from, *from);
+        assert_eq!(rt; splices[i].to, *to);
+        assert_eq!(rt; splices[i].text.as_slice(), chars.as_slice());
+    }
+    Ok(())
+}
+
+#[test]
+fn selections_are_erased(rt: HostRuntime) -> Result<(), Fail> {
+    let alloc = rt.alloc();
+    let text = lines(alloc, "ab\nc\n")?;
+    let pairs = [pair(&rt, &text, 1, 0), pair(&rt, &text, 2, 4)];
+    let sels = listed(&rt, alloc, &text, pairs.as_slice())?;
+    let splices = erase(alloc, &text, &sels, Erase::Selection)?;
+    let expected = [(at(0, 0), at(0, 2), ""), (at(0, 2), at(2, 0), "")];
+    assert_splices(&rt, alloc, splices.as_slice(), expected.as_slice())
+}
+
+#[test]
+fn characters_beside_cursors_are_erased(rt: HostRuntime) -> Result<(), Fail> {
+    let alloc = rt.alloc();
+    let text = lines(alloc, "ab\nc\n")?;
+    let pairs = [pair(&rt, &text, 1, 0), pair(&rt, &text, 2, 3)];
+    let sels = listed(&rt, alloc, &text, pairs.as_slice())?;
+    let before = erase(alloc, &text, &sels, Erase::BeforeCursor)?;
+    let expected = [(at(0, 0), at(0, 0), ""), (at(0, 2), at(1, 0), "")];
+    assert_splices(&rt, alloc, before.as_slice(), expected.as_slice())?;
+    let there = erase(alloc, &text, &sels, Erase::AtCursor)?;
+    let expected = [(at(0, 0), at(0, 1), ""), (at(1, 0), at(1, 1), "")];
+    assert_splices(&rt, alloc, there.as_slice(), expected.as_slice())
+}
+
+#[test]
+fn strings_are_put_in_order(rt: HostRuntime) -> Result<(), Fail> {
+    let alloc = rt.alloc();
+    let text = lines(alloc, "abcd\n")?;
+    let pairs = [
+        pair(&rt, &text, 0, 0),
+        pair(&rt, &text, 1, 1),
+        pair(&rt, &text, 3, 2),
+    ];
+    let sels = listed(&rt, alloc, &text, pairs.as_slice())?;
+    let strings = words(alloc, ["x", "é"].as_slice())?;
+    let over = put(alloc, &text, &sels, &strings, Put::Over)?;
+    let expected = [
+        (at(0, 0), at(0, 1), "x"),
+        (at(0, 1), at(0, 2), "é"),
+        (at(0, 2), at(0, 4), "é"),
+    ];
+    assert_splices(&rt, alloc, over.as_slice(), expected.as_slice())?;
+    let none = words(alloc, [].as_slice())?;
+    let before = put(alloc, &text, &sels, &none, Put::BeforeCursor)?;
+    let expected = [
+        (at(0, 0), at(0, 0), ""),
+        (at(0, 1), at(0, 1), ""),
+        (at(0, 2), at(0, 2), ""),
+    ];
+    assert_splices(&rt, alloc, before.as_slice(), expected.as_slice())
+}
+
+#[test]
+fn one_line_makes_all_lines(rt: HostRuntime) -> Result<(), Fail> {
+    let alloc = rt.alloc();
+    let text = lines(alloc, "ab\ncd\n")?;
+    let pairs = [pair(&rt, &text, 1, 3), pair(&rt, &text, 4, 4)];
+    let sels = listed(&rt, alloc, &text, pairs.as_slice())?;
+    let strings = words(alloc, ["x", "y\n"].as_slice())?;
+    let behind = put(alloc, &text, &sels, &strings, Put::After)?;
+    let expected = [(at(2, 0), at(2, 0), "x"), (at(2, 0), at(2, 0), "y\n")];
+    assert_splices(&rt, alloc, behind.as_slice(), expected.as_slice())?;
+    let before = put(alloc, &text, &sels, &strings, Put::Before)?;
+    let expected = [(at(0, 0), at(0, 0), "x"), (at(1, 0), at(1, 0), "y\n")];
+    assert_splices(&rt, alloc, before.as_slice(), expected.as_slice())
+}
