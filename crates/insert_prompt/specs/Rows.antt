@@ -1,24 +1,20 @@
 -- The rows of insert mode and of prompts: what each key does.
-use Rattle.std.specs.Prelude.{ℕ, ◌+◌, ◌*◌, Bool, nat_lt, if◌then◌else◌, List, [], ◌∷◌, ◌++◌, length}
+use Rattle.std.specs.Prelude.{ℕ, Bool, not, ◌==◌, ◌&&◌, ◌||◌, if◌then◌else◌, List, [], ◌∷◌, ◌++◌, map}
 use Rattle.key_names.specs.declared.key.Key.{Key}
 use Rattle.key_names.specs.declared.key.Base.{Base}
 use Rattle.key_names.specs.declared.key.Base.TheVariants.{Char, Ret, Tab, Esc}
 use Rattle.key_names.specs.Modified.{is_modified}
-use Rattle.text_model.specs.declared.TheConstants.{MAX_CHARS}
 use Rattle.kak_world.specs.declared.ask.Ask.TheVariants.{Commands}
-use Rattle.kak_world.specs.declared.ask.EditError.TheVariants.{TextFull}
 use Rattle.kak_world.specs.declared.own.Mode.TheVariants.{Normal}
-use Rattle.kak_world.specs.Flat.{Flat, text_of, sels_of, prompt_of, with_own}
-use Rattle.kak_world.specs.Changing.{put_before_cursors}
-use Rattle.kak_world.specs.Rows.{RowEnd, Asks, does, fails}
-
--- whether a text has no room for characters before each cursor
-abbrev pub is_full : List ℕ → ℕ → Flat → Bool
-is_full s who flat = nat_lt MAX_CHARS (length (text_of who flat) + length (sels_of who flat).list * length s)
+use Rattle.edit_ops.specs.Typing.{typed_before}
+use Rattle.kak_world.specs.Flat.{Flat, sels_of, prompt_of, with_own}
+use Rattle.kak_world.specs.Changing.{commits}
+use Rattle.kak_world.specs.Rows.{RowEnd, Asks, does}
+use Rattle.kak_world.specs.Editing.{edit_row}
 
 -- characters go in before each cursor
 abbrev pub typed : List ℕ → ℕ → Flat → RowEnd
-typed s who flat = if is_full s who flat then fails TextFull flat else does (put_before_cursors s who flat)
+typed s who flat = edit_row (map (typed_before s) (sels_of who flat).list) who flat
 
 -- the client is in normal mode
 abbrev pub leave_insert : ℕ → Flat → Flat
@@ -33,9 +29,16 @@ insert_base Tab who flat = typed (9 ∷ []) who flat
 insert_base Esc who flat = does (leave_insert who flat)
 insert_base _ who flat = does flat
 
+-- the row of a key with control alone in insert mode: `<c-u>` commits what is pending of the client
+abbrev pub insert_control : Base → ℕ → Flat → RowEnd
+insert_control (Char c) who flat = if c == 117 then does (commits who flat) else does flat
+insert_control _ who flat = does flat
+
 -- the row of a key in insert mode; a key without a row does nothing
 unfoldable pub row_insert : Key → ℕ → Flat → RowEnd
-row_insert key who flat = if is_modified key then does flat else insert_base key.base who flat
+row_insert key who flat =
+    if key.control && not (key.alt || key.shift) then insert_control key.base who flat
+    else (if is_modified key then does flat else insert_base key.base who flat)
 
 -- a character goes in at the end of the prompt
 abbrev pub prompt_character : ℕ → ℕ → Flat → RowEnd

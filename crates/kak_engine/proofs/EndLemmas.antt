@@ -5,7 +5,7 @@ use Rattle.std.specs.declared.result.Result.{Result}
 use Rattle.std.specs.declared.alloc.AllocError.{AllocError}
 use Rattle.kak_world.specs.declared.ask.Ask.{Ask}
 use Rattle.kak_world.specs.declared.ask.EditError.{EditError}
-use Rattle.kak_world.specs.declared.ask.EditError.TheVariants.{TextFull, NoSuchCommand, NothingSelected, TooManySelections, BudgetSpent, NoMemory}
+use Rattle.kak_world.specs.declared.ask.EditError.TheVariants.{TextFull, UndoFull, NothingToUndo, NothingToRedo, NoSuchNode, NoSuchCommand, NothingSelected, TooManySelections, BudgetSpent, NoMemory}
 use Rattle.kak_world.specs.Flat.{Flat, is_joined, units_of, with_units}
 use Rattle.kak_world.specs.Rows.{Asks, Fails, GivesUp, RowEnd, Gives, error_text}
 use Rattle.command_set.specs.Rows.{row_command}
@@ -53,6 +53,10 @@ pub row-fails : (who : ℕ) (error : EditError) (r : Result Ending AllocError) (
     → (before : Flat) (end : RowEnd) → Gives (Err error) now end → Ends r (λ m. go_on (Do who) top end m) before now
 row-fails who error (Err e) now f n before end g = tt
 row-fails who TextFull (Ok e) now f n before end g = failed-row who (error_text TextFull) e now before end g f
+row-fails who UndoFull (Ok e) now f n before end g = failed-row who (error_text UndoFull) e now before end g f
+row-fails who NothingToUndo (Ok e) now f n before end g = failed-row who (error_text NothingToUndo) e now before end g f
+row-fails who NothingToRedo (Ok e) now f n before end g = failed-row who (error_text NothingToRedo) e now before end g f
+row-fails who NoSuchNode (Ok e) now f n before end g = failed-row who (error_text NoSuchNode) e now before end g f
 row-fails who (NoSuchCommand name) (Ok e) now f n before end g = failed-row who (error_text (NoSuchCommand name)) e now before end g f
 row-fails who NothingSelected (Ok e) now f n before end g = failed-row who (error_text NothingSelected) e now before end g f
 row-fails who TooManySelections (Ok e) now f n before end g = failed-row who (error_text TooManySelections) e now before end g f

@@ -10,7 +10,7 @@ use Rattle.kak_world.specs.declared.own.Status.TheVariants.{Quiet, Refused}
 use Rattle.kak_world.specs.Flat.{Flat, is_joined, is_leaving, mode_of, units_of, with_own, with_units}
 use Rattle.kak_world.specs.Rows.{Row, Asks, Fails, GivesUp, RowEnd}
 use Rattle.kak_world.specs.Keeping.{KeepsClients}
-use Rattle.kak_world.proofs.KeepingLaws.{keeps_same, keeps_after, keeps_own, keeps_units, keeps_view}
+use Rattle.kak_world.proofs.KeepingLaws.{keeps_same, keeps_after, keeps_own, keeps_units, keeps_view, keeps_commits}
 use Rattle.normal_keys.proofs.KeepingLaws.{keeps_normal}
 use Rattle.insert_prompt.proofs.KeepingLaws.{keeps_insert, keeps_prompt}
 use Rattle.command_set.specs.Rows.{commands_of, row_command}
@@ -18,7 +18,7 @@ use Rattle.command_set.proofs.CommandLaws.{command_world}
 use Rattle.draw_model.specs.Drawings.{after_following}
 use Rattle.session_events.specs.declared.event.Answered.{Answered}
 use Rattle.kak_engine.specs.Doing.{End, Fine, Failed, GivenUp, Moment, Outcome, Part, Place, Go, in_world, after, and_then, each, unit_of, go_on, run_command, do_ask, body, do_within, Do, row_in, row_key, strike}
-use Rattle.kak_engine.specs.Steps.{told, begun, first_moment, ended, after_key, noted_drawn}
+use Rattle.kak_engine.specs.Steps.{told, begun, first_moment, ends_group, group_ended, ended, after_key, noted_drawn}
 
 -- a part of a step that keeps the clients, wherever it begins
 abbrev pub Keeps : Part → Type 0
@@ -96,10 +96,16 @@ keeps-begun who flat =
     let quiet : Flat = with_own who (λ o. record o { status = Quiet }) flat in
     keeps_after flat quiet (begun who flat) (keeps_own who (λ o. record o { status = Quiet }) flat) (keeps_units 4096 quiet)
 
+keeps-group : (mode : Mode) (who : ℕ) (flat : Flat) → KeepsClients flat (ends_group mode who flat)
+keeps-group Insert who flat = keeps_same flat
+keeps-group Normal who flat = keeps_commits who flat
+keeps-group Prompt who flat = keeps_commits who flat
+
 keeps-ended : (who : ℕ) (o : Outcome) (flat : Flat) → KeepsClients flat o.moment.world → KeepsClients flat (ended who o)
 keeps-ended who o flat k =
     let said : Flat = told who o.end o.moment.world in
-    keeps_after flat said (ended who o) (keeps_after flat o.moment.world said k (keeps-told who o.end o.moment.world)) (keeps_units 0 said)
+    let settled : Flat = group_ended who said in
+    keeps_after flat settled (ended who o) (keeps_after flat said settled (keeps_after flat o.moment.world said k (keeps-told who o.end o.moment.world)) (keeps-group (mode_of who said) who said)) (keeps_units 0 settled)
 
 keeps-chosen : (t : Bool) (old a b : Flat) → KeepsClients old a → KeepsClients old b → KeepsClients old (if t then a else b)
 keeps-chosen true old a b f g = f

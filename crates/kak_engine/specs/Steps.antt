@@ -2,9 +2,12 @@
 use Rattle.std.specs.Prelude.{ℕ, Bool, true, false, not, ◌&&◌, ◌==◌, nat_le, if◌then◌else◌, List, [], ◌∷◌, length, None, Some}
 use Rattle.std.specs.List.{list_any}
 use Rattle.key_names.specs.declared.key.Key.{Key}
+use Rattle.kak_world.specs.declared.own.Mode.{Mode}
+use Rattle.kak_world.specs.declared.own.Mode.TheVariants.{Normal, Insert, Prompt}
 use Rattle.kak_world.specs.declared.own.Status.TheVariants.{Quiet, Refused}
 use Rattle.kak_world.specs.declared.world.TheConstants.{MAX_CLIENTS}
-use Rattle.kak_world.specs.Flat.{Flat, opening, is_joined, joined_by, left_by, is_leaving, with_own, with_units}
+use Rattle.kak_world.specs.Flat.{Flat, opening, is_joined, joined_by, left_by, mode_of, is_leaving, with_own, with_units}
+use Rattle.kak_world.specs.Changing.{commits}
 use Rattle.draw_model.specs.Drawings.{drawing_of, after_following}
 use Rattle.session_events.specs.declared.event.Event.{Event}
 use Rattle.session_events.specs.declared.event.Event.TheVariants.{Join, Key as Struck, Refresh, Leave}
@@ -32,9 +35,18 @@ begun who flat = with_units 4096 (with_own who (λ o. record o { status = Quiet 
 abbrev pub first_moment : ℕ → Flat → List Answered → Moment
 first_moment who flat answers = record { world = begun who flat; answers = answers; fit = true }
 
+-- what is pending of a client whose key ends in a mode: outside insert mode it is committed
+abbrev pub ends_group : Mode → ℕ → Flat → Flat
+ends_group Insert who flat = flat
+ends_group Normal who flat = commits who flat
+ends_group Prompt who flat = commits who flat
+
+abbrev pub group_ended : ℕ → Flat → Flat
+group_ended who flat = ends_group (mode_of who flat) who flat
+
 -- the world when a key ends, with no units left between steps
 abbrev pub ended : ℕ → Outcome → Flat
-ended who o = with_units 0 (told who o.end o.moment.world)
+ended who o = with_units 0 (group_ended who (told who o.end o.moment.world))
 
 -- the world after a key; once a client was granted to leave, its keys do nothing
 unfoldable pub after_key : ℕ → Key → List Answered → Flat → Flat

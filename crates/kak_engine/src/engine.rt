@@ -5,7 +5,7 @@ ghost use Rattle.std.specs.Prelude.{◌≡◌, ◌<◌, ◌≤◌, ◌^◌, [], 
 ghost use Rattle.kak_world.specs.Flat.{is_here, is_joined, is_leaving};
 ghost use Rattle.kak_world.specs.Settled.{AllListsSettled};
 ghost use Rattle.kak_world.specs.declared.world.TheConstants.{MAX_CLIENTS};
-ghost use Rattle.kak_engine.specs.Steps.{after_key, after_event, output_of, has_joined, run, begun, told, refused, noted_drawn};
+ghost use Rattle.kak_engine.specs.Steps.{after_key, after_event, output_of, has_joined, run, begun, told, refused, group_ended, noted_drawn};
 ghost use Rattle.kak_engine.specs.Seen.{end_seen};
 ghost use Rattle.kak_engine.specs.Held.{refusal_of, refused_by, marked_after, marked_by, CanRun};
 ghost use Rattle.session_events.specs.declared.event.Event.TheVariants.{Leave};
@@ -18,7 +18,7 @@ use crate::doing::{Ending, strike};
 use draw_model::{draw, follow_cursor};
 use json_writing::Drawing;
 use kak_text::Chars;
-use kak_world::{MAX_CLIENTS, Status, World};
+use kak_world::{MAX_CLIENTS, Mode, Status, World};
 use key_names::Key;
 use session_events::{Answers, Entry, Event, Output, StepFault, is_join, is_leave};
 use std::alloc::{AllocError, Global};
@@ -68,6 +68,19 @@ fn tell(alloc: Global, world: &mut World, who: u32, ending: Ending) -> Result<()
     Ok(())
 }
 
+// Ends what is pending of a client whose key ends: outside insert mode it is committed.
+fn end_group(world: &mut World, who: u32)
+    requires { is_joined who world.old.flat ≡ true }
+    ensures { world.new.flat ≡ group_ended who world.old.flat }
+{
+    let mode = world.own(who).mode;
+    match mode {
+        Mode::Insert => {}
+        Mode::Normal => world.commit(who),
+        Mode::Prompt => world.commit(who),
+    }
+}
+
 // The world when a key of a client begins.
 fn begin(world: &mut World, who: u32)
     requires { is_joined who world.old.flat ≡ true }
@@ -86,6 +99,7 @@ fn run_struck(alloc: Global, world: &mut World, who: u32, key: Key) -> Result<()
     begin(world, who);
     let ending = strike(alloc, world, who, key)?;
     tell(alloc, world, who, ending)?;
+    end_group(world, who);
     world.set_units(0);
     Ok(())
 }

@@ -313,6 +313,81 @@ fn what_one_types_moves_the_other(rt: HostRuntime) -> Result<(), Fail> {
     Ok(())
 }
 
+// What stands in a client's status line after its keys.
+fn status_after(alloc: Global, engine: &mut Engine, who: u32, keys: &str) -> Result<String, Fail> {
+    strike_all(alloc, engine, &[(who, keys)])?;
+    let output = engine.step(alloc, who, Event::Refresh(true))?;
+    let drawing = output.drawing.ok_or("nothing is drawn")?;
+    let mut status = String::new(alloc);
+    add_line(&mut status, &drawing.status)?;
+    Ok(status)
+}
+
+#[test]
+fn history_ends_at_the_first_text_and_at_the_last(rt: HostRuntime) -> Result<(), Fail> {
+    let alloc = rt.alloc();
+    let mut engine = engine_of(alloc, 1)?;
+    let rows = [
+        ("u", "nothing to undo"),
+        ("U", "nothing to redo"),
+        ("<c-k>", "no such undo node"),
+        ("<c-j>", "no such undo node"),
+        ("ia<esc>u", ""),
+        ("u", "nothing to undo"),
+        ("U", ""),
+        ("2u", "nothing to undo"),
+    ];
+    for &(keys, wanted) in &rows {
+        let status = status_after(alloc, &mut engine, 0, keys)?;
+        assert_eq!(rt; status.as_str(), wanted);
+    }
+    Ok(())
+}
+
+#[test]
+fn a_node_is_gone_to_over_the_ancestor(rt: HostRuntime) -> Result<(), Fail> {
+    let alloc = rt.alloc();
+    let mut engine = engine_of(alloc, 1)?;
+    strike_all(alloc, &mut engine, &[(0, "ia<esc>uib<esc><c-k>")])?;
+    let below = [(0, "a\n", 0, "*scratch* 1:1 normal 1/2 - client0")];
+    assert_eq!(rt; first_unlike(alloc, &mut engine, &below)?, None);
+    strike_all(alloc, &mut engine, &[(0, "<c-k>")])?;
+    let first = [(0, "\n", 0, "*scratch* 1:1 normal 1/1 - client0")];
+    assert_eq!(rt; first_unlike(alloc, &mut engine, &first)?, None);
+    Ok(())
+}
+
+#[test]
+fn one_takes_back_what_both_typed(rt: HostRuntime) -> Result<(), Fail> {
+    let alloc = rt.alloc();
+    let mut engine = engine_of(alloc, 2)?;
+    let typed = [
+        (0, "iab<esc>gg"),
+        (1, "ggl"),
+        (0, "i"),
+        (1, "i"),
+        (0, "x"),
+        (1, "y"),
+        (0, "z<esc>"),
+        (1, "<esc>"),
+        (0, "u"),
+    ];
+    strike_all(alloc, &mut engine, &typed)?;
+    let seen = [
+        (0, "xayb\n", 1, "*scratch* 1:2 normal 1/1 - client0"),
+        (1, "xayb\n", 3, "*scratch* 1:4 normal 1/1 - client1"),
+    ];
+    assert_eq!(rt; first_unlike(alloc, &mut engine, &seen)?, None);
+    // the other one takes back what it typed itself, and the first one's text before
+    strike_all(alloc, &mut engine, &[(1, "2u")])?;
+    let then = [
+        (0, "ab\n", 0, "*scratch* 1:1 normal 1/1 - client0"),
+        (1, "ab\n", 0, "*scratch* 1:1 normal 1/1 - client1"),
+    ];
+    assert_eq!(rt; first_unlike(alloc, &mut engine, &then)?, None);
+    Ok(())
+}
+
 #[test]
 fn who_leaves_leaves_the_others_where_they_are(rt: HostRuntime) -> Result<(), Fail> {
     let alloc = rt.alloc();

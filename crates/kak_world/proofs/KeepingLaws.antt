@@ -1,5 +1,5 @@
 -- Which changes keep the clients, and who is there when one comes or goes.
-use Rattle.std.proofs.Common.{◌≡◌, ℕ, zero, suc, ◌+◌, ◌≤◌, Bool, true, false, ◌||◌, List, [], ◌∷◌, length, map, refl, sym, ap, ◌∙◌, length-append}
+use Rattle.std.proofs.Common.{◌≡◌, ℕ, zero, suc, ◌+◌, ◌≤◌, Bool, true, false, cond, ◌||◌, List, [], ◌∷◌, length, map, refl, sym, ap, ◌∙◌, length-append}
 use Rattle.std.specs.Prelude.{◌&&◌, ◌==◌, is_some, option_map, slice_index_or, Some, None}
 use Rattle.std.specs.List.{list_any}
 use Rattle.std.specs.declared.option.Option.{Option}
@@ -9,13 +9,20 @@ use Rattle.tables.specs.Tables.{changed_where}
 use Rattle.tables.proofs.RowLemmas.{any-changed, first-kept, map-changed, any-added, first-added, any-left, none-left, first-left, fewer-left, any-with_other}
 use Rattle.list_model.specs.Ranges.{Selected}
 use Rattle.window_view.specs.View.{View}
-use Rattle.text_model.specs.Changes.{Change}
+use Rattle.undo_model.specs.declared.travel.Travel.{Travel}
+use Rattle.undo_model.specs.Stories.{edited, is_undo_full}
+use Rattle.undo_model.specs.Moves.{target_of}
+use Rattle.undo_model.specs.Edits.{Splice, is_too_long}
+use Rattle.kak_world.specs.declared.ask.EditError.TheVariants.{UndoFull, TextFull}
 use Rattle.kak_world.specs.declared.holder.Holder.{Holder}
 use Rattle.kak_world.specs.declared.holder.Holder.TheVariants.{Of}
 use Rattle.kak_world.specs.declared.own.Own.{Own}
 use Rattle.kak_world.specs.declared.clients.Client.{Client}
-use Rattle.kak_world.specs.Flat.{Held, Buffer, Flat, fresh, newcomer, is_of, is_here, is_held_by, has_list, with_list, listed_for, unlisted_for, buffer_or_scratch, changed_at, lowest, least_free, numbers_of, client_of, shown_of, buffer_of, is_joined, with_own, with_list_of, with_sels, with_view, with_units, joined_by, left_by}
-use Rattle.kak_world.specs.Changing.{list_moved, buffer_changed, changed_in, put_before_cursors}
+use Rattle.kak_world.specs.Flat.{Held, Buffer, Flat, fresh, newcomer, is_of, is_here, is_held_by, has_list, with_list, listed_for, committed_for, left_behind, buffer_or_scratch, changed_at, lowest, least_free, numbers_of, client_of, shown_of, buffer_of, story_of, text_of, is_joined, with_own, with_list_of, with_sels, with_view, with_units, joined_by, left_by}
+use Rattle.kak_world.specs.Changing.{changed_in, splice_changes_of, edited_by, traveled_by, commits}
+use Rattle.kak_world.proofs.WorldLaws.{has-edited, has-traveled}
+use Rattle.kak_world.specs.Rows.{does, fails}
+use Rattle.kak_world.specs.Editing.{edit_row, travel_row, move_ends}
 use Rattle.kak_world.specs.Keeping.{whos_of, KeepsClients}
 
 pub keeps_same : (flat : Flat) → KeepsClients flat flat
@@ -126,20 +133,22 @@ pub keeps_units : (units : ℕ) (flat : Flat) → KeepsClients flat (with_units 
 unfolding with_units shown_of client_of
 keeps_units units flat = keeps-by-parts flat (with_units units flat) refl (λ k. refl) (λ k n. refl)
 
-any-moved : (k : ℕ) (text : List ℕ) (cs : List Change) (hs : List Held) → list_any (is_held_by (Of k)) (map (list_moved text cs) hs) ≡ list_any (is_held_by (Of k)) hs
-any-moved k text cs [] = refl
-any-moved k text cs (h ∷ hs) = ap (λ b. is_held_by (Of k) h || b) (any-moved k text cs hs)
-
--- changes of a text
-pub keeps_changed : (n : ℕ) (cs : List Change) (flat : Flat) → KeepsClients flat (changed_in n cs flat)
+-- a buffer that was changed, and keeps whose lists are on it
+keeps-changed : (n : ℕ) (f : Buffer → Buffer) (flat : Flat) → ((k : ℕ) (b : Buffer) → has_list (Of k) (f b) ≡ has_list (Of k) b) → KeepsClients flat (changed_in n f flat)
 unfolding changed_in shown_of client_of
-keeps_changed n cs flat =
-    keeps-by-parts flat (changed_in n cs flat) refl (λ k. refl)
-    (λ k m. listed-changed k n m (buffer_changed cs) flat.buffers (λ b. any-moved k b.text cs b.lists))
+keeps-changed n f flat keeps = keeps-by-parts flat (changed_in n f flat) refl (λ k. refl) (λ k m. listed-changed k n m f flat.buffers (keeps k))
 
-pub keeps_put : (s : List ℕ) (who : ℕ) (flat : Flat) → KeepsClients flat (put_before_cursors s who flat)
-unfolding put_before_cursors
-keeps_put s who flat = keeps_changed _ _ flat
+pub keeps_edited : (splices : List Splice) (who : ℕ) (flat : Flat) → KeepsClients flat (edited_by splices who flat)
+unfolding edited_by
+keeps_edited splices who flat = keeps-changed _ _ flat (λ k b. has-edited (Of k) (splice_changes_of splices who flat) (edited who (splice_changes_of splices who flat) b.story) b)
+
+pub keeps_traveled : (travel : Travel) (who : ℕ) (flat : Flat) → KeepsClients flat (traveled_by travel who flat)
+unfolding traveled_by
+keeps_traveled travel who flat = keeps-changed _ _ flat (λ k b. has-traveled (Of k) (Of who) travel b)
+
+pub keeps_commits : (who : ℕ) (flat : Flat) → KeepsClients flat (commits who flat)
+unfolding commits shown_of client_of
+keeps_commits who flat = keeps-by-parts flat (commits who flat) refl (λ k. refl) (λ k n. listed-each k n (committed_for who) flat.buffers (λ b. refl))
 
 -- who is here when a client has come
 pub here_come : (k who : ℕ) (flat : Flat) → is_here k (joined_by who flat).clients ≡ (is_here k flat.clients || ((who == k) || false))
@@ -189,10 +198,28 @@ joined_others_go k who flat other =
     joined-by-parts k flat (left_by who flat)
     (here_others_go k who flat other)
     (ap (λ (c : Client). c.shown) (first-left (is_of who) (is_of k) (newcomer k 0 0) flat.clients (λ c e. apart who k c.who other e)))
-    (λ n. listed-each k n (unlisted_for (Of who)) flat.buffers (λ b. any-left (is_held_by (Of who)) (is_held_by (Of k)) b.lists (λ h e. held-apart h e)))
+    (λ n. listed-each k n (left_behind who) flat.buffers (λ b. any-left (is_held_by (Of who)) (is_held_by (Of k)) b.lists (λ h e. held-apart h e)))
   where
     held-apart : (h : Held) → is_held_by (Of who) h ≡ true → is_held_by (Of k) h ≡ false
     held-apart h e = by h.holder e
       where
         by : (holder : Holder) → is_held_by (Of who) (record (fresh holder) { holder = holder }) ≡ true → is_held_by (Of k) (record (fresh holder) { holder = holder }) ≡ false
         by (Of n) e = apart who k n other e
+
+-- the rows of edits and moves
+pub keeps_edit_row : (splices : List Splice) (who : ℕ) (flat : Flat) → KeepsClients flat (edit_row splices who flat).world
+unfolding edit_row
+keeps_edit_row splices who flat = by (is_undo_full who (splice_changes_of splices who flat) (story_of who flat)) (is_too_long (length (text_of who flat)) (text_of who flat) splices)
+  where
+    by : (s t : Bool) → KeepsClients flat (cond s (fails UndoFull flat) (cond t (fails TextFull flat) (does (edited_by splices who flat)))).world
+    by true t = keeps_same flat
+    by false true = keeps_same flat
+    by false false = keeps_edited splices who flat
+
+pub keeps_travel_row : (travel : Travel) (who : ℕ) (flat : Flat) → KeepsClients flat (travel_row travel who flat).world
+unfolding travel_row
+keeps_travel_row travel who flat = by (target_of travel (story_of who flat))
+  where
+    by : (o : Option ℕ) → KeepsClients flat (move_ends o travel (traveled_by travel who flat)).world
+    by None = keeps_traveled travel who flat
+    by (Some n) = keeps_traveled travel who flat

@@ -5,11 +5,10 @@ pub mod ListLemmas
 pub mod ClientLemmas
 pub mod WorldLaws
 pub mod WorldLemmas
-pub mod PuttingLemmas
 pub mod MoveLemmas
-pub mod TypingLemmas
-pub mod TypedLemmas
-pub mod PutLemmas
+pub mod AnswerLemmas
+pub mod EditingLemmas
+pub mod RowAnswers
 pub mod SettledLemmas
 pub mod KeepingLaws
 pub mod ShowingLemmas

@@ -11,6 +11,7 @@ use Rattle.selection_set.specs.Held.{IsHeld}
 use Rattle.selection_set.specs.Inside.{range_of}
 use Rattle.selection_set.specs.Listing.{Listed}
 use Rattle.selection_set.proofs.HeldLemmas.{all-at}
+use Rattle.undo_model.specs.Stories.{Story}
 use Rattle.kak_world.specs.declared.lists.HeldList.{HeldList}
 use Rattle.kak_world.specs.declared.holder.Holder.{Holder}
 use Rattle.kak_world.specs.Flat.{Held, Buffer, is_held_by, has_list, list_on, with_list, listed_for, unlisted_for, fresh}
@@ -24,22 +25,22 @@ pub same-any : (holder : Holder) (text : List ℕ) (rows : List HeldList) → li
 same-any holder text rows = any-map (is_held_by holder) (held_seen text) rows
 
 -- a holder that has a list has one in the code
-pub list-there : (holder : Holder) (name : List ℕ) (file : Bool) (text : List ℕ) (rows : List HeldList) (b : Buffer) → buffer_seen name file text rows ≡ b → has_list holder b ≡ true → list_any (is_list_of holder) rows ≡ true
-list-there holder name file text rows b e h = sym (same-any holder text rows) ∙ ap (has_list holder) e ∙ h
+pub list-there : (holder : Holder) (name : List ℕ) (file : Bool) (story : Story) (rows : List HeldList) (b : Buffer) → buffer_seen name file story rows ≡ b → has_list holder b ≡ true → list_any (is_list_of holder) rows ≡ true
+list-there holder name file story rows b e h = sym (same-any holder story.text rows) ∙ ap (has_list holder) e ∙ h
 
-pub list-inside : (holder : Holder) (name : List ℕ) (file : Bool) (text : List ℕ) (rows : List HeldList) (b : Buffer) (n : ℕ) → buffer_seen name file text rows ≡ b → has_list holder b ≡ true → n ≡ place_where (is_list_of holder) rows → n < length rows
-list-inside holder name file text rows b n e h p =
-    let inside : place_where (is_list_of holder) rows < length rows = place-inside (is_list_of holder) rows (list-there holder name file text rows b e h) in omega arith
+pub list-inside : (holder : Holder) (name : List ℕ) (file : Bool) (story : Story) (rows : List HeldList) (b : Buffer) (n : ℕ) → buffer_seen name file story rows ≡ b → has_list holder b ≡ true → n ≡ place_where (is_list_of holder) rows → n < length rows
+list-inside holder name file story rows b n e h p =
+    let inside : place_where (is_list_of holder) rows < length rows = place-inside (is_list_of holder) rows (list-there holder name file story rows b e h) in omega arith
 
 -- whether a holder has a list, by its place
-pub list-test : (holder : Holder) (name : List ℕ) (file : Bool) (text : List ℕ) (rows : List HeldList) (b : Buffer) (n len : ℕ) → buffer_seen name file text rows ≡ b → n ≡ place_where (is_list_of holder) rows → len ≡ length rows → nat_lt n len ≡ has_list holder b
-list-test holder name file text rows b n len e p l =
+pub list-test : (holder : Holder) (name : List ℕ) (file : Bool) (story : Story) (rows : List HeldList) (b : Buffer) (n len : ℕ) → buffer_seen name file story rows ≡ b → n ≡ place_where (is_list_of holder) rows → len ≡ length rows → nat_lt n len ≡ has_list holder b
+list-test holder name file story rows b n len e p l =
     ap (λ k. nat_lt k len) p ∙ ap (nat_lt (place_where (is_list_of holder) rows)) l
     ∙ by_test (λ t. t ≡ list_any (is_list_of holder) rows → nat_lt (place_where (is_list_of holder) rows) (length rows) ≡ t) (list_any (is_list_of holder) rows)
     (λ _ t. lt-ltb (place_where (is_list_of holder) rows) (length rows) (place-inside (is_list_of holder) rows (sym t)))
     (λ _ t. outside t (nat_lt (place_where (is_list_of holder) rows) (length rows)) refl)
     refl
-    ∙ sym (same-any holder text rows) ∙ ap (has_list holder) e
+    ∙ sym (same-any holder story.text rows) ∙ ap (has_list holder) e
   where
     outside : false ≡ list_any (is_list_of holder) rows → (t : Bool) → nat_lt (place_where (is_list_of holder) rows) (length rows) ≡ t → nat_lt (place_where (is_list_of holder) rows) (length rows) ≡ false
     outside none false q = q
@@ -49,29 +50,29 @@ list-test holder name file text rows b n len e p l =
         below q = ltb-true _ _ q
 
 -- the list at a holder's place
-pub list-read : (holder : Holder) (name : List ℕ) (file : Bool) (text : List ℕ) (rows : List HeldList) (b : Buffer) (n : ℕ) (row : HeldList) → buffer_seen name file text rows ≡ b → has_list holder b ≡ true → n ≡ place_where (is_list_of holder) rows → row ≡ get_or rows n row
-    → held_seen text row ≡ list_on holder b
-list-read holder name file text rows b n row e h p r =
-    let inside : n < length rows = list-inside holder name file text rows b n e h p in
-    first-at (is_held_by holder) (fresh holder) (held_seen text row) (map (held_seen text) rows) b.lists n (ap (λ (x : Buffer). x.lists) e) (p ∙ sym (same-place holder text rows)) (omega (arith, length-map rows (held_seen text)))
-    (ap (held_seen text) r ∙ sym (get_or-map (held_seen text) rows n row (held_seen text row) inside))
+pub list-read : (holder : Holder) (name : List ℕ) (file : Bool) (story : Story) (rows : List HeldList) (b : Buffer) (n : ℕ) (row : HeldList) → buffer_seen name file story rows ≡ b → has_list holder b ≡ true → n ≡ place_where (is_list_of holder) rows → row ≡ get_or rows n row
+    → held_seen story.text row ≡ list_on holder b
+list-read holder name file story rows b n row e h p r =
+    let inside : n < length rows = list-inside holder name file story rows b n e h p in
+    first-at (is_held_by holder) (fresh holder) (held_seen story.text row) (map (held_seen story.text) rows) b.lists n (ap (λ (x : Buffer). x.lists) e) (p ∙ sym (same-place holder story.text rows)) (omega (arith, length-map rows (held_seen story.text)))
+    (ap (held_seen story.text) r ∙ sym (get_or-map (held_seen story.text) rows n row (held_seen story.text row) inside))
 
 pub list-held : (text : List ℕ) (rows : List HeldList) (n : ℕ) (row : HeldList) → AreHeld text rows → n < length rows → row ≡ get_or rows n row → IsHeld text row.sels
 list-held text rows n row a h r = subst (λ (x : HeldList). IsHeld text x.sels) (sym r) (all-at (λ (x : HeldList). IsHeld text x.sels) rows n row h a)
 
 -- the list at a holder's place, set to another one
-pub list-set : (holder : Holder) (name : List ℕ) (file : Bool) (text : List ℕ) (rows : List HeldList) (b : Buffer) (n : ℕ) (row to : HeldList) (f : Held → Held) → buffer_seen name file text rows ≡ b → has_list holder b ≡ true → n ≡ place_where (is_list_of holder) rows → row ≡ get_or rows n row
-    → held_seen text to ≡ f (held_seen text row) → buffer_seen name file text (set rows n to) ≡ with_list holder f b
-list-set holder name file text rows b n row to f e h p r g =
-    let inside : n < length rows = list-inside holder name file text rows b n e h p in
-    let place : place_where (is_held_by holder) (map (held_seen text) rows) ≡ n = same-place holder text rows ∙ sym p in
-    let found : get_or (map (held_seen text) rows) n (held_seen text row) ≡ held_seen text row = get_or-map (held_seen text) rows n row (held_seen text row) inside ∙ ap (held_seen text) (sym r) in
-    let below : place_where (is_held_by holder) (map (held_seen text) rows) < length (map (held_seen text) rows) = omega (arith, length-map rows (held_seen text)) in
-    ap (λ ls. let x : Buffer = record { name = name; is_file = file; text = text; lists = ls } in x)
-    (map-set (held_seen text) rows n to
-    ∙ ap (set (map (held_seen text) rows) n) (g ∙ ap f (sym found))
-    ∙ ap (λ k. set (map (held_seen text) rows) k (f (get_or (map (held_seen text) rows) k (held_seen text row)))) (sym place)
-    ∙ sym (changed-place (is_held_by holder) f (held_seen text row) (map (held_seen text) rows) below))
+pub list-set : (holder : Holder) (name : List ℕ) (file : Bool) (story : Story) (rows : List HeldList) (b : Buffer) (n : ℕ) (row to : HeldList) (f : Held → Held) → buffer_seen name file story rows ≡ b → has_list holder b ≡ true → n ≡ place_where (is_list_of holder) rows → row ≡ get_or rows n row
+    → held_seen story.text to ≡ f (held_seen story.text row) → buffer_seen name file story (set rows n to) ≡ with_list holder f b
+list-set holder name file story rows b n row to f e h p r g =
+    let inside : n < length rows = list-inside holder name file story rows b n e h p in
+    let place : place_where (is_held_by holder) (map (held_seen story.text) rows) ≡ n = same-place holder story.text rows ∙ sym p in
+    let found : get_or (map (held_seen story.text) rows) n (held_seen story.text row) ≡ held_seen story.text row = get_or-map (held_seen story.text) rows n row (held_seen story.text row) inside ∙ ap (held_seen story.text) (sym r) in
+    let below : place_where (is_held_by holder) (map (held_seen story.text) rows) < length (map (held_seen story.text) rows) = omega (arith, length-map rows (held_seen story.text)) in
+    ap (λ ls. let x : Buffer = record { name = name; is_file = file; story = story; lists = ls } in x)
+    (map-set (held_seen story.text) rows n to
+    ∙ ap (set (map (held_seen story.text) rows) n) (g ∙ ap f (sym found))
+    ∙ ap (λ k. set (map (held_seen story.text) rows) k (f (get_or (map (held_seen story.text) rows) k (held_seen story.text row)))) (sym place)
+    ∙ sym (changed-place (is_held_by holder) f (held_seen story.text row) (map (held_seen story.text) rows) below))
     ∙ ap (with_list holder f) e
 
 pub all-set : {X : Type 0} (P : X → Type 0) (xs : List X) (n : ℕ) (x : X) → AllByRecursion P xs → P x → AllByRecursion P (set xs n x)
@@ -84,37 +85,37 @@ pub main-held : (text : List ℕ) (s : Listed) (n : ℕ) → IsHeld text s → n
 main-held text s n h l = record { inside = h.inside; settled = record { ranges = h.settled.ranges; apart = h.settled.apart; main_is = omega (arith, l, length-map s.list (range_of text)) } }
 
 -- a list that was added
-pub list-added : (holder : Holder) (name : List ℕ) (file : Bool) (text : List ℕ) (rows : List HeldList) (b : Buffer) (row : HeldList) → buffer_seen name file text rows ≡ b → has_list holder b ≡ false → held_seen text row ≡ fresh holder
-    → buffer_seen name file text (rows ++ row ∷ []) ≡ listed_for holder b
-list-added holder name file text rows b row e h r =
-    ap (λ ls. let x : Buffer = record { name = name; is_file = file; text = text; lists = ls } in x)
-    (map-added rows ∙ ap (λ x. map (held_seen text) rows ++ x ∷ []) r ∙ sym (ap (λ t. cond t (map (held_seen text) rows) (map (held_seen text) rows ++ fresh holder ∷ [])) (ap (has_list holder) e ∙ h)))
+pub list-added : (holder : Holder) (name : List ℕ) (file : Bool) (story : Story) (rows : List HeldList) (b : Buffer) (row : HeldList) → buffer_seen name file story rows ≡ b → has_list holder b ≡ false → held_seen story.text row ≡ fresh holder
+    → buffer_seen name file story (rows ++ row ∷ []) ≡ listed_for holder b
+list-added holder name file story rows b row e h r =
+    ap (λ ls. let x : Buffer = record { name = name; is_file = file; story = story; lists = ls } in x)
+    (map-added rows ∙ ap (λ x. map (held_seen story.text) rows ++ x ∷ []) r ∙ sym (ap (λ t. cond t (map (held_seen story.text) rows) (map (held_seen story.text) rows ++ fresh holder ∷ [])) (ap (has_list holder) e ∙ h)))
     ∙ ap (listed_for holder) e
   where
-    map-added : (xs : List HeldList) → map (held_seen text) (xs ++ row ∷ []) ≡ map (held_seen text) xs ++ held_seen text row ∷ []
+    map-added : (xs : List HeldList) → map (held_seen story.text) (xs ++ row ∷ []) ≡ map (held_seen story.text) xs ++ held_seen story.text row ∷ []
     map-added [] = refl
-    map-added (x ∷ xs) = ap (λ ys. held_seen text x ∷ ys) (map-added xs)
+    map-added (x ∷ xs) = ap (λ ys. held_seen story.text x ∷ ys) (map-added xs)
 
 pub list-stays : (holder : Holder) (b : Buffer) → has_list holder b ≡ true → b ≡ listed_for holder b
-list-stays holder b h = ap (λ t. let x : Buffer = record { name = b.name; is_file = b.is_file; text = b.text; lists = cond t b.lists (b.lists ++ fresh holder ∷ []) } in x) (sym h)
+list-stays holder b h = ap (λ t. let x : Buffer = record { name = b.name; is_file = b.is_file; story = b.story; lists = cond t b.lists (b.lists ++ fresh holder ∷ []) } in x) (sym h)
 
 pub added-held : (text : List ℕ) (rows : List HeldList) (row : HeldList) → AreHeld text rows → IsHeld text row.sels → AreHeld text (rows ++ row ∷ [])
 added-held text [] row a h = (h, tt)
 added-held text (x ∷ xs) row a h = (a.0, added-held text xs row a.1 h)
 
 -- lists that were taken off
-pub lists-left : (holder : Holder) (name : List ℕ) (file : Bool) (text : List ℕ) (rows left : List HeldList) (b : Buffer) → buffer_seen name file text rows ≡ b → left ≡ filter (λ row. not (is_list_of holder row)) rows → buffer_seen name file text left ≡ unlisted_for holder b
-lists-left holder name file text rows left b e l =
-    ap (buffer_seen name file text) l
-    ∙ ap (λ ls. let x : Buffer = record { name = name; is_file = file; text = text; lists = ls } in x) (filter-map rows)
+pub lists-left : (holder : Holder) (name : List ℕ) (file : Bool) (story : Story) (rows left : List HeldList) (b : Buffer) → buffer_seen name file story rows ≡ b → left ≡ filter (λ row. not (is_list_of holder row)) rows → buffer_seen name file story left ≡ unlisted_for holder b
+lists-left holder name file story rows left b e l =
+    ap (buffer_seen name file story) l
+    ∙ ap (λ ls. let x : Buffer = record { name = name; is_file = file; story = story; lists = ls } in x) (filter-map rows)
     ∙ ap (unlisted_for holder) e
   where
-    filter-map : (xs : List HeldList) → map (held_seen text) (filter (λ row. not (is_list_of holder row)) xs) ≡ filter (λ held. not (is_held_by holder held)) (map (held_seen text) xs)
+    filter-map : (xs : List HeldList) → map (held_seen story.text) (filter (λ row. not (is_list_of holder row)) xs) ≡ filter (λ held. not (is_held_by holder held)) (map (held_seen story.text) xs)
     filter-map [] = refl
     filter-map (x ∷ xs) =
-        by_test (λ t. map (held_seen text) (cond (not t) (x ∷ filter (λ row. not (is_list_of holder row)) xs) (filter (λ row. not (is_list_of holder row)) xs)) ≡ cond (not t) (held_seen text x ∷ filter (λ held. not (is_held_by holder held)) (map (held_seen text) xs)) (filter (λ held. not (is_held_by holder held)) (map (held_seen text) xs))) (is_list_of holder x)
+        by_test (λ t. map (held_seen story.text) (cond (not t) (x ∷ filter (λ row. not (is_list_of holder row)) xs) (filter (λ row. not (is_list_of holder row)) xs)) ≡ cond (not t) (held_seen story.text x ∷ filter (λ held. not (is_held_by holder held)) (map (held_seen story.text) xs)) (filter (λ held. not (is_held_by holder held)) (map (held_seen story.text) xs))) (is_list_of holder x)
         (λ _. filter-map xs)
-        (λ _. ap (λ ys. held_seen text x ∷ ys) (filter-map xs))
+        (λ _. ap (λ ys. held_seen story.text x ∷ ys) (filter-map xs))
 
 pub left-held : (holder : Holder) (text : List ℕ) (rows : List HeldList) → AreHeld text rows → AreHeld text (filter (λ row. not (is_list_of holder row)) rows)
 left-held holder text [] a = tt

@@ -3,6 +3,7 @@ use Rattle.std.proofs.Common.{◌≡◌, ℕ, zero, suc, Bool, ◌+◌, ◌<◌,
 use Rattle.text_model.specs.declared.coords.Shift.{Shift}
 use Rattle.text_model.specs.Texts.{IsStored}
 use Rattle.text_model.specs.Changes.{Change, all_changed}
+use Rattle.undo_model.specs.Stories.{Story}
 use Rattle.window_view.specs.Views.{view_of as window_seen}
 use Rattle.selection_set.specs.Listing.{Listed}
 use Rattle.selection_set.specs.Held.{IsHeld}
@@ -89,6 +90,7 @@ moved-seen text cs (h ∷ hs) (k ∷ ks) m = ap₂ (λ x xs. x ∷ xs) m.0.seen 
 moved-seen text cs [] (k ∷ ks) m = absurd m
 moved-seen text cs (h ∷ hs) [] m = absurd m
 
-pub moved-buffer : (name : List ℕ) (file : Bool) (text : List ℕ) (cs : List Change) (hs ks : List HeldList) (b : Buffer) → buffer_seen name file text hs ≡ b → HaveMoved text cs hs ks → buffer_seen name file (all_changed text cs) ks ≡ buffer_changed cs b
-moved-buffer name file text cs hs ks b e m =
-    ap (λ ls. let x : Buffer = record { name = name; is_file = file; text = all_changed text cs; lists = ls } in x) (moved-seen text cs hs ks m) ∙ ap (buffer_changed cs) e
+pub moved-buffer : (name : List ℕ) (file : Bool) (story new : Story) (cs : List Change) (hs ks : List HeldList) (b : Buffer) → buffer_seen name file story hs ≡ b → new.text ≡ all_changed story.text cs → HaveMoved story.text cs hs ks → buffer_seen name file new ks ≡ buffer_changed cs new b
+moved-buffer name file story new cs hs ks b e t m =
+    ap (λ x. let y : Buffer = record { name = name; is_file = file; story = new; lists = map (held_seen x) ks } in y) t
+    ∙ ap (λ ls. let x : Buffer = record { name = name; is_file = file; story = new; lists = ls } in x) (moved-seen story.text cs hs ks m) ∙ ap (buffer_changed cs new) e

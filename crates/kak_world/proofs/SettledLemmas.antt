@@ -5,6 +5,7 @@ use Rattle.text_model.proofs.PlaceLemmas.{offset-below}
 use Rattle.list_model.specs.Ranges.{Range}
 use Rattle.selection_set.specs.declared.sel.Sel.{Sel}
 use Rattle.selection_set.specs.Listing.{AreInside, ranges_of}
+use Rattle.undo_model.specs.Stories.{Story}
 use Rattle.kak_world.specs.declared.lists.HeldList.{HeldList}
 use Rattle.kak_world.specs.Flat.{Held}
 use Rattle.kak_world.specs.Seen.{held_seen, buffer_seen, AreHeld}
@@ -14,9 +15,9 @@ all-inside : (text : List ℕ) (list : List Sel) → AreInside text list → All
 all-inside text [] a = tt
 all-inside text (x ∷ list) a = (offset-below text x.high a.0.high, all-inside text list a.1)
 
-pub held-settled : (name : List ℕ) (file : Bool) (text : List ℕ) (rows : List HeldList) → AreHeld text rows → ListsAreSettled (buffer_seen name file text rows)
-held-settled name file text rows h = each rows h
+pub held-settled : (name : List ℕ) (file : Bool) (story : Story) (rows : List HeldList) → AreHeld story.text rows → ListsAreSettled (buffer_seen name file story rows)
+held-settled name file story rows h = each rows h
   where
-    each : (rows : List HeldList) → AreHeld text rows → AllByRecursion (λ (held : Held). AreSettledInside text held.sels) (map (held_seen text) rows)
+    each : (rows : List HeldList) → AreHeld story.text rows → AllByRecursion (λ (held : Held). AreSettledInside story.text held.sels) (map (held_seen story.text) rows)
     each [] h = tt
-    each (x ∷ rows) h = (record { settled = h.0.settled; inside = all-inside text x.sels.list h.0.inside }, each rows h.1)
+    each (x ∷ rows) h = (record { settled = h.0.settled; inside = all-inside story.text x.sels.list h.0.inside }, each rows h.1)

@@ -1,19 +1,27 @@
 -- What each change of the world leaves of what it says of its clients.
-use Rattle.std.proofs.Common.{◌≡◌, ◌≢◌, ℕ, Bool, true, false, List, refl, sym, ap, ◌∙◌}
-use Rattle.std.specs.Prelude.{◌&&◌}
+use Rattle.std.proofs.Common.{◌≡◌, ◌≢◌, ℕ, zero, suc, Bool, true, false, cond, List, [], ◌∷◌, map, refl, sym, ap, ◌∙◌, None, Some}
+use Rattle.std.specs.Prelude.{◌&&◌, option_map}
+use Rattle.std.specs.declared.option.Option.{Option}
 use Rattle.std.proofs.lemmas.Bool.{eqb-true, ne_eqb}
 use Rattle.tables.specs.Tables.{first_where}
+use Rattle.tables.proofs.TableLemmas.{by_test}
 use Rattle.tables.proofs.RowLemmas.{Leaves, AreApart, first-changed, first-changed_other, first-kept, any-changed, changed-same, changed-stays, changed-changed, any-map}
 use Rattle.list_model.specs.Ranges.{Selected}
 use Rattle.window_view.specs.View.{View}
-use Rattle.text_model.specs.Changes.{Change, all_changed}
+use Rattle.text_model.specs.Changes.{Change}
+use Rattle.undo_model.specs.declared.travel.Travel.{Travel}
+use Rattle.undo_model.specs.Stories.{Story, edited, is_own, committed, committed_by}
+use Rattle.undo_model.specs.Moves.{moved_by, move_changes}
+use Rattle.undo_model.specs.Edits.{Splice}
+use Rattle.undo_model.specs.Marks.{left_by}
+use Rattle.undo_model.proofs.StoryLemmas.{committed-text}
 use Rattle.kak_world.specs.declared.holder.Holder.{Holder}
 use Rattle.kak_world.specs.declared.holder.Holder.TheVariants.{Of}
 use Rattle.kak_world.specs.declared.own.Own.{Own}
 use Rattle.kak_world.specs.declared.clients.Client.{Client}
-use Rattle.kak_world.specs.Flat.{Held, Buffer, Flat, same_holder, is_of, is_here, is_held_by, has_list, list_on, with_list, fresh, newcomer, is_there, buffer_at, changed_at, client_of, shown_of, buffer_of, list_of, is_joined, own_of, number_of, name_of, text_of, sels_of, view_of, units_of, with_own, with_list_of, with_sels, with_view, with_units}
-use Rattle.kak_world.specs.Changing.{list_moved, buffer_changed, changed_in, put_before_cursors}
-use Rattle.kak_world.proofs.SlotLemmas.{buffer-changed, buffer-kept, there-kept}
+use Rattle.kak_world.specs.Flat.{Held, Buffer, Flat, same_holder, is_of, is_here, is_held_by, has_list, list_on, with_list, committed_for, scratch, fresh, newcomer, is_there, buffer_at, changed_at, client_of, shown_of, buffer_of, list_of, is_joined, own_of, number_of, name_of, text_of, sels_of, view_of, units_of, with_own, with_list_of, with_sels, with_view, with_units}
+use Rattle.kak_world.specs.Changing.{list_moved, buffer_changed, buffer_edited, buffer_moved, buffer_traveled, changed_in, splice_changes_of, edited_by, traveled_by, commits}
+use Rattle.kak_world.proofs.SlotLemmas.{buffer-changed, buffer-kept, there-kept, there-mapped}
 
 and-first : (a b : Bool) → (a && b) ≡ true → a ≡ true
 and-first true b h = refl
@@ -83,7 +91,7 @@ buffer_own k who f flat = ap (λ n. buffer_at n flat.buffers) (shown_own k who f
 
 pub text_own : (k who : ℕ) (f : Own → Own) (flat : Flat) → text_of k (with_own who f flat) ≡ text_of k flat
 unfolding text_of
-text_own k who f flat = ap (λ (b : Buffer). b.text) (buffer_own k who f flat)
+text_own k who f flat = ap (λ (b : Buffer). b.story.text) (buffer_own k who f flat)
 
 pub name_own : (k who : ℕ) (f : Own → Own) (flat : Flat) → name_of k (with_own who f flat) ≡ name_of k flat
 unfolding name_of
@@ -158,7 +166,7 @@ joined_sels k who s flat = joined_list_of k who (λ held. record held { sels = s
 
 pub text_sels : (k who : ℕ) (s : Selected) (flat : Flat) → text_of k (with_sels who s flat) ≡ text_of k flat
 unfolding text_of with_sels
-text_sels k who s flat = buffer_list_kept (λ b. b.text) k who (λ held. record held { sels = s }) flat (λ b. refl)
+text_sels k who s flat = buffer_list_kept (λ b. b.story.text) k who (λ held. record held { sels = s }) flat (λ b. refl)
 
 pub name_sels : (k who : ℕ) (s : Selected) (flat : Flat) → name_of k (with_sels who s flat) ≡ name_of k flat
 unfolding name_of with_sels
@@ -188,7 +196,7 @@ joined_view k who v flat = joined_list_of k who (λ held. record held { view = v
 
 pub text_view : (k who : ℕ) (v : View) (flat : Flat) → text_of k (with_view who v flat) ≡ text_of k flat
 unfolding text_of with_view
-text_view k who v flat = buffer_list_kept (λ b. b.text) k who (λ held. record held { view = v }) flat (λ b. refl)
+text_view k who v flat = buffer_list_kept (λ b. b.story.text) k who (λ held. record held { view = v }) flat (λ b. refl)
 
 pub sels_view : (k who : ℕ) (v : View) (flat : Flat) → sels_of k (with_view who v flat) ≡ sels_of k flat
 unfolding sels_of list_of with_view
@@ -221,38 +229,92 @@ unfolding units_of with_units
 units_units u flat = refl
 
 -- a changed buffer
-pub own_changed : (k n : ℕ) (cs : List Change) (flat : Flat) → own_of k (changed_in n cs flat) ≡ own_of k flat
+pub own_changed : (k n : ℕ) (f : Buffer → Buffer) (flat : Flat) → own_of k (changed_in n f flat) ≡ own_of k flat
 unfolding own_of client_of changed_in
-own_changed k n cs flat = refl
+own_changed k n f flat = refl
 
-pub units_changed : (n : ℕ) (cs : List Change) (flat : Flat) → units_of (changed_in n cs flat) ≡ units_of flat
+pub units_changed : (n : ℕ) (f : Buffer → Buffer) (flat : Flat) → units_of (changed_in n f flat) ≡ units_of flat
 unfolding units_of changed_in
-units_changed n cs flat = refl
+units_changed n f flat = refl
 
-pub joined_changed : (k n : ℕ) (cs : List Change) (flat : Flat) → is_joined k (changed_in n cs flat) ≡ is_joined k flat
+pub joined-changed : (k n : ℕ) (f : Buffer → Buffer) (flat : Flat) → ((b : Buffer) → has_list (Of k) (f b) ≡ has_list (Of k) b) → is_joined k (changed_in n f flat) ≡ is_joined k flat
 unfolding is_joined buffer_of shown_of client_of changed_in
-joined_changed k n cs flat =
-    ap (λ t. is_here k flat.clients && (t && has_list (Of k) (buffer_at (first_where (is_of k) (newcomer k 0 0) flat.clients).shown (changed_at n (buffer_changed cs) flat.buffers)))) (there-kept _ n (buffer_changed cs) flat.buffers)
-    ∙ ap (λ t. is_here k flat.clients && (is_there (first_where (is_of k) (newcomer k 0 0) flat.clients).shown flat.buffers && t)) (buffer-kept _ n (buffer_changed cs) (has_list (Of k)) flat.buffers (λ b. any-map (is_held_by (Of k)) (list_moved b.text cs) b.lists))
+joined-changed k n f flat keeps =
+    ap (λ t. is_here k flat.clients && (t && has_list (Of k) (buffer_at (first_where (is_of k) (newcomer k 0 0) flat.clients).shown (changed_at n f flat.buffers)))) (there-kept _ n f flat.buffers)
+    ∙ ap (λ t. is_here k flat.clients && (is_there (first_where (is_of k) (newcomer k 0 0) flat.clients).shown flat.buffers && t)) (buffer-kept _ n f (has_list (Of k)) flat.buffers keeps)
 
-pub own_put : (k : ℕ) (s : List ℕ) (who : ℕ) (flat : Flat) → own_of k (put_before_cursors s who flat) ≡ own_of k flat
-unfolding put_before_cursors
-own_put k s who flat = own_changed k _ _ flat
+-- an edit keeps whose lists are on a buffer, and so does a move
+pub has-edited : (k : Holder) (cs : List Change) (story : Story) (b : Buffer) → has_list k (buffer_changed cs story b) ≡ has_list k b
+has-edited k cs story b = any-map (is_held_by k) (list_moved b.story.text cs) b.lists
 
-pub joined_put : (k : ℕ) (s : List ℕ) (who : ℕ) (flat : Flat) → is_joined k (put_before_cursors s who flat) ≡ is_joined k flat
-unfolding put_before_cursors
-joined_put k s who flat = joined_changed k _ _ flat
+pub has-traveled : (k holder : Holder) (travel : Travel) (b : Buffer) → has_list k (buffer_traveled holder travel b) ≡ has_list k b
+has-traveled k holder travel b =
+    let cs : List Change = move_changes travel b.story in
+    let f : Held → Held = λ held. record held { sels = left_by b.story.text cs held.sels } in
+    any-changed (is_held_by holder) (is_held_by k) f (map (list_moved b.story.text cs) b.lists) (list-leaves k f (λ h. refl)) ∙ has-edited k cs (moved_by travel b.story) b
 
-pub units_put : (s : List ℕ) (who : ℕ) (flat : Flat) → units_of (put_before_cursors s who flat) ≡ units_of flat
-unfolding put_before_cursors
-units_put s who flat = units_changed _ _ flat
+pub joined_edited : (k : ℕ) (splices : List Splice) (who : ℕ) (flat : Flat) → is_joined k (edited_by splices who flat) ≡ is_joined k flat
+unfolding edited_by
+joined_edited k splices who flat = joined-changed k _ _ flat (λ b. has-edited (Of k) (splice_changes_of splices who flat) (edited who (splice_changes_of splices who flat) b.story) b)
 
--- the text and the selections of a client whose buffer was changed
-text-there : (who : ℕ) (cs : List Change) (flat : Flat) → is_there (shown_of who flat) flat.buffers ≡ true → text_of who (changed_in (shown_of who flat) cs flat) ≡ all_changed (text_of who flat) cs
-unfolding text_of buffer_of shown_of client_of changed_in
-text-there who cs flat h = ap (λ (b : Buffer). b.text) (buffer-changed _ (buffer_changed cs) flat.buffers h)
+pub own_edited : (k : ℕ) (splices : List Splice) (who : ℕ) (flat : Flat) → own_of k (edited_by splices who flat) ≡ own_of k flat
+unfolding edited_by
+own_edited k splices who flat = own_changed k _ _ flat
 
-pub text_changed : (who : ℕ) (cs : List Change) (flat : Flat) → is_joined who flat ≡ true → text_of who (changed_in (shown_of who flat) cs flat) ≡ all_changed (text_of who flat) cs
-text_changed who cs flat j = text-there who cs flat (joined_there who flat j)
+pub units_edited : (splices : List Splice) (who : ℕ) (flat : Flat) → units_of (edited_by splices who flat) ≡ units_of flat
+unfolding edited_by
+units_edited splices who flat = units_changed _ _ flat
 
-pub ruleset world_laws = (own_known, own_same, own_own, joined_own, joined_sels, joined_view, joined_units, joined_changed, joined_put, own_sels, own_view, own_units, own_changed, own_put, text_own, text_sels, text_view, text_units, sels_own, sels_sels, sels_view, sels_units, name_own, name_sels, number_own, number_sels, view_own, view_sels, units_own, units_sels, units_units, units_changed, units_put)
+pub joined_traveled : (k : ℕ) (travel : Travel) (who : ℕ) (flat : Flat) → is_joined k (traveled_by travel who flat) ≡ is_joined k flat
+unfolding traveled_by
+joined_traveled k travel who flat = joined-changed k _ _ flat (λ b. has-traveled (Of k) (Of who) travel b)
+
+pub own_traveled : (k : ℕ) (travel : Travel) (who : ℕ) (flat : Flat) → own_of k (traveled_by travel who flat) ≡ own_of k flat
+unfolding traveled_by
+own_traveled k travel who flat = own_changed k _ _ flat
+
+pub units_traveled : (travel : Travel) (who : ℕ) (flat : Flat) → units_of (traveled_by travel who flat) ≡ units_of flat
+unfolding traveled_by
+units_traveled travel who flat = units_changed _ _ flat
+
+-- committed groups
+pub buffer-mapped : (n : ℕ) (f : Buffer → Buffer) (bs : List (Option Buffer)) → f scratch ≡ scratch → buffer_at n (map (option_map f) bs) ≡ f (buffer_at n bs)
+buffer-mapped n f [] e = sym e
+buffer-mapped zero f (Some b ∷ bs) e = refl
+buffer-mapped zero f (None ∷ bs) e = sym e
+buffer-mapped (suc n) f (o ∷ bs) e = buffer-mapped n f bs e
+
+pub committed_by-text : (who : ℕ) (s : Story) → (committed_by who s).text ≡ s.text
+committed_by-text who s = by_test (λ t. (cond t (committed s) s).text ≡ s.text) (is_own who s.group) (λ _. committed-text s) (λ _. refl)
+
+buffer_commits : (k who : ℕ) (flat : Flat) → buffer_of k (commits who flat) ≡ committed_for who (buffer_of k flat)
+unfolding buffer_of shown_of client_of commits
+buffer_commits k who flat = buffer-mapped _ (committed_for who) flat.buffers refl
+
+pub joined_commits : (k who : ℕ) (flat : Flat) → is_joined k (commits who flat) ≡ is_joined k flat
+unfolding is_joined buffer_of shown_of client_of commits
+joined_commits k who flat =
+    ap (λ t. is_here k flat.clients && (t && has_list (Of k) (buffer_at (first_where (is_of k) (newcomer k 0 0) flat.clients).shown (map (option_map (committed_for who)) flat.buffers)))) (there-mapped _ (committed_for who) flat.buffers)
+    ∙ ap (λ b. is_here k flat.clients && (is_there (first_where (is_of k) (newcomer k 0 0) flat.clients).shown flat.buffers && has_list (Of k) b)) (buffer-mapped _ (committed_for who) flat.buffers refl)
+
+pub own_commits : (k who : ℕ) (flat : Flat) → own_of k (commits who flat) ≡ own_of k flat
+unfolding own_of client_of commits
+own_commits k who flat = refl
+
+pub units_commits : (who : ℕ) (flat : Flat) → units_of (commits who flat) ≡ units_of flat
+unfolding units_of commits
+units_commits who flat = refl
+
+pub text_commits : (k who : ℕ) (flat : Flat) → text_of k (commits who flat) ≡ text_of k flat
+unfolding text_of
+text_commits k who flat = ap (λ (b : Buffer). b.story.text) (buffer_commits k who flat) ∙ committed_by-text who (buffer_of k flat).story
+
+pub sels_commits : (k who : ℕ) (flat : Flat) → sels_of k (commits who flat) ≡ sels_of k flat
+unfolding sels_of list_of
+sels_commits k who flat = ap (λ b. (list_on (Of k) b).sels) (buffer_commits k who flat)
+
+pub view_commits : (k who : ℕ) (flat : Flat) → view_of k (commits who flat) ≡ view_of k flat
+unfolding view_of list_of
+view_commits k who flat = ap (λ b. (list_on (Of k) b).view) (buffer_commits k who flat)
+
+pub ruleset world_laws = (own_known, own_same, own_own, joined_own, joined_sels, joined_view, joined_units, joined_edited, joined_traveled, joined_commits, own_sels, own_view, own_units, own_changed, own_edited, own_traveled, own_commits, text_own, text_sels, text_view, text_units, text_commits, sels_own, sels_sels, sels_view, sels_units, sels_commits, name_own, name_sels, number_own, number_sels, view_own, view_sels, view_commits, units_own, units_sels, units_units, units_changed, units_edited, units_traveled, units_commits)

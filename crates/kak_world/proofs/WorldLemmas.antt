@@ -1,5 +1,5 @@
 -- What the code of the world keeps, as the flat world says it.
-use Rattle.std.proofs.Common.{◌≡◌, ℕ, zero, suc, ◌<◌, true, false, not, cond, ◌||◌, List, [], ◌∷◌, ◌++◌, length, map, take, get_or, set, refl, sym, ap, subst, ◌∙◌, arith, None, Some}
+use Rattle.std.proofs.Common.{◌≡◌, ℕ, zero, suc, ◌<◌, true, false, not, cond, ◌||◌, List, [], ◌∷◌, ◌++◌, length, map, get_or, set, refl, sym, ap, subst, ◌∙◌, arith, None, Some}
 use Rattle.std.specs.List.{filter}
 use Rattle.std.proofs.lemmas.Bool.{eq-eqb}
 use Rattle.std.proofs.lemmas.List.{length-map}
@@ -11,12 +11,11 @@ use Rattle.tables.specs.Tables.{first_where}
 use Rattle.kak_world.specs.declared.holder.Holder.TheVariants.{Of}
 use Rattle.kak_world.specs.declared.clients.Client.{Client}
 use Rattle.kak_world.specs.declared.world.Rest.{Rest}
-use Rattle.kak_world.specs.Flat.{Held, Buffer, Flat, is_of, is_here, newcomer, is_there, buffer_or_scratch, buffer_at, changed_at, has_list, list_on, client_of, shown_of, buffer_of, list_of, is_joined, own_of, number_of, text_of, sels_of, view_of, with_list_of, with_list}
-use Rattle.text_model.specs.Changes.{Change}
-use Rattle.kak_world.specs.Changing.{buffer_changed, changed_in, IsAfterSome, IsAfterSomeIn}
+use Rattle.kak_world.specs.Flat.{Held, Buffer, Flat, is_of, is_here, newcomer, is_there, buffer_or_scratch, buffer_at, changed_at, has_list, list_on, client_of, shown_of, buffer_of, list_of, is_joined, own_of, number_of, text_of, story_of, sels_of, view_of, with_list_of, with_list}
+use Rattle.kak_world.specs.Changing.{changed_in, commits}
 use Rattle.kak_world.specs.Seen.{Kept, HasBuffer}
 use Rattle.kak_world.proofs.SlotLemmas.{there-inside, set-changed, there-kept, length-kept, there-mapped, buffer-changed}
-use Rattle.kak_world.specs.Flat.{lowest, least_free, numbers_of, is_held_by, fresh, listed_for, unlisted_for, joined_by, left_by}
+use Rattle.kak_world.specs.Flat.{lowest, least_free, numbers_of, is_held_by, fresh, listed_for, committed_for, left_behind, joined_by, left_by}
 use Rattle.kak_world.proofs.WorldLaws.{joined_here, joined_there, joined_list}
 
 -- the world of some parts
@@ -109,9 +108,9 @@ pub has-set : (n : ℕ) (b to : Buffer) (bs : List (Option Buffer)) → get_or b
 has-set n b to bs g h = subst HasBuffer (sym (set-changed n (λ _. to) b bs g)) (has-changed n (λ _. to) bs h)
 
 -- its text, the client's selections and its window
-pub text-of : (who : ℕ) (bs : List (Option Buffer)) (cs : List Client) (r : Rest) (w : Kept) (c : Client) (slot : Option Buffer) (b : Buffer) → parts bs cs r ≡ w → c ≡ first_where (is_of who) (newcomer who 0 0) cs → is_joined who w.flat ≡ true → slot ≡ get_or bs c.shown slot → slot ≡ Some b → b.text ≡ text_of who w.flat
+pub text-of : (who : ℕ) (bs : List (Option Buffer)) (cs : List Client) (r : Rest) (w : Kept) (c : Client) (slot : Option Buffer) (b : Buffer) → parts bs cs r ≡ w → c ≡ first_where (is_of who) (newcomer who 0 0) cs → is_joined who w.flat ≡ true → slot ≡ get_or bs c.shown slot → slot ≡ Some b → b.story.text ≡ text_of who w.flat
 unfolding text_of
-text-of who bs cs r w c slot b e f j g s = ap (λ (x : Buffer). x.text) (buffer-of who bs cs r w c slot b e f j g s)
+text-of who bs cs r w c slot b e f j g s = ap (λ (x : Buffer). x.story.text) (buffer-of who bs cs r w c slot b e f j g s)
 
 pub sels-of : (who : ℕ) (bs : List (Option Buffer)) (cs : List Client) (r : Rest) (w : Kept) (c : Client) (slot : Option Buffer) (b : Buffer) → parts bs cs r ≡ w → c ≡ first_where (is_of who) (newcomer who 0 0) cs → is_joined who w.flat ≡ true → slot ≡ get_or bs c.shown slot → slot ≡ Some b → (list_on (Of who) b).sels ≡ sels_of who w.flat
 unfolding sels_of list_of
@@ -195,10 +194,10 @@ came-not who bs cs added left r w n b to e away g t a l =
     ∙ ap (λ (k : Kept). k.flat) e
 
 -- the world after a client went
-pub went : (who : ℕ) (bs gone : List (Option Buffer)) (cs left : List Client) (r : Rest) (w : Kept) → parts bs cs r ≡ w → gone ≡ map (option_map (unlisted_for (Of who))) bs → left ≡ filter (λ c. not (is_of who c)) cs → (parts gone left r).flat ≡ left_by who w.flat
+pub went : (who : ℕ) (bs gone : List (Option Buffer)) (cs left : List Client) (r : Rest) (w : Kept) → parts bs cs r ≡ w → gone ≡ map (option_map (left_behind who)) bs → left ≡ filter (λ c. not (is_of who c)) cs → (parts gone left r).flat ≡ left_by who w.flat
 unfolding left_by
 went who bs gone cs left r w e g l =
-    ap (λ x. (parts x left r).flat) g ∙ ap (λ x. (parts (map (option_map (unlisted_for (Of who))) bs) x r).flat) l ∙ ap (λ (k : Kept). left_by who k.flat) e
+    ap (λ x. (parts x left r).flat) g ∙ ap (λ x. (parts (map (option_map (left_behind who)) bs) x r).flat) l ∙ ap (λ (k : Kept). left_by who k.flat) e
 
 lowest-mapped : (f : Buffer → Buffer) (bs : List (Option Buffer)) → lowest (map (option_map f) bs) ≡ lowest bs
 lowest-mapped f [] = refl
@@ -211,19 +210,28 @@ has-mapped f bs gone h e = subst HasBuffer (sym e) (record {
   few = omega (arith, length-map bs (option_map f), h.few);
 })
 
--- the buffer that the client sees was changed
-pub changed-of : (who : ℕ) (bs : List (Option Buffer)) (cs : List Client) (r : Rest) (w : Kept) (c : Client) (slot : Option Buffer) (b to : Buffer) (ds : List Change) → parts bs cs r ≡ w → c ≡ first_where (is_of who) (newcomer who 0 0) cs → is_joined who w.flat ≡ true → slot ≡ get_or bs c.shown slot → slot ≡ Some b
-    → to ≡ buffer_changed ds b → (parts (set bs c.shown (Some to)) cs r).flat ≡ changed_in (shown_of who w.flat) ds w.flat
-unfolding changed_in
-changed-of who bs cs r w c slot b to ds e g j l s t =
-    ap (λ x. (parts (set bs c.shown (Some x)) cs r).flat) t
-    ∙ ap (λ x. (parts x cs r).flat) (set-changed c.shown (buffer_changed ds) b bs (slot-at who bs cs r w c slot b e g j l s))
-    ∙ ap (λ n. (parts (changed_at n (buffer_changed ds) bs) cs r).flat) (shown-of who (parts bs cs r).flat c (client-of who bs cs r (parts bs cs r) c refl g))
-    ∙ ap (λ (k : Kept). changed_in (shown_of who k.flat) ds k.flat) e
+-- the story of the buffer that the client sees
+pub story-of : (who : ℕ) (bs : List (Option Buffer)) (cs : List Client) (r : Rest) (w : Kept) (c : Client) (slot : Option Buffer) (b : Buffer) → parts bs cs r ≡ w → c ≡ first_where (is_of who) (newcomer who 0 0) cs → is_joined who w.flat ≡ true → slot ≡ get_or bs c.shown slot → slot ≡ Some b → b.story ≡ story_of who w.flat
+unfolding story_of
+story-of who bs cs r w c slot b e f j g s = ap (λ (x : Buffer). x.story) (buffer-of who bs cs r w c slot b e f j g s)
 
-pub some-of : (who : ℕ) (bs : List (Option Buffer)) (cs : List Client) (r : Rest) (w : Kept) (c : Client) (slot : Option Buffer) (b to : Buffer) (ds es : List Change) → parts bs cs r ≡ w → c ≡ first_where (is_of who) (newcomer who 0 0) cs → is_joined who w.flat ≡ true → slot ≡ get_or bs c.shown slot → slot ≡ Some b
-    → ds ≡ es → IsAfterSome ds b to → IsAfterSomeIn (shown_of who w.flat) es w.flat (parts (set bs c.shown (Some to)) cs r).flat
-some-of who bs cs r w c slot b to ds es e g j l s d a = record {
-  made = a.made;
-  is = changed-of who bs cs r w c slot b to (take a.made ds) e g j l s a.is ∙ ap (λ x. changed_in (shown_of who w.flat) (take a.made x) w.flat) d;
-}
+-- the buffer that the client sees was changed
+pub changed-of : (who : ℕ) (bs : List (Option Buffer)) (cs : List Client) (r : Rest) (w : Kept) (c : Client) (slot : Option Buffer) (b to : Buffer) (f : Buffer → Buffer) → parts bs cs r ≡ w → c ≡ first_where (is_of who) (newcomer who 0 0) cs → is_joined who w.flat ≡ true → slot ≡ get_or bs c.shown slot → slot ≡ Some b
+    → to ≡ f b → (parts (set bs c.shown (Some to)) cs r).flat ≡ changed_in (shown_of who w.flat) f w.flat
+unfolding changed_in
+changed-of who bs cs r w c slot b to f e g j l s t =
+    ap (λ x. (parts (set bs c.shown (Some x)) cs r).flat) t
+    ∙ ap (λ x. (parts x cs r).flat) (set-changed c.shown f b bs (slot-at who bs cs r w c slot b e g j l s))
+    ∙ ap (λ n. (parts (changed_at n f bs) cs r).flat) (shown-of who (parts bs cs r).flat c (client-of who bs cs r (parts bs cs r) c refl g))
+    ∙ ap (λ (k : Kept). changed_in (shown_of who k.flat) f k.flat) e
+
+-- all pending groups of a client were committed
+pub committed-all : (who : ℕ) (bs now : List (Option Buffer)) (cs : List Client) (r : Rest) (w : Kept) → parts bs cs r ≡ w → now ≡ map (option_map (committed_for who)) bs → (parts now cs r).flat ≡ commits who w.flat
+unfolding commits
+committed-all who bs now cs r w e n = ap (λ x. (parts x cs r).flat) n ∙ ap (λ (k : Kept). commits who k.flat) e
+
+-- it was left as it was
+pub same-of : (who : ℕ) (bs : List (Option Buffer)) (cs : List Client) (r : Rest) (w : Kept) (c : Client) (slot : Option Buffer) (b to : Buffer) → parts bs cs r ≡ w → c ≡ first_where (is_of who) (newcomer who 0 0) cs → is_joined who w.flat ≡ true → slot ≡ get_or bs c.shown slot → slot ≡ Some b
+    → to ≡ b → (parts (set bs c.shown (Some to)) cs r).flat ≡ w.flat
+same-of who bs cs r w c slot b to e g j l s t =
+    ap (λ x. (parts (set bs c.shown (Some x)) cs r).flat) t ∙ ap (λ x. (parts x cs r).flat) (set-same c.shown b bs (slot-at who bs cs r w c slot b e g j l s)) ∙ ap (λ (k : Kept). k.flat) e

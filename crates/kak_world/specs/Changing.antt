@@ -1,41 +1,79 @@
 -- How a buffer changes: each single change of its text moves every selection list on it.
-use Rattle.std.specs.Prelude.{◌≡◌, ℕ, List, length, map, take}
+use Rattle.std.specs.Prelude.{◌≡◌, ℕ, List, length, map, option_map, take}
 use Rattle.list_model.specs.Ranges.{Selected, cursor}
 use Rattle.text_model.specs.Changes.{Change, all_changed}
 use Rattle.selection_map.specs.Catching.{eager_by}
+use Rattle.undo_model.specs.declared.travel.Travel.{Travel}
+use Rattle.undo_model.specs.Stories.{Story, edited}
+use Rattle.undo_model.specs.Moves.{moved_by, move_changes}
 use Rattle.undo_model.specs.Edits.{Splice, edit_changes}
-use Rattle.kak_world.specs.Flat.{Held, Buffer, Flat, changed_at, shown_of, text_of, sels_of}
+use Rattle.undo_model.specs.Marks.{left_by}
+use Rattle.kak_world.specs.declared.holder.Holder.{Holder}
+use Rattle.kak_world.specs.declared.holder.Holder.TheVariants.{Of}
+use Rattle.kak_world.specs.Flat.{Held, Buffer, Flat, changed_at, with_list, committed_for, shown_of, story_of, text_of}
 
 -- a list of a text after single changes of it: it is carried through each, and settled there
 abbrev pub list_moved : List ℕ → List Change → Held → Held
 list_moved text cs held = record held { sels = eager_by text cs held.sels }
 
--- a buffer after single changes of its text, which move every list on it, whoever holds it
-abbrev pub buffer_changed : List Change → Buffer → Buffer
-buffer_changed cs b = record b { text = all_changed b.text cs; lists = map (list_moved b.text cs) b.lists }
+-- a buffer with another story, to whose text single changes lead: they move every list on it, whoever holds it
+abbrev pub buffer_changed : List Change → Story → Buffer → Buffer
+buffer_changed cs story b = record b { story = story; lists = map (list_moved b.story.text cs) b.lists }
 
--- the world after single changes of the buffer of a number
-unfoldable pub changed_in : ℕ → List Change → Flat → Flat
-changed_in n cs flat = record flat { buffers = changed_at n (buffer_changed cs) flat.buffers }
+-- a buffer after single changes that a client made
+abbrev pub buffer_edited : ℕ → List Change → Buffer → Buffer
+buffer_edited who cs b = buffer_changed cs (edited who cs b.story) b
 
--- characters that go in at an offset
-abbrev pub going_in : List ℕ → ℕ → Splice
-going_in s p = record { from = p; «to» = p; put = s }
+-- a buffer after a move in its history
+abbrev pub buffer_moved : Travel → Buffer → Buffer
+buffer_moved travel b = buffer_changed (move_changes travel b.story) (moved_by travel b.story) b
 
--- the single changes that put characters in before the cursor of each selection of a text, from the first to the last
-abbrev pub before_cursors : List ℕ → List ℕ → Selected → List Change
-before_cursors s text sels = edit_changes (length text) text (map (λ r. going_in s (cursor r)) sels.list)
+-- a buffer after a move that a holder made: its list is the one that the move leaves
+abbrev pub buffer_traveled : Holder → Travel → Buffer → Buffer
+buffer_traveled holder travel b = with_list holder (λ held. record held { sels = left_by b.story.text (move_changes travel b.story) held.sels }) (buffer_moved travel b)
 
--- the world with characters put in before each cursor of a client
-unfoldable pub put_before_cursors : List ℕ → ℕ → Flat → Flat
-put_before_cursors s who flat = changed_in (shown_of who flat) (before_cursors s (text_of who flat) (sels_of who flat)) flat
-
--- a buffer after some of the changes, from the first on
-pub record IsAfterSome (cs : List Change) (old new : Buffer) : Type 0 where
+-- a buffer after some of a client's changes, from the first on
+pub record IsSomeEdited (who : ℕ) (cs : List Change) (old new : Buffer) : Type 0 where
   pub made : ℕ
-  pub is : new ≡ buffer_changed (take made cs) old
+  pub is : new ≡ buffer_edited who (take made cs) old
 
--- the world after some of the changes of the buffer of a number, from the first on
-pub record IsAfterSomeIn (n : ℕ) (cs : List Change) (old new : Flat) : Type 0 where
+-- a buffer after some of the changes that lead to another story, from the first on: nothing is said of the undo tree, whose
+-- history may be lost
+pub record IsSomeMoved (cs : List Change) (old new : Buffer) : Type 0 where
   pub made : ℕ
-  pub is : new ≡ changed_in n (take made cs) old
+  pub story : Story
+  pub text : story.text ≡ all_changed old.story.text (take made cs)
+  pub is : new ≡ buffer_changed (take made cs) story old
+
+-- the world with the buffer of a number changed
+unfoldable pub changed_in : ℕ → (Buffer → Buffer) → Flat → Flat
+changed_in n f flat = record flat { buffers = changed_at n f flat.buffers }
+
+-- the single changes of a client's replacements in the text that it sees
+abbrev pub splice_changes_of : List Splice → ℕ → Flat → List Change
+splice_changes_of splices who flat = edit_changes (length (text_of who flat)) (text_of who flat) splices
+
+-- the world after an edit: a client's replacements in the text that it sees
+unfoldable pub edited_by : List Splice → ℕ → Flat → Flat
+edited_by splices who flat = changed_in (shown_of who flat) (buffer_edited who (splice_changes_of splices who flat)) flat
+
+-- the world after a client moved in the history of the buffer that it sees
+unfoldable pub traveled_by : Travel → ℕ → Flat → Flat
+traveled_by travel who flat = changed_in (shown_of who flat) (buffer_traveled (Of who) travel) flat
+
+-- the world in which all pending groups of a client are committed
+unfoldable pub commits : ℕ → Flat → Flat
+commits who flat = record flat { buffers = map (option_map (committed_for who)) flat.buffers }
+
+-- the world after some of a client's changes of the buffer that it sees, from the first on
+pub record IsAfterSome (who : ℕ) (cs : List Change) (old new : Flat) : Type 0 where
+  pub made : ℕ
+  pub is : new ≡ changed_in (shown_of who old) (buffer_edited who (take made cs)) old
+
+-- the world after some of the changes that lead to another story of the buffer that a client sees, from the first on: nothing is
+-- said of the undo tree, whose history may be lost
+pub record IsCutOff (who : ℕ) (cs : List Change) (old new : Flat) : Type 0 where
+  pub made : ℕ
+  pub story : Story
+  pub text : story.text ≡ all_changed (text_of who old) (take made cs)
+  pub is : new ≡ changed_in (shown_of who old) (buffer_changed (take made cs) story) old

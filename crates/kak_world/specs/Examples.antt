@@ -1,10 +1,15 @@
 -- Worked examples of the flat world, which hold by computation.
-use Rattle.std.specs.Prelude.{◌≡◌, ℕ, true, false, None, Some, [], ◌∷◌, List, codes, map}
-use Rattle.list_model.specs.Ranges.{Range, Selected, only}
+use Rattle.std.specs.Prelude.{◌≡◌, ℕ, true, false, None, Some, [], ◌∷◌, List, length, codes, map}
+use Rattle.list_model.specs.Ranges.{Range, Selected, only, cursor}
 use Rattle.text_model.specs.Changes.{Erasure}
+use Rattle.undo_model.specs.declared.travel.Travel.TheVariants.{Undo, Redo, Node}
+use Rattle.undo_model.specs.Stories.{opened}
 use Rattle.kak_world.specs.declared.holder.Holder.TheVariants.{Of}
-use Rattle.kak_world.specs.Flat.{Held, Flat, opening, is_joined, name_of, text_of, sels_of, joined_by, left_by, buffer_at, numbers_of, fresh, newcomer}
-use Rattle.kak_world.specs.Changing.{changed_in, put_before_cursors}
+use Rattle.kak_world.specs.Flat.{Held, Flat, opening, is_joined, name_of, text_of, sels_of, story_of, node_of, joined_by, left_by, buffer_at, numbers_of, fresh, newcomer}
+use Rattle.kak_world.specs.declared.ask.EditError.TheVariants.{NothingToUndo, NothingToRedo, NoSuchNode}
+use Rattle.kak_world.specs.Changing.{changed_in, buffer_edited, edited_by, traveled_by, commits}
+use Rattle.kak_world.specs.Rows.{Fails, error_text}
+use Rattle.kak_world.specs.Editing.{travel_row}
 
 -- a straight selection, and a turned one
 abbrev pub straight : ℕ → ℕ → Range
@@ -30,7 +35,7 @@ list_for who s = record (fresh (Of who)) { sels = s }
 -- clients 7 and 9 on a text, with these selections
 abbrev pub on_text : List ℕ → Selected → Selected → Flat
 on_text text first second = record {
-  buffers = Some (record { name = codes "n"; is_file = true; text = text; lists = list_for 7 first ∷ list_for 9 second ∷ [] }) ∷ [];
+  buffers = Some (record { name = codes "n"; is_file = true; story = opened text; lists = list_for 7 first ∷ list_for 9 second ∷ [] }) ∷ [];
   clients = newcomer 7 0 0 ∷ newcomer 9 1 0 ∷ [];
   rest = record { units = 0 };
 }
@@ -38,13 +43,17 @@ on_text text first second = record {
 abbrev pub at : ℕ → Selected
 at o = sels (only o ∷ []) 0
 
+-- characters of a client before each of its cursors
+abbrev pub typed : List ℕ → ℕ → Flat → Flat
+typed s who flat = edited_by (map (λ r. record { from = cursor r; «to» = cursor r; put = s }) (sels_of who flat).list) who flat
+
 -- both type: 7 an x, 9 a y, and 7 a z
 abbrev pub both_typed : Flat
-both_typed = put_before_cursors (codes "z") 7 (put_before_cursors (codes "y") 9 (put_before_cursors (codes "x") 7 (on_text (codes "ab\n") (at 0) (at 1))))
+both_typed = typed (codes "z") 7 (typed (codes "y") 9 (typed (codes "x") 7 (on_text (codes "ab\n") (at 0) (at 1))))
 
 -- 9 has two selections, of which the first is turned, and three characters between them and in them go
 abbrev pub middle_gone : Flat
-middle_gone = changed_in 0 (Erasure 2 5 ∷ []) (on_text (codes "abcdefgh\n") (at 0) (sels (turned 1 2 ∷ straight 5 6 ∷ []) 1))
+middle_gone = changed_in 0 (buffer_edited 7 (Erasure 2 5 ∷ [])) (on_text (codes "abcdefgh\n") (at 0) (sels (turned 1 2 ∷ straight 5 6 ∷ []) 1))
 
 pub record ComingExamples : Type 0 where
   pub nobody_is_there : is_joined 7 opening ≡ false
@@ -59,18 +68,44 @@ pub record ComingExamples : Type 0 where
   pub freed_name_is_taken_again : numbers_of (joined_by 11 (left_by 7 two_clients)).clients ≡ 1 ∷ 0 ∷ []
 
 pub record ChangeExamples : Type 0 where
-  pub one_types : text_of 9 (put_before_cursors (codes "x") 7 (on_text (codes "ab\n") (at 0) (at 1))) ≡ codes "xab\n"
-  pub the_other_moves_along : sels_of 9 (put_before_cursors (codes "x") 7 (on_text (codes "ab\n") (at 0) (at 1))) ≡ at 2
+  pub one_types : text_of 9 (typed (codes "x") 7 (on_text (codes "ab\n") (at 0) (at 1))) ≡ codes "xab\n"
+  pub the_other_moves_along : sels_of 9 (typed (codes "x") 7 (on_text (codes "ab\n") (at 0) (at 1))) ≡ at 2
   pub both_type : text_of 7 both_typed ≡ codes "xzayb\n"
   pub where_the_first_is : sels_of 7 both_typed ≡ at 2
   pub where_the_second_is : sels_of 9 both_typed ≡ at 4
-  pub at_each_cursor : text_of 7 (put_before_cursors (codes "x") 7 (on_text (codes "ab\n") (sels (only 0 ∷ only 1 ∷ []) 1) (at 1))) ≡ codes "xaxb\n"
-  pub each_moves_on : sels_of 7 (put_before_cursors (codes "x") 7 (on_text (codes "ab\n") (sels (only 0 ∷ only 1 ∷ []) 1) (at 1))) ≡ sels (only 1 ∷ only 3 ∷ []) 1
+  pub at_each_cursor : text_of 7 (typed (codes "x") 7 (on_text (codes "ab\n") (sels (only 0 ∷ only 1 ∷ []) 1) (at 1))) ≡ codes "xaxb\n"
+  pub each_moves_on : sels_of 7 (typed (codes "x") 7 (on_text (codes "ab\n") (sels (only 0 ∷ only 1 ∷ []) 1) (at 1))) ≡ sels (only 1 ∷ only 3 ∷ []) 1
   pub two_become_one : sels_of 9 middle_gone ≡ sels (turned 1 3 ∷ []) 0
-  pub and_shrink : sels_of 9 (changed_in 0 (Erasure 1 2 ∷ []) middle_gone) ≡ sels (turned 1 2 ∷ []) 0
-  pub other_buffers_stay : text_of 9 (changed_in 1 (Erasure 0 1 ∷ []) (on_text (codes "ab\n") (at 0) (at 1))) ≡ codes "ab\n"
+  pub and_shrink : sels_of 9 (changed_in 0 (buffer_edited 7 (Erasure 1 2 ∷ [])) middle_gone) ≡ sels (turned 1 2 ∷ []) 0
+  pub other_buffers_stay : text_of 9 (changed_in 1 (buffer_edited 7 (Erasure 0 1 ∷ [])) (on_text (codes "ab\n") (at 0) (at 1))) ≡ codes "ab\n"
+
+-- 7 takes back what it typed last, where 9 typed in between; and it makes that again
+abbrev pub taken_back : Flat
+taken_back = traveled_by Undo 7 (commits 7 both_typed)
+
+abbrev pub made_again : Flat
+made_again = traveled_by Redo 9 taken_back
+
+pub record HistoryExamples : Type 0 where
+  pub each_group_is_a_node : length (story_of 7 (commits 7 both_typed)).nodes ≡ 4
+  pub undo_takes_the_last : text_of 7 taken_back ≡ codes "xayb\n"
+  pub who_undoes_stands_there : sels_of 7 taken_back ≡ at 1
+  pub the_other_moves_along : sels_of 9 taken_back ≡ at 3
+  pub redo_makes_it_again : text_of 9 made_again ≡ codes "xzayb\n"
+  pub who_redoes_stands_there : sels_of 9 made_again ≡ at 1
+  pub the_first_moves_along : sels_of 7 made_again ≡ at 2
+  pub pending_counts : node_of 7 both_typed ≡ 3
+  pub to_the_first_node : text_of 7 (traveled_by (Node 1) 7 both_typed) ≡ codes "xab\n"
+  pub others_undo_what_is_pending : text_of 9 (traveled_by Undo 9 both_typed) ≡ codes "xayb\n"
+  pub leaving_commits : node_of 9 (left_by 7 both_typed) ≡ 3
+  pub and_nothing_is_lost : text_of 9 (left_by 7 both_typed) ≡ codes "xzayb\n"
+  pub nothing_to_undo : (travel_row Undo 7 one_client).row ≡ Fails (error_text NothingToUndo)
+  pub nothing_to_redo : (travel_row Redo 7 one_client).row ≡ Fails (error_text NothingToRedo)
+  pub no_such_node : (travel_row (Node 4) 7 both_typed).row ≡ Fails (error_text NoSuchNode)
+  pub which_commits_still : story_of 7 (travel_row (Node 4) 7 both_typed).world ≡ story_of 7 (commits 7 both_typed)
 
 -- all of them
 pub record Examples : Type 0 where
   pub coming : ComingExamples
   pub changes : ChangeExamples
+  pub history : HistoryExamples

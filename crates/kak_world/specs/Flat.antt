@@ -7,6 +7,7 @@ use Rattle.tables.specs.Tables.{first_where, changed_where, with_row}
 use Rattle.key_names.specs.declared.key.Key.{Key}
 use Rattle.list_model.specs.Ranges.{Selected, only}
 use Rattle.window_view.specs.View.{View}
+use Rattle.undo_model.specs.Stories.{Story, opened, committed, committed_by}
 use Rattle.kak_world.specs.declared.holder.Holder.{Holder}
 use Rattle.kak_world.specs.declared.holder.Holder.TheVariants.{Of}
 use Rattle.kak_world.specs.declared.own.Mode.{Mode}
@@ -23,11 +24,11 @@ pub record Held : Type 0 where
   pub sels : Selected
   pub view : View
 
--- a buffer: its name, whether that is a file's, its text, and the selection lists on it
+-- a buffer: its name, whether that is a file's, its story, which is its text with the undo tree, and the selection lists on it
 pub record Buffer : Type 0 where
   pub name : List ℕ
   pub is_file : Bool
-  pub text : List ℕ
+  pub story : Story
   pub lists : List Held
 
 -- the world
@@ -51,9 +52,9 @@ first_view = record { top = 0; left = 0; rows = 24; columns = 80 }
 abbrev pub fresh : Holder → Held
 fresh holder = record { holder = holder; sels = only_at 0; view = first_view }
 
--- a buffer that was just opened, with nobody's list on it
+-- a buffer that was just opened with a text, with nobody's list on it
 abbrev pub made : List ℕ → Bool → List ℕ → Buffer
-made name is_file text = record { name = name; is_file = is_file; text = text; lists = [] }
+made name is_file text = record { name = name; is_file = is_file; story = opened text; lists = [] }
 
 -- the buffer that is there when nothing else is
 abbrev pub scratch : Buffer
@@ -106,6 +107,14 @@ listed_for holder b = record b { lists = with_row (is_held_by holder) (fresh hol
 -- a buffer without a holder's lists on it
 abbrev pub unlisted_for : Holder → Buffer → Buffer
 unlisted_for holder b = record b { lists = filter (λ held. not (is_held_by holder held)) b.lists }
+
+-- a buffer in which a client's pending group is committed
+abbrev pub committed_for : ℕ → Buffer → Buffer
+committed_for who b = record b { story = committed_by who b.story }
+
+-- a buffer that a client leaves: its pending group is committed, and its list goes
+abbrev pub left_behind : ℕ → Buffer → Buffer
+left_behind who b = unlisted_for (Of who) (committed_for who b)
 
 -- whether a number is a buffer's
 abbrev pub is_there : ℕ → List (Option Buffer) → Bool
@@ -178,10 +187,18 @@ unfoldable pub name_of : ℕ → Flat → List ℕ
 name_of who flat = (buffer_of who flat).name
 
 unfoldable pub text_of : ℕ → Flat → List ℕ
-text_of who flat = (buffer_of who flat).text
+text_of who flat = (buffer_of who flat).story.text
 
 unfoldable pub sels_of : ℕ → Flat → Selected
 sels_of who flat = (list_of who flat).sels
+
+-- the story of the buffer that it sees
+unfoldable pub story_of : ℕ → Flat → Story
+story_of who flat = (buffer_of who flat).story
+
+-- the number of the node that the text is at, or will be at when what is pending is committed
+unfoldable pub node_of : ℕ → Flat → ℕ
+node_of who flat = (committed (story_of who flat)).current
 
 -- the window through which it sees the buffer
 unfoldable pub view_of : ℕ → Flat → View
@@ -242,9 +259,9 @@ joined_by who flat = record flat {
   clients = flat.clients ++ newcomer who (least_free (numbers_of flat.clients)) (lowest flat.buffers) ∷ [];
 }
 
--- the world without a client and its lists
+-- the world without a client and its lists; what was pending of it is committed
 unfoldable pub left_by : ℕ → Flat → Flat
 left_by who flat = record flat {
-  buffers = map (option_map (unlisted_for (Of who))) flat.buffers;
+  buffers = map (option_map (left_behind who)) flat.buffers;
   clients = filter (λ c. not (is_of who c)) flat.clients;
 }

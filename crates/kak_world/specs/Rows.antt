@@ -7,7 +7,7 @@ use Rattle.std.specs.Prelude.{Ok, Err}
 use Rattle.kak_world.specs.declared.ask.Ask.{Ask}
 use Rattle.kak_world.specs.declared.ask.Ask.TheVariants.{Nothing}
 use Rattle.kak_world.specs.declared.ask.EditError.{EditError}
-use Rattle.kak_world.specs.declared.ask.EditError.TheVariants.{TextFull, NoSuchCommand, NothingSelected, TooManySelections, BudgetSpent, NoMemory}
+use Rattle.kak_world.specs.declared.ask.EditError.TheVariants.{TextFull, UndoFull, NothingToUndo, NothingToRedo, NoSuchNode, NoSuchCommand, NothingSelected, TooManySelections, BudgetSpent, NoMemory}
 use Rattle.kak_world.specs.Flat.{Flat}
 
 -- What comes after a row: it asks for something, it fails with a status text, or the whole step is given up.
@@ -28,6 +28,10 @@ does flat = record { world = flat; row = Asks Nothing }
 -- the status text of a refusal; want of memory has none
 abbrev pub error_text : EditError → List ℕ
 error_text TextFull = codes "text is full"
+error_text UndoFull = codes "undo tree full"
+error_text NothingToUndo = codes "nothing to undo"
+error_text NothingToRedo = codes "nothing to redo"
+error_text NoSuchNode = codes "no such undo node"
 error_text (NoSuchCommand name) = codes "no such command: " ++ name
 error_text NothingSelected = codes "nothing selected"
 error_text TooManySelections = codes "too many selections"
@@ -48,3 +52,8 @@ row_of error = Some (Fails (error_text error))
 abbrev pub Gives : Result Ask EditError → Flat → RowEnd → Type 0
 Gives (Ok ask) new end = end ≡ record { world = new; row = Asks ask }
 Gives (Err error) new end = IfSome (row_of error) (λ row. end ≡ record { world = new; row = row })
+
+-- the same for code that asks for nothing: the row is a change of the world, or a refusal
+abbrev pub Answers : {T : Type 0} → Result T EditError → Flat → RowEnd → Type 0
+Answers (Ok done) new end = end ≡ does new
+Answers (Err error) new end = IfSome (row_of error) (λ row. end ≡ record { world = new; row = row })

@@ -5,11 +5,14 @@ use Rattle.text_model.specs.declared.coords.Shift.{Shift}
 use Rattle.text_model.specs.Texts.{IsStored}
 use Rattle.text_model.specs.Changes.{Change, all_changed}
 use Rattle.selection_map.specs.Catching.{AreShiftsOf}
+use Rattle.undo_model.specs.Stories.{Story}
 use Rattle.window_view.specs.Views.{view_of as window_seen}
 use Rattle.selection_set.specs.Held.{selected, IsHeld}
 use Rattle.kak_world.specs.declared.lists.HeldList.{HeldList}
 use Rattle.kak_world.specs.declared.holder.Holder.{Holder}
 use Rattle.std.specs.declared.option.Option.{Option}
+use Rattle.std.specs.declared.result.Result.{Result}
+use Rattle.std.specs.Prelude.{Ok, Err}
 use Rattle.kak_world.specs.Flat.{Held, Buffer, Flat, same_holder, lowest, is_there}
 use Rattle.kak_world.specs.Changing.{list_moved}
 
@@ -22,8 +25,8 @@ abbrev pub is_list_of : Holder → HeldList → Bool
 is_list_of holder h = same_holder holder h.holder
 
 -- a buffer
-abbrev pub buffer_seen : List ℕ → Bool → List ℕ → List HeldList → Buffer
-buffer_seen name is_file text lists = record { name = name; is_file = is_file; text = text; lists = map (held_seen text) lists }
+abbrev pub buffer_seen : List ℕ → Bool → Story → List HeldList → Buffer
+buffer_seen name is_file story lists = record { name = name; is_file = is_file; story = story; lists = map (held_seen story.text) lists }
 
 -- the lists on a text lie inside it, and are settled
 abbrev pub AreHeld : List ℕ → List HeldList → Type 0
@@ -43,7 +46,7 @@ HaveMoved text cs (h ∷ hs) [] = ⊥
 
 -- lists on a text that were changed as a buffer with them is by a function, whatever else is said of the buffer
 abbrev pub AreListedBy : (Buffer → Buffer) → List ℕ → List HeldList → List HeldList → Type 0
-AreListedBy f text old new = (name : List ℕ) (file : Bool) → buffer_seen name file text new ≡ f (buffer_seen name file text old)
+AreListedBy f text old new = (name : List ℕ) (file : Bool) (story : Story) → story.text ≡ text → buffer_seen name file story new ≡ f (buffer_seen name file story old)
 
 -- some buffer is there, and their numbers are below 1,024
 pub record HasBuffer (buffers : List (Option Buffer)) : Type 0 where
@@ -61,3 +64,8 @@ pub record CanMove (lists : List HeldList) (shifts : List Shift) : Type 0 where
 -- the world as contracts see it
 pub record Kept : Type 0 where
   pub flat : Flat
+
+-- an answer without a value, with this value where it is well
+abbrev pub Carries : {T E : Type 0} → Result (Unit {0}) E → T → Result T E → Type 0
+Carries (Ok done) x r = r ≡ Ok x
+Carries (Err e) x r = r ≡ Err e

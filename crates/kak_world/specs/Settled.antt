@@ -14,7 +14,7 @@ pub record AreSettledInside (text : List ℕ) (s : Selected) : Type 0 where
 
 -- so it is with each list on a buffer
 abbrev pub ListsAreSettled : Buffer → Type 0
-ListsAreSettled b = AllByRecursion (λ (held : Held). AreSettledInside b.text held.sels) b.lists
+ListsAreSettled b = AllByRecursion (λ (held : Held). AreSettledInside b.story.text held.sels) b.lists
 
 -- where there is one
 abbrev pub SlotIsSettled : Option Buffer → Type 0

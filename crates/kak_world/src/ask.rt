@@ -2,7 +2,9 @@
 
 ghost use Rattle.std.specs.Prelude.{◌≡◌, IfOk, IsErr};
 ghost use Rattle.kak_world.specs.declared.ask.EditError.TheVariants.{NoMemory};
+ghost use Rattle.kak_world.specs.Refusals.{of_edit, of_move};
 
+use buffer_store::{BufferError, MoveError};
 use kak_text::Chars;
 use std::alloc::{AllocError, Global};
 
@@ -22,6 +24,14 @@ pub enum Ask {
 pub enum EditError {
     /// The text would have more characters than a text may have.
     TextFull,
+    /// The undo tree has as many nodes as it may have, and the edit would begin one.
+    UndoFull,
+    /// There is nothing to take back.
+    NothingToUndo,
+    /// There is nothing to make again.
+    NothingToRedo,
+    /// The undo tree has no such node.
+    NoSuchNode,
     /// There is no such command.
     NoSuchCommand(Chars),
     /// No selection would be left.
@@ -42,6 +52,31 @@ impl From<AllocError> for EditError {
     }
 }
 
+impl From<BufferError> for EditError {
+    ghost from_gives = { λ b e. e ≡ of_edit b };
+
+    fn from(error: BufferError) -> EditError {
+        match error {
+            BufferError::UndoFull => EditError::UndoFull,
+            BufferError::TextFull => EditError::TextFull,
+            BufferError::NoMemory => EditError::NoMemory,
+        }
+    }
+}
+
+impl From<MoveError> for EditError {
+    ghost from_gives = { λ m e. e ≡ of_move m };
+
+    fn from(error: MoveError) -> EditError {
+        match error {
+            MoveError::AtRoot => EditError::NothingToUndo,
+            MoveError::NoChild => EditError::NothingToRedo,
+            MoveError::NoNode(_) => EditError::NoSuchNode,
+            MoveError::NoMemory => EditError::NoMemory,
+        }
+    }
+}
+
 impl EditError {
     ghost use Rattle.kak_world.specs.Rows.{error_text};
 
@@ -52,6 +87,10 @@ impl EditError {
     {
         match self {
             EditError::TextFull => Chars::from_str(alloc, "text is full"),
+            EditError::UndoFull => Chars::from_str(alloc, "undo tree full"),
+            EditError::NothingToUndo => Chars::from_str(alloc, "nothing to undo"),
+            EditError::NothingToRedo => Chars::from_str(alloc, "nothing to redo"),
+            EditError::NoSuchNode => Chars::from_str(alloc, "no such undo node"),
             EditError::NothingSelected => Chars::from_str(alloc, "nothing selected"),
             EditError::TooManySelections => Chars::from_str(alloc, "too many selections"),
             EditError::BudgetSpent => Chars::from_str(alloc, "given up: budget spent"),

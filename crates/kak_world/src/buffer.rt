@@ -1,33 +1,41 @@
 //! A buffer: a text under a name, with the selection lists on it.
 
-ghost use Rattle.std.specs.Prelude.{◌≡◌, ◌<◌, ◌≤◌, ◌+◌, ◌*◌, ◌^◌, true, length, take, OnOk, OnErr};
-ghost use Rattle.text_model.specs.declared.TheConstants.{MAX_CHARS};
+ghost use Rattle.std.specs.Prelude.{◌≡◌, ◌<◌, ◌≤◌, ◌+◌, ◌^◌, ◌↔◌, ◌⊎◌, true, false, length, None, Err, IfOk, IfErr, OnOk, OnErr, IsErrOf};
 ghost use Rattle.list_model.specs.Ranges.{Selected};
 ghost use Rattle.selection_set.specs.Held.{selected, IsHeld};
 ghost use Rattle.window_view.specs.View.{followed};
 ghost use Rattle.window_view.specs.Views.{view_of as window_seen};
-ghost use Rattle.kak_world.specs.Flat.{made, has_list, list_on, with_list, listed_for, unlisted_for};
+ghost use Rattle.undo_model.specs.declared.TheConstants.{MAX_NODES};
+ghost use Rattle.undo_model.specs.Stories.{committed, is_undo_full};
+ghost use Rattle.undo_model.specs.Moves.{target_of, move_changes};
+ghost use Rattle.undo_model.specs.Edits.{is_too_long};
+ghost use Rattle.buffer_store.specs.declared.errors.BufferError.TheVariants.{UndoFull, TextFull};
+ghost use Rattle.buffer_store.specs.Stored.{shifts_of};
+ghost use Rattle.buffer_store.specs.Buffers.{AreSplicesOf, flat_splices, changes_of, refusal_of};
+ghost use Rattle.kak_world.specs.Flat.{made, has_list, list_on, with_list, listed_for, unlisted_for, committed_for};
 ghost use Rattle.kak_world.specs.Settled.{ListsAreSettled};
 ghost use Rattle.kak_world.specs.Dropping.{listed_for_viewers};
-ghost use Rattle.kak_world.specs.Changing.{before_cursors, buffer_changed, IsAfterSome};
+ghost use Rattle.kak_world.specs.Seen.{Carries};
+ghost use Rattle.kak_world.specs.Changing.{buffer_edited, buffer_traveled, IsSomeEdited, IsSomeMoved};
 
 use crate::clients::Client;
-use crate::edits::put_before_each;
 use crate::holder::Holder;
 use crate::lists::{HeldList, add_for_viewers, move_all, place};
-use kak_text::Chars;
+use buffer_store::{Buffer as Store, BufferError, MoveError, Splice};
+use kak_text::{Chars, Shift};
 use line_buffer::Lines;
 use selection_set::Sels;
 use std::alloc::{AllocError, Global};
 use std::marker::Model;
+use undo_model::Travel;
 use window_view::Window;
 
-/// A text under a name, with the selection lists on it: each lies inside the text and is settled.
+/// A text under a name, with its undo tree and the selection lists on it: each lies inside the text and is settled.
 #[derive(Drop, Debug)]
 pub struct Buffer {
     name: Chars,
     is_file: bool,
-    lines: Lines,
+    store: Store,
     lists: Vec<HeldList>,
 }
 
@@ -37,22 +45,37 @@ impl Model for Buffer {
 
     ghost Value = { BufferSeen };
 
-    ghost view = { λ b. buffer_seen b.name b.is_file b.lines b.lists.items };
+    ghost view = { λ b. buffer_seen b.name b.is_file b.store.story b.lists.items };
 
-    ghost invariant = { λ b. AreHeld b.lines b.lists.items };
+    ghost invariant = { λ b. AreHeld b.store.story.text b.lists.items };
+}
+
+// These shifts where the answer is well, or else its error.
+fn carrying(done: Result<(), BufferError>, shifts: Vec<Shift>) -> Result<Vec<Shift>, BufferError>
+    ensures { Carries done shifts result }
+{
+    match done {
+        Ok(()) => Ok(shifts),
+        Err(error) => Err(error),
+    }
 }
 
 impl Buffer {
-    /// A buffer with nobody's list on it. Takes no memory.
-    pub fn new(alloc: Global, name: Chars, is_file: bool, lines: Lines) -> Buffer
-        ensures { result ≡ made name is_file lines }
+    /// A buffer with a text that counts as saved, and nobody's list on it.
+    pub fn new(
+        alloc: Global,
+        name: Chars,
+        is_file: bool,
+        lines: Lines,
+    ) -> Result<Buffer, AllocError>
+        ensures { IfOk result (λ b. b ≡ made name is_file lines) }
     {
-        Buffer {
+        Ok(Buffer {
             name,
             is_file,
-            lines,
+            store: Store::new(alloc, lines)?,
             lists: Vec::new(alloc),
-        }
+        })
     }
 
     /// Its name.
@@ -64,9 +87,9 @@ impl Buffer {
 
     /// Its text.
     pub fn lines(&self) -> &Lines
-        ensures { result.now ≡ self.now.text }
+        ensures { result.now ≡ self.now.story.text }
     {
-        &self.lines
+        self.store.lines()
     }
 
     /// A law: each list on it is settled, and lies inside its text.
@@ -86,8 +109,8 @@ impl Buffer {
     /// A holder's selections: a settled list inside the text.
     pub fn sels(&self, holder: Holder) -> &Sels
         requires { has_list holder self.now ≡ true }
-        ensures sels { (list_on holder self.now).sels ≡ selected self.now.text result.now }
-        ensures held { IsHeld self.now.text result.now }
+        ensures sels { (list_on holder self.now).sels ≡ selected self.now.story.text result.now }
+        ensures held { IsHeld self.now.story.text result.now }
     {
         let list = &self.lists[place(self.lists.as_slice(), holder)];
         &list.sels
@@ -105,8 +128,8 @@ impl Buffer {
     /// Gives a holder other selections: a settled list inside the text.
     pub fn set_sels(&mut self, holder: Holder, sels: Sels)
         requires list { has_list holder self.old ≡ true }
-        requires held { IsHeld self.old.text sels }
-        ensures { self.new ≡ with_list holder (λ held. record held { sels = selected self.old.text sels }) self.old }
+        requires held { IsHeld self.old.story.text sels }
+        ensures { self.new ≡ with_list holder (λ held. record held { sels = selected self.old.story.text sels }) self.old }
     {
         let at = place(self.lists.as_slice(), holder);
         let list = &mut self.lists[at];
@@ -144,7 +167,7 @@ impl Buffer {
         if place(self.lists.as_slice(), holder) < self.lists.len() {
             return Ok(());
         }
-        let list = HeldList::new(alloc, holder, &self.lines);
+        let list = HeldList::new(alloc, holder, self.store.lines());
         self.lists.push(list)?;
         Ok(())
     }
@@ -160,7 +183,7 @@ impl Buffer {
         ensures ok { OnOk result (self.new ≡ listed_for_viewers n clients.now self.old) }
         ensures err { OnErr result (self.new ≡ self.old) }
     {
-        add_for_viewers(&mut self.lists, alloc, &self.lines, n, clients)
+        add_for_viewers(&mut self.lists, alloc, self.store.lines(), n, clients)
     }
 
     /// Takes a holder's lists off it. Takes no memory.
@@ -170,32 +193,72 @@ impl Buffer {
         self.lists.retain(|list| !holder.is(list.holder));
     }
 
-    /// Puts characters in before each cursor of a holder, from the first to the last, where the text has room for all of
-    /// them; each list goes through every single change. An `Err` leaves the buffer after some of the single changes,
-    /// from the first on.
-    pub fn put_before_cursors(
+    /// Commits a client's pending group, if there is one. Takes no memory.
+    pub fn commit(&mut self, who: u32)
+        ensures { self.new ≡ committed_for who self.old }
+    {
+        self.store.commit(who);
+    }
+
+    /// The number of the node that the text is at, or will be at when what is pending is committed.
+    pub fn node(&self) -> u32
+        ensures value { result ≡ (committed self.now.story).current }
+        ensures few { result ≤ MAX_NODES }
+    {
+        self.store.is_story();
+        match self.store.owner() {
+            None => self.store.node(),
+            Some(_) => self.store.nodes(),
+        }
+    }
+
+    /// Makes a client's replacements, from the first to the last, and gives the shifts of the single changes, each of
+    /// which moves every list. `UndoFull` and `TextFull` leave the buffer; after want of memory it is as it is behind
+    /// some of the single changes, from the first on.
+    pub fn edit(
         &mut self,
         alloc: Global,
-        holder: Holder,
-        chars: &[char],
-    ) -> Result<(), AllocError>
-        requires list { has_list holder self.old ≡ true }
-        requires some { 0 < length chars.now }
-        requires room { length self.old.text + length (list_on holder self.old).sels.list * length chars.now ≤ MAX_CHARS }
-        ensures ok { OnOk result (self.new ≡ buffer_changed (before_cursors chars.now self.old.text (list_on holder self.old).sels) self.old) }
-        ensures err { OnErr result (IsAfterSome (before_cursors chars.now self.old.text (list_on holder self.old).sels) self.old self.new) }
+        who: u32,
+        splices: &[Splice],
+    ) -> Result<Vec<Shift>, BufferError>
+        requires { AreSplicesOf self.old.story.text splices.now }
+        ensures ok { OnOk result (self.new ≡ buffer_edited who (changes_of self.old.story.text splices.now) self.old) }
+        ensures shifts { IfOk result (λ shifts. shifts.items ≡ shifts_of self.old.story.text (changes_of self.old.story.text splices.now)) }
+        ensures undo_full { IsErrOf result UndoFull ↔ (is_undo_full who (changes_of self.old.story.text splices.now) self.old.story ≡ true) }
+        ensures text_full { IsErrOf result TextFull ↔ ((is_undo_full who (changes_of self.old.story.text splices.now) self.old.story ≡ false)
+            × (is_too_long (length self.old.story.text) self.old.story.text (flat_splices self.old.story.text splices.now) ≡ true)) }
+        ensures undo_left { IsErrOf result UndoFull → self.new ≡ self.old }
+        ensures text_left { IsErrOf result TextFull → self.new ≡ self.old }
+        ensures err { OnErr result (IsSomeEdited who (changes_of self.old.story.text splices.now) self.old self.new) }
     {
-        let at = place(self.lists.as_slice(), holder);
-        let list = &self.lists[at];
-        let mut shifts = Vec::with_capacity(alloc, list.sels.len())?;
-        let done = put_before_each(
-            alloc,
-            &mut self.lines,
-            list.sels.as_slice(),
-            chars,
-            &mut shifts,
-        );
+        self.store.is_story();
+        let mut shifts = Vec::new(alloc);
+        let done = self.store.edit(alloc, who, splices, &mut shifts);
         move_all(&mut self.lists, shifts.as_slice());
-        done
+        carrying(done, shifts)
+    }
+
+    /// Commits what is pending, and goes to another node of the undo tree: each single change moves every list, and the
+    /// holder's list is then the one that the changes leave. Where there is no such node it is refused, by the name for
+    /// that. After want of memory the text is as it is behind some of the single changes, from the first on.
+    pub fn travel(&mut self, alloc: Global, holder: Holder, travel: Travel) -> Result<(), MoveError>
+        requires { has_list holder self.old ≡ true }
+        ensures ok { OnOk result (self.new ≡ buffer_traveled holder travel self.old) }
+        ensures nowhere { target_of travel self.old.story ≡ None → (result ≡ Err (refusal_of travel)) × (self.new ≡ buffer_traveled holder travel self.old) }
+        ensures refused { IfErr result (λ e. (e ≡ MoveError.NoMemory) ⊎ (target_of travel self.old.story ≡ None)) }
+        ensures err { OnErr result (IsSomeMoved (move_changes travel self.old.story) self.old self.new) }
+    {
+        self.store.is_story();
+        let mut shifts = Vec::new(alloc);
+        let left = self.store.travel(alloc, travel, &mut shifts);
+        move_all(&mut self.lists, shifts.as_slice());
+        match left {
+            Ok(Some(sels)) => {
+                self.set_sels(holder, sels);
+                Ok(())
+            }
+            Ok(None) => Ok(()),
+            Err(error) => Err(error),
+        }
     }
 }

@@ -1,7 +1,7 @@
 //! Clients that come and go.
 
 ghost use Rattle.std.specs.Prelude.{◌≡◌, ◌<◌, true, false, length, map, option_map, OnOk, OnErr};
-ghost use Rattle.kak_world.specs.Flat.{is_here, is_joined, joined_by, left_by, lowest, unlisted_for};
+ghost use Rattle.kak_world.specs.Flat.{is_here, is_joined, joined_by, left_by, left_behind, lowest};
 ghost use Rattle.kak_world.specs.declared.world.TheConstants.{MAX_CLIENTS};
 
 use crate::buffer::Buffer;
@@ -21,22 +21,25 @@ fn lowest(buffers: &[Option<Buffer>]) -> usize
     buffers.len()
 }
 
-// Takes a holder's lists off a buffer, where there is one.
-fn drop_lists(slot: &mut Option<Buffer>, holder: Holder)
-    ensures { slot.new ≡ option_map (unlisted_for holder) slot.old }
+// Commits a client's pending group in a buffer, and takes its lists off it, where there is one.
+fn leave_buffer(slot: &mut Option<Buffer>, who: u32)
+    ensures { slot.new ≡ option_map (left_behind who) slot.old }
 {
     match slot {
         None => {}
-        Some(buffer) => buffer.drop_lists(holder),
+        Some(buffer) => {
+            buffer.commit(who);
+            buffer.drop_lists(Holder::Of(who));
+        }
     }
 }
 
-// Takes a holder's lists off each buffer.
-fn drop_all_lists(buffers: &mut Vec<Option<Buffer>>, holder: Holder)
-    ensures { buffers.new.items ≡ map (option_map (unlisted_for holder)) buffers.old.items }
+// So in each buffer.
+fn leave_buffers(buffers: &mut Vec<Option<Buffer>>, who: u32)
+    ensures { buffers.new.items ≡ map (option_map (left_behind who)) buffers.old.items }
 {
     for n in 0..buffers.len() {
-        drop_lists(&mut buffers[n], holder);
+        leave_buffer(&mut buffers[n], who);
     }
 }
 
@@ -64,11 +67,11 @@ impl World {
         }
     }
 
-    /// A client goes, with all that is its own and its lists. Takes no memory.
+    /// A client goes, with all that is its own and its lists; what was pending of it is committed. Takes no memory.
     pub fn leave(&mut self, who: u32)
         ensures { self.new.flat ≡ left_by who self.old.flat }
     {
         self.clients.remove(who);
-        drop_all_lists(&mut self.buffers, Holder::Of(who));
+        leave_buffers(&mut self.buffers, who);
     }
 }

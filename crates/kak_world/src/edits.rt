@@ -1,89 +1,101 @@
-//! Characters that go in before cursors.
+//! Edits of the text that a client sees, and moves in its history.
 
-ghost use Rattle.std.specs.Prelude.{◌≡◌, ℕ, ◌<◌, ◌≤◌, ◌+◌, ◌*◌, true, [], length, IfOk, OnOk, OnErr, vec_capacity};
-ghost use Rattle.text_model.specs.declared.TheConstants.{MAX_CHARS};
-ghost use Rattle.text_model.specs.Texts.{IsStored, IsPlace, offset};
-ghost use Rattle.text_model.specs.Changes.{Insertion, changed, move_of, IsShift};
-ghost use Rattle.selection_set.specs.Listing.{ranges_of};
-ghost use Rattle.kak_world.specs.Flat.{is_joined, shown_of, text_of, sels_of};
-ghost use Rattle.kak_world.specs.Changing.{before_cursors, put_before_cursors, IsAfterSomeIn};
-ghost use Rattle.kak_world.specs.Typing.{ArePut, IsHeldSlice};
+ghost use Rattle.std.specs.Prelude.{◌≡◌, ◌≤◌, true, map, option_map, IfOk, IsErrOf};
+ghost use Rattle.buffer_store.specs.Stored.{shifts_of};
+ghost use Rattle.buffer_store.specs.Buffers.{AreSplicesOf, flat_splices, changes_of};
+ghost use Rattle.undo_model.specs.declared.TheConstants.{MAX_NODES};
+ghost use Rattle.undo_model.specs.Moves.{move_changes};
+ghost use Rattle.kak_world.specs.declared.ask.EditError.TheVariants.{NoMemory};
+ghost use Rattle.kak_world.specs.Flat.{is_joined, text_of, story_of, node_of, committed_for};
+ghost use Rattle.kak_world.specs.Changing.{commits, IsAfterSome, IsCutOff};
+ghost use Rattle.kak_world.specs.Editing.{edit_row, travel_row};
+ghost use Rattle.kak_world.specs.Rows.{Answers};
 
+use crate::ask::EditError;
+use crate::buffer::Buffer;
 use crate::holder::Holder;
 use crate::world::World;
-use kak_text::{Coord, Shift};
-use line_buffer::{Lines, LinesError};
-use selection_map::rebase;
-use selection_set::Sel;
-use std::alloc::{AllocError, Global};
+use buffer_store::Splice;
+use kak_text::Shift;
+use std::alloc::Global;
+use undo_model::Travel;
 
-// Puts characters in at a place of a text that has room for them.
-fn put_one(alloc: Global, lines: &mut Lines, at: Coord, chars: &[char]) -> Result<Shift, AllocError>
-    requires place { IsPlace lines.old at }
-    requires room { length lines.old + length chars.now ≤ MAX_CHARS }
-    ensures text { OnOk result (lines.new ≡ changed lines.old (Insertion (offset lines.old at) chars.now)) }
-    ensures shift { IfOk result (λ s. IsShift lines.old lines.new s (move_of lines.old (Insertion (offset lines.old at) chars.now))) }
-    ensures err { OnErr result (lines.new ≡ lines.old) }
-    ensures valid { IsStored lines.new }
+// Commits a client's pending group in a buffer, where there is one.
+fn commit_in(slot: &mut Option<Buffer>, who: u32)
+    ensures { slot.new ≡ option_map (committed_for who) slot.old }
 {
-    match lines.insert(alloc, at, chars) {
-        Ok(shift) => Ok(shift),
-        Err(LinesError::NoMemory) => Err(AllocError),
-        Err(LinesError::TextFull) => unreachable!(),
+    match slot {
+        None => {}
+        Some(buffer) => buffer.commit(who),
     }
 }
 
-/// Puts characters in before the cursor of each of some selections, from the first to the last, and notes the shifts, for
-/// which there is room. An `Err` leaves the text after some of the changes, from the first on, with their shifts.
-pub(crate) fn put_before_each(
-    alloc: Global,
-    lines: &mut Lines,
-    sels: &[Sel],
-    chars: &[char],
-    shifts: &mut Vec<Shift>,
-) -> Result<(), AllocError>
-    requires some { 0 < length chars.now }
-    requires room { length lines.old + length sels.now * length chars.now ≤ MAX_CHARS }
-    requires none { shifts.old.items ≡ [] }
-    requires reserved { length sels.now ≤ vec_capacity shifts.old }
-    requires held { IsHeldSlice lines.old sels.now }
-    ensures stored { IsStored lines.old }
-    ensures puts { (main : ℕ) → ArePut result (before_cursors chars.now lines.old (record { list = ranges_of lines.old sels.now; main = main })) lines.old lines.new shifts.new.items }
+// Commits a client's pending group in each buffer.
+fn commit_all(buffers: &mut Vec<Option<Buffer>>, who: u32)
+    ensures { buffers.new.items ≡ map (option_map (committed_for who)) buffers.old.items }
 {
-    // its contract says that the text is one that can be kept
-    let _stored = lines.len();
-    let mut from = Coord { line: 0, column: 0 };
-    let mut to = from;
-    for sel in sels {
-        let at = sel.cursor();
-        let shift = put_one(alloc, lines, rebase(at, from, to), chars)?;
-        from = at;
-        to = shift.end;
-        shifts.push_reserved(shift);
+    for n in 0..buffers.len() {
+        commit_in(&mut buffers[n], who);
     }
-    Ok(())
 }
 
 impl World {
-    /// Puts characters in before each cursor of a client, from the first to the last, where the text that it sees has
-    /// room for all of them. Each single change moves every list on that text, whoever holds it. An `Err` leaves the
-    /// world after some of the single changes, from the first on.
-    pub fn put_before_cursors(
+    /// Makes a client's replacements in the text that it sees, from the first to the last, and gives the shifts of the single
+    /// changes. Each single change moves every list on that text, whoever holds it. `UndoFull` and `TextFull` leave the world;
+    /// after want of memory it is as it is behind some of the single changes, from the first on.
+    pub fn edit(
         &mut self,
         alloc: Global,
         who: u32,
-        chars: &[char],
-    ) -> Result<(), AllocError>
+        splices: &[Splice],
+    ) -> Result<Vec<Shift>, EditError>
         requires joined { is_joined who self.old.flat ≡ true }
-        requires some { 0 < length chars.now }
-        requires room { length (text_of who self.old.flat) + length (sels_of who self.old.flat).list * length chars.now ≤ MAX_CHARS }
-        ensures ok { OnOk result (self.new.flat ≡ put_before_cursors chars.now who self.old.flat) }
-        ensures err { OnErr result (IsAfterSomeIn (shown_of who self.old.flat) (before_cursors chars.now (text_of who self.old.flat) (sels_of who self.old.flat)) self.old.flat self.new.flat) }
+        requires splices { AreSplicesOf (text_of who self.old.flat) splices.now }
+        ensures row { Answers result self.new.flat (edit_row (flat_splices (text_of who self.old.flat) splices.now) who self.old.flat) }
+        ensures shifts { IfOk result (λ shifts. shifts.items ≡ shifts_of (text_of who self.old.flat) (changes_of (text_of who self.old.flat) splices.now)) }
+        ensures wanting { IsErrOf result NoMemory → IsAfterSome who (changes_of (text_of who self.old.flat) splices.now) self.old.flat self.new.flat }
     {
         let n = self.clients.client(who).shown as usize;
         match &mut self.buffers[n] {
             None => unreachable!(),
-            Some(buffer) => buffer.put_before_cursors(alloc, Holder::Of(who), chars),
+            Some(buffer) => match buffer.edit(alloc, who, splices) {
+                Ok(shifts) => Ok(shifts),
+                Err(error) => Err(EditError::from(error)),
+            },
         }
+    }
+
+    /// Commits what is pending in the text that a client sees, and goes to another node of its undo tree. Each single change
+    /// moves every list on that text, and the client's list is then the one that the changes leave. It is refused where there is no
+    /// such node, by the name for that. After want of memory the text is as it is behind some of the single changes, from the first on.
+    pub fn travel(&mut self, alloc: Global, who: u32, travel: Travel) -> Result<(), EditError>
+        requires { is_joined who self.old.flat ≡ true }
+        ensures row { Answers result self.new.flat (travel_row travel who self.old.flat) }
+        ensures wanting { IsErrOf result NoMemory → IsCutOff who (move_changes travel (story_of who self.old.flat)) self.old.flat self.new.flat }
+    {
+        let n = self.clients.client(who).shown as usize;
+        match &mut self.buffers[n] {
+            None => unreachable!(),
+            Some(buffer) => match buffer.travel(alloc, Holder::Of(who), travel) {
+                Ok(()) => Ok(()),
+                Err(error) => Err(EditError::from(error)),
+            },
+        }
+    }
+
+    /// The number of the node that the text is at which a client sees, or will be at when what is pending is committed.
+    pub fn node(&self, who: u32) -> u32
+        requires { is_joined who self.now.flat ≡ true }
+        ensures value { result ≡ node_of who self.now.flat }
+        ensures few { result ≤ MAX_NODES }
+    {
+        self.shown(who).node()
+    }
+
+    /// Commits all pending groups of a client. Takes no memory.
+    pub fn commit(&mut self, who: u32)
+        ensures { self.new.flat ≡ commits who self.old.flat }
+    {
+        commit_all(&mut self.buffers, who);
     }
 }

@@ -33,7 +33,7 @@ impl World {
     ghost use Rattle.kak_world.specs.LendingWorld.{LendsOwn};
 
     // The buffer that a client sees.
-    fn shown(&self, who: u32) -> &Buffer
+    pub(crate) fn shown(&self, who: u32) -> &Buffer
         requires { is_joined who self.now.flat ≡ true }
         ensures { result.now ≡ buffer_of who self.now.flat }
     {

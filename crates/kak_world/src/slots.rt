@@ -83,7 +83,7 @@ impl World {
         if n >= MAX_BUFFERS {
             return Err(WorldError::TooManyBuffers);
         }
-        let buffer = Buffer::new(alloc, name, is_file, lines);
+        let buffer = Buffer::new(alloc, name, is_file, lines)?;
         put_buffer(&mut self.buffers, n, buffer)?;
         Ok(n as u32)
     }

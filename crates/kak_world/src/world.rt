@@ -48,7 +48,7 @@ pub(crate) fn scratch_buffer(alloc: Global) -> Result<Buffer, AllocError>
     let name = Chars::from_str(alloc, "*scratch*")?;
     let text = Text::newline(alloc)?;
     let lines = Lines::of_text(alloc, &text)?;
-    Ok(Buffer::new(alloc, name, false, lines))
+    Buffer::new(alloc, name, false, lines)
 }
 
 // Each list on a buffer is settled, where there is one.

@@ -16,11 +16,14 @@ use Rattle.list_keys.specs.Changes.{change_adds, made_count}
 use Rattle.list_keys.proofs.RowLemmas.{made-few}
 use Rattle.normal_keys.specs.Rows.{cleared}
 use Rattle.normal_keys.specs.declared.actions.Repeated.{Repeated}
-use Rattle.normal_keys.specs.declared.actions.Repeated.TheVariants.{Moves, TurnsMain}
+use Rattle.normal_keys.specs.declared.actions.Repeated.TheVariants.{Moves, TurnsMain, Travels, GoesToNode}
 use Rattle.normal_keys.specs.declared.each.Each.{Each}
 use Rattle.normal_keys.specs.declared.each.Each.TheVariants as each
 use Rattle.normal_keys.specs.Moving.{each_range, each_changed}
-use Rattle.normal_keys.specs.Repeating.{once}
+use Rattle.normal_keys.specs.Repeating.{once, repeated_adds}
+use Rattle.kak_world.specs.Rows.{RowEnd, does}
+use Rattle.kak_world.specs.Keeping.{KeepsClients}
+use Rattle.normal_keys.proofs.KeepingLaws.{keeps-once}
 
 length-placed : (r : Range) (rs : List Range) → length (placed r rs) ≡ suc (length rs)
 length-placed r [] = refl
@@ -47,21 +50,19 @@ changed-few change who flat j =
     let f : Range → Range = each_range change (view_of who flat) (tabstop_of who flat) (text_of who flat) in
     omega (arith, each-few f (sels_of who flat), ap (λ (s : Selected). length s.list) (sels_sels who (each_settled f (sels_of who flat)) flat j))
 
--- one run makes no list longer
-once-few : (what : Repeated) (who : ℕ) (flat : Flat) → is_joined who flat ≡ true → length (sels_of who (once what who flat)).list ≤ length (sels_of who flat).list
-once-few (Moves motion reach) who flat j = changed-few (each.Moved motion reach) who flat j
-once-few (TurnsMain direction) who flat j = omega (arith, ap (λ (s : Selected). length s.list) (sels_sels who (main_turned direction (sels_of who flat)) flat j))
+-- one run that can't add selections makes no list longer
+once-few : (what : Repeated) (who : ℕ) (flat : Flat) → repeated_adds what ≡ false → is_joined who flat ≡ true → length (sels_of who (once what who flat).world).list ≤ length (sels_of who flat).list
+once-few (Moves motion reach) who flat a j = changed-few (each.Moved motion reach) who flat j
+once-few (TurnsMain direction) who flat a j = omega (arith, ap (λ (s : Selected). length s.list) (sels_sels who (main_turned direction (sels_of who flat)) flat j))
+once-few (Travels travel) who flat a j = absurd (false≢true (sym a))
+once-few (GoesToNode direction) who flat a j = absurd (false≢true (sym a))
 
-pub run-few : (what : Repeated) (who : ℕ) (before after : Flat) → is_joined who before ≡ true → after ≡ once what who before → length (sels_of who before).list ≤ 4 → length (sels_of who after).list ≤ 4
-run-few what who before after j e h = omega (arith, h, once-few what who before j, ap (λ (w : Flat). length (sels_of who w).list) e)
+pub run-few : (what : Repeated) (who : ℕ) (before after : Flat) → repeated_adds what ≡ false → is_joined who before ≡ true → once what who before ≡ does after → length (sels_of who before).list ≤ 4 → length (sels_of who after).list ≤ 4
+run-few what who before after a j e h = omega (arith, h, once-few what who before a j, ap (λ (x : RowEnd). length (sels_of who x.world).list) e)
 
 -- and nobody goes
-pub run-stays : (what : Repeated) (who : ℕ) (before after : Flat) → is_joined who before ≡ true → after ≡ once what who before → is_joined who after ≡ true
-run-stays what who before after j e = ap (is_joined who) e ∙ once-stays what ∙ j
-  where
-    once-stays : (x : Repeated) → is_joined who (once x who before) ≡ is_joined who before
-    once-stays (Moves motion reach) = joined_sels who who (each_settled (each_range (each.Moved motion reach) (view_of who before) (tabstop_of who before) (text_of who before)) (sels_of who before)) before
-    once-stays (TurnsMain direction) = joined_sels who who (main_turned direction (sels_of who before)) before
+pub run-stays : (what : Repeated) (who : ℕ) (before after : Flat) → is_joined who before ≡ true → once what who before ≡ does after → is_joined who after ≡ true
+run-stays what who before after j e = sym (ap (λ (x : RowEnd). is_joined who x.world) e) ∙ (keeps-once what who before).joined who ∙ j
 
 -- a unit that was taken is none of the list's
 pub unit-few : (who : ℕ) (before after : Flat) → after ≡ with_units (units_of after) before → length (sels_of who before).list ≤ 4 → length (sels_of who after).list ≤ 4

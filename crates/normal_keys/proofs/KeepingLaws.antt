@@ -1,10 +1,13 @@
 -- No key of normal mode makes a client come or go.
-use Rattle.std.proofs.Common.{ℕ, zero, suc, ◌-◌, Bool, true, false, [], List}
+use Rattle.std.proofs.Common.{ℕ, zero, suc, ◌+◌, ◌-◌, Bool, true, false, [], List}
 use Rattle.std.specs.Prelude.{if◌then◌else◌, ◌==◌, nat_lt, None, Some}
 use Rattle.std.specs.declared.option.Option.{Option}
 use Rattle.key_names.specs.declared.key.Key.{Key}
 use Rattle.text_model.specs.declared.TheConstants.{MAX_SELECTIONS}
 use Rattle.list_model.specs.Ranges.{Selected}
+use Rattle.undo_model.specs.declared.travel.Travel.TheVariants.{Node as NodeOf}
+use Rattle.motion_keys.specs.declared.direction.Direction.{Direction}
+use Rattle.motion_keys.specs.declared.direction.Direction.TheVariants.{Forward, Backward}
 use Rattle.motion_keys.specs.declared.char_moves.Search.{Search}
 use Rattle.motion_keys.specs.declared.landmarks.Place.{Place}
 use Rattle.motion_keys.specs.declared.landmarks.Place.TheVariants as place
@@ -14,21 +17,21 @@ use Rattle.motion_keys.specs.declared.finding.Reach.{Reach}
 use Rattle.list_keys.specs.Changes.{changed_list, made_count}
 use Rattle.kak_world.specs.declared.ask.EditError.TheVariants.{NothingSelected, TooManySelections}
 use Rattle.kak_world.specs.declared.own.Mode.TheVariants.{Insert, Prompt}
-use Rattle.kak_world.specs.Flat.{Flat, text_of, sels_of, units_of, with_units, count_of, pending_of, with_own}
-use Rattle.kak_world.specs.Rows.{RowEnd, does, fails}
+use Rattle.kak_world.specs.Flat.{Flat, text_of, sels_of, node_of, units_of, with_units, count_of, pending_of, with_own}
+use Rattle.kak_world.specs.Rows.{Row, RowEnd, Asks, Fails, GivesUp, does, fails}
 use Rattle.kak_world.specs.Keeping.{KeepsClients}
-use Rattle.kak_world.proofs.KeepingLaws.{keeps_same, keeps_after, keeps_own, keeps_sels, keeps_units}
+use Rattle.kak_world.proofs.KeepingLaws.{keeps_same, keeps_after, keeps_own, keeps_sels, keeps_units, keeps_travel_row}
 use Rattle.normal_keys.specs.declared.actions.Action.{Action}
 use Rattle.normal_keys.specs.declared.actions.Action.TheVariants as action
 use Rattle.normal_keys.specs.declared.actions.Repeated.{Repeated}
-use Rattle.normal_keys.specs.declared.actions.Repeated.TheVariants.{Moves, TurnsMain}
+use Rattle.normal_keys.specs.declared.actions.Repeated.TheVariants.{Moves, TurnsMain, Travels, GoesToNode}
 use Rattle.normal_keys.specs.declared.actions.Shape.TheVariants as shape
 use Rattle.normal_keys.specs.declared.each.Each.{Each}
 use Rattle.normal_keys.specs.declared.each.Each.TheVariants as each
 use Rattle.normal_keys.specs.Actions.{action_of}
-use Rattle.normal_keys.specs.Moving.{each_changed, moved, after_unit, further_runs, runs}
+use Rattle.normal_keys.specs.Moving.{each_changed, moved, after_unit, behind, then_row, further_runs, runs}
 use Rattle.normal_keys.specs.Listing.{taken_if_any, taken, list_changed}
-use Rattle.normal_keys.specs.Repeating.{once}
+use Rattle.normal_keys.specs.Repeating.{node_below, node_row, once}
 use Rattle.normal_keys.specs.Rows.{cleared, waiting, insert_before, go_to_line, acted, character_of, place_of, sought_character, sought_place, answered, row_pending, row_normal}
 
 -- a change of the world that keeps the clients
@@ -46,17 +49,32 @@ keeps-unit : (units : ℕ) (next : Flat → RowEnd) → KeepsIn next → KeepsIn
 keeps-unit zero next k flat = keeps_same flat
 keeps-unit (suc left) next k flat = keeps_after flat (with_units left flat) (next (with_units left flat)).world (keeps_units left flat) (k (with_units left flat))
 
-keeps-further : (n : ℕ) (change : Flat → Flat) → Keeps change → KeepsIn (further_runs n change)
-keeps-further zero change k flat = keeps_same flat
-keeps-further (suc n) change k flat =
-    keeps-unit (units_of flat) (λ w. further_runs n change (change w)) (λ w. keeps_after w (change w) (further_runs n change (change w)).world (k w) (keeps-further n change k (change w))) flat
+keeps-behind : (row : Row) (next : Flat → RowEnd) (old now : Flat) → KeepsClients old now → KeepsIn next → KeepsClients old (behind row next now).world
+keeps-behind (Asks ask) next old now k n = keeps_after old now (next now).world k (n now)
+keeps-behind (Fails text) next old now k n = k
+keeps-behind GivesUp next old now k n = k
 
-keeps-runs : (count : ℕ) (change : Flat → Flat) → Keeps change → KeepsIn (runs count change)
-keeps-runs count change k flat = keeps_after flat (change flat) (runs count change flat).world (k flat) (keeps-further (count - 1) change k (change flat))
+keeps-further : (n : ℕ) (run : Flat → RowEnd) → KeepsIn run → KeepsIn (further_runs n run)
+keeps-further zero run k flat = keeps_same flat
+keeps-further (suc n) run k flat =
+    keeps-unit (units_of flat) (λ w. then_row (run w) (further_runs n run)) (λ w. keeps-behind (run w).row (further_runs n run) w (run w).world (k w) (keeps-further n run k)) flat
 
-keeps-once : (what : Repeated) (who : ℕ) → Keeps (once what who)
+keeps-runs : (count : ℕ) (run : Flat → RowEnd) → KeepsIn run → KeepsIn (runs count run)
+keeps-runs count run k flat = keeps-behind (run flat).row (further_runs (count - 1) run) flat (run flat).world (k flat) (keeps-further (count - 1) run k)
+
+keeps-below : (n who : ℕ) → KeepsIn (node_below n who)
+keeps-below zero who flat = keeps_same flat
+keeps-below (suc n) who flat = keeps_travel_row (NodeOf n) who flat
+
+keeps-node : (direction : Direction) (who : ℕ) → KeepsIn (node_row direction who)
+keeps-node Backward who flat = keeps-below (node_of who flat) who flat
+keeps-node Forward who flat = keeps_travel_row (NodeOf (node_of who flat + 1)) who flat
+
+pub keeps-once : (what : Repeated) (who : ℕ) → KeepsIn (once what who)
 keeps-once (Moves motion reach) who flat = keeps_sels who _ flat
 keeps-once (TurnsMain direction) who flat = keeps_sels who _ flat
+keeps-once (Travels travel) who flat = keeps_travel_row travel who flat
+keeps-once (GoesToNode direction) who flat = keeps-node direction who flat
 
 keeps-chosen : (t : Bool) (flat : Flat) (a b : RowEnd) → KeepsClients flat a.world → KeepsClients flat b.world → KeepsClients flat (if t then a else b).world
 keeps-chosen true flat a b f g = f
@@ -92,7 +110,7 @@ keeps-acted key action.Prompts count who flat = keeps_own who _ flat
 
 keeps-character : (search : Search) (reach : Reach) (count who : ℕ) (c : Option ℕ) → KeepsIn (sought_character search reach count who c)
 keeps-character search reach count who None flat = keeps_same flat
-keeps-character search reach count who (Some c) flat = keeps-runs count (moved (Character search c) reach who) (λ w. keeps_sels who _ w) flat
+keeps-character search reach count who (Some c) flat = keeps-runs count (once (Moves (Character search c) reach) who) (keeps-once (Moves (Character search c) reach) who) flat
 
 keeps-place : (reach : Reach) (who : ℕ) (p : Option Place) → KeepsIn (sought_place reach who p)
 keeps-place reach who None flat = keeps_same flat

@@ -1,29 +1,60 @@
 -- Runs of a key, one after another.
-use Rattle.std.proofs.Common.{◌≡◌, ℕ, suc, ◌+◌, ◌-◌, ◌<◌, sym, ap, ◌∙◌, arith}
+use Rattle.std.proofs.Common.{◌≡◌, ℕ, suc, ◌+◌, ◌-◌, ◌<◌, refl, sym, ap, ◌∙◌, arith}
+use Rattle.std.specs.Prelude.{IfSome}
+use Rattle.kak_world.specs.declared.ask.EditError.{EditError}
+use Rattle.kak_world.specs.declared.ask.EditError.TheVariants.{TextFull, UndoFull, NothingToUndo, NothingToRedo, NoSuchNode, NoSuchCommand, NothingSelected, TooManySelections, BudgetSpent, NoMemory}
 use Rattle.kak_world.specs.Flat.{Flat, units_of, with_units}
-use Rattle.kak_world.specs.Rows.{RowEnd, GivesUp}
-use Rattle.normal_keys.specs.Moving.{after_unit, further_runs}
+use Rattle.kak_world.specs.Rows.{RowEnd, GivesUp, does, row_of}
+use Rattle.normal_keys.specs.Moving.{after_unit, then_row, further_runs, runs}
 
 -- as many runs less one
 one_less : (k n : ℕ) → k < n → n - k ≡ suc (n - (k + 1))
 one_less k n h = omega arith
 
--- one more run has taken its unit
-pub run-more : (change : Flat → Flat) (w u next : Flat) (k n : ℕ) (whole : RowEnd) → k < n → units_of w ≡ suc (units_of u) → u ≡ with_units (units_of u) w → next ≡ change u
-    → further_runs (n - k) change w ≡ whole → further_runs (n - (k + 1)) change next ≡ whole
-run-more change w u next k n whole l e f g h =
+-- a further run that has taken its unit
+one-run : (run : Flat → RowEnd) (w u : Flat) (k n : ℕ) → k < n → units_of w ≡ suc (units_of u) → u ≡ with_units (units_of u) w → further_runs (n - k) run w ≡ then_row (run u) (further_runs (n - (k + 1)) run)
+one-run run w u k n l e f =
     let m : ℕ = n - (k + 1) in
-    ap (further_runs m change) (g ∙ ap change f)
-    ∙ sym (ap (λ i. after_unit i (λ v. further_runs m change (change v)) w) e)
-    ∙ sym (ap (λ i. further_runs i change w) (one_less k n l))
-    ∙ h
+    ap (λ i. further_runs i run w) (one_less k n l)
+    ∙ ap (λ i. after_unit i (λ v. then_row (run v) (further_runs m run)) w) e
+    ∙ ap (λ v. then_row (run v) (further_runs m run)) (sym f)
+
+-- the first run
+pub run-first : (run : Flat → RowEnd) (w next : Flat) (n : ℕ) → run w ≡ does next → further_runs (n - 1) run next ≡ runs n run w
+run-first run w next n g = sym (ap (λ e. then_row e (further_runs (n - 1) run)) g)
+
+-- one more run
+pub run-more : (run : Flat → RowEnd) (w u next : Flat) (k n : ℕ) (whole : RowEnd) → k < n → units_of w ≡ suc (units_of u) → u ≡ with_units (units_of u) w → run u ≡ does next
+    → further_runs (n - k) run w ≡ whole → further_runs (n - (k + 1)) run next ≡ whole
+run-more run w u next k n whole l e f g h =
+    sym (ap (λ x. then_row x (further_runs (n - (k + 1)) run)) g) ∙ sym (one-run run w u k n l e f) ∙ h
+
+-- a row that fails ends all
+fails-all : (error : EditError) (next : Flat) (end whole : RowEnd) (rest : Flat → RowEnd) → whole ≡ then_row end rest → IfSome (row_of error) (λ row. end ≡ record { world = next; row = row }) → IfSome (row_of error) (λ row. whole ≡ record { world = next; row = row })
+fails-all TextFull next end whole rest w e = w ∙ ap (λ x. then_row x rest) e
+fails-all UndoFull next end whole rest w e = w ∙ ap (λ x. then_row x rest) e
+fails-all NothingToUndo next end whole rest w e = w ∙ ap (λ x. then_row x rest) e
+fails-all NothingToRedo next end whole rest w e = w ∙ ap (λ x. then_row x rest) e
+fails-all NoSuchNode next end whole rest w e = w ∙ ap (λ x. then_row x rest) e
+fails-all (NoSuchCommand name) next end whole rest w e = w ∙ ap (λ x. then_row x rest) e
+fails-all NothingSelected next end whole rest w e = w ∙ ap (λ x. then_row x rest) e
+fails-all TooManySelections next end whole rest w e = w ∙ ap (λ x. then_row x rest) e
+fails-all BudgetSpent next end whole rest w e = w ∙ ap (λ x. then_row x rest) e
+fails-all NoMemory next end whole rest w e = tt
+
+pub first-fails : (run : Flat → RowEnd) (error : EditError) (w next : Flat) (n : ℕ) → IfSome (row_of error) (λ row. run w ≡ record { world = next; row = row }) → IfSome (row_of error) (λ row. runs n run w ≡ record { world = next; row = row })
+first-fails run error w next n e = fails-all error next (run w) (runs n run w) (further_runs (n - 1) run) refl e
+
+pub more-fails : (run : Flat → RowEnd) (error : EditError) (w u next : Flat) (k n : ℕ) (whole : RowEnd) → k < n → units_of w ≡ suc (units_of u) → u ≡ with_units (units_of u) w → further_runs (n - k) run w ≡ whole
+    → IfSome (row_of error) (λ row. run u ≡ record { world = next; row = row }) → IfSome (row_of error) (λ row. whole ≡ record { world = next; row = row })
+more-fails run error w u next k n whole l e f h g = fails-all error next (run u) whole (further_runs (n - (k + 1)) run) (sym h ∙ one-run run w u k n l e f) g
 
 -- no unit is left for a further one
-pub run-spent : (change : Flat → Flat) (w u : Flat) (k n : ℕ) (whole : RowEnd) → k < n → units_of w ≡ 0 → u ≡ w
-    → further_runs (n - k) change w ≡ whole → whole ≡ record { world = u; row = GivesUp }
-run-spent change w u k n whole l e f h =
+pub run-spent : (run : Flat → RowEnd) (w u : Flat) (k n : ℕ) (whole : RowEnd) → k < n → units_of w ≡ 0 → u ≡ w
+    → further_runs (n - k) run w ≡ whole → whole ≡ record { world = u; row = GivesUp }
+run-spent run w u k n whole l e f h =
     let m : ℕ = n - (k + 1) in
     sym h
-    ∙ ap (λ i. further_runs i change w) (one_less k n l)
-    ∙ ap (λ i. after_unit i (λ v. further_runs m change (change v)) w) e
+    ∙ ap (λ i. further_runs i run w) (one_less k n l)
+    ∙ ap (λ i. after_unit i (λ v. then_row (run v) (further_runs m run)) w) e
     ∙ ap (λ (v : Flat). let r : RowEnd = record { world = v; row = GivesUp } in r) (sym f)

@@ -16,6 +16,7 @@ use Rattle.motion_keys.specs.declared.finding.Motion.{Motion}
 use Rattle.motion_keys.specs.declared.finding.Motion.TheVariants.{Step, Line, Page, Word, Along, Bracket}
 use Rattle.motion_keys.specs.declared.finding.Reach.{Reach}
 use Rattle.motion_keys.specs.declared.finding.Reach.TheVariants.{Select, Extend}
+use Rattle.undo_model.specs.declared.travel.Travel.TheVariants.{Undo, Redo}
 use Rattle.list_keys.specs.declared.cuts.Cut.TheVariants as cut
 use Rattle.list_keys.specs.declared.parts.Split.TheVariants as split
 use Rattle.list_keys.specs.declared.changes.ListChange.TheVariants as list
@@ -80,6 +81,8 @@ signs =
     ∷ (code "C", action.Lists (list.Copied Forward))
     ∷ (code "(", action.Repeats (repeated.TurnsMain Backward))
     ∷ (code ")", action.Repeats (repeated.TurnsMain Forward))
+    ∷ (code "u", action.Repeats (repeated.Travels Undo))
+    ∷ (code "U", action.Repeats (repeated.Travels Redo))
     ∷ (code "i", action.Inserts)
     ∷ (code ":", action.Prompts)
     ∷ []
@@ -101,6 +104,8 @@ abbrev pub controls : List (ℕ × Action)
 controls =
     (code "f", action.MovesOnce (Page Forward) Select)
     ∷ (code "b", action.MovesOnce (Page Backward) Select)
+    ∷ (code "k", action.Repeats (repeated.GoesToNode Backward))
+    ∷ (code "j", action.Repeats (repeated.GoesToNode Forward))
     ∷ []
 
 -- the keys that go along the text do as letters do

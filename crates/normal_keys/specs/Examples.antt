@@ -1,15 +1,17 @@
 -- Worked examples of normal mode: what a client's list is after keys, which hold by computation.
-use Rattle.std.specs.Prelude.{◌≡◌, ℕ, true, false, None, Some, List, [], ◌∷◌, map, codes}
+use Rattle.std.specs.Prelude.{◌≡◌, ℕ, true, false, None, Some, List, [], ◌∷◌, ◌++◌, map, codes}
 use Rattle.key_names.specs.declared.key.Key.{Key}
 use Rattle.key_names.specs.declared.key.Base.{Base}
 use Rattle.key_names.specs.declared.key.Base.TheVariants.{Char, Ret, Esc, Right, Home, PageDown}
 use Rattle.list_model.specs.Ranges.{Range, Selected, only}
-use Rattle.kak_world.specs.declared.ask.EditError.TheVariants.{NothingSelected}
+use Rattle.undo_model.specs.Stories.{opened}
+use Rattle.kak_world.specs.declared.ask.EditError.TheVariants.{NothingSelected, NothingToUndo, NothingToRedo, NoSuchNode}
 use Rattle.kak_world.specs.declared.own.Mode.{Mode}
 use Rattle.kak_world.specs.declared.own.Mode.TheVariants.{Insert, Prompt}
 use Rattle.kak_world.specs.declared.holder.Holder.TheVariants.{Of}
-use Rattle.kak_world.specs.Flat.{Flat, fresh, newcomer, sels_of, mode_of, count_of}
-use Rattle.kak_world.specs.Rows.{Fails, GivesUp, error_text}
+use Rattle.kak_world.specs.Flat.{Flat, fresh, newcomer, text_of, sels_of, mode_of, count_of}
+use Rattle.kak_world.specs.Changing.{edited_by, commits}
+use Rattle.kak_world.specs.Rows.{Row, Fails, GivesUp, error_text}
 use Rattle.normal_keys.specs.Rows.{row_normal}
 
 -- keys: a character or a key with a name, plain, with alt, with control, with shift
@@ -37,7 +39,7 @@ after_keys (k ∷ ks) flat = after_keys ks (row_normal k 0 flat).world
 -- client 0 on a text, with a list, and so many units that may still be taken
 abbrev pub client_on : List ℕ → Selected → ℕ → Flat
 client_on text sels units = record {
-  buffers = Some (record { name = codes "n"; is_file = true; text = text; lists = record (fresh (Of 0)) { sels = sels } ∷ [] }) ∷ [];
+  buffers = Some (record { name = codes "n"; is_file = true; story = opened text; lists = record (fresh (Of 0)) { sels = sels } ∷ [] }) ∷ [];
   clients = newcomer 0 0 0 ∷ [];
   rest = record { units = units };
 }
@@ -152,6 +154,38 @@ pub record CellExamples : Type 0 where
   pub big_words : after (alt 119 ∷ []) (codes "a,b c\n") (only 0) ≡ one (range 0 3)
   pub blanks_are_cut : after (keys (codes "_")) (codes " ab \n") (range 0 4) ≡ one (range 1 2)
 
+-- client 0 puts characters in at the begin of the text, and they become a node
+abbrev pub grown : List ℕ → Flat → Flat
+grown s flat = commits 0 (edited_by (record { from = 0; «to» = 0; put = s } ∷ []) 0 flat)
+
+-- it put in `a`, took that back, and put in `b`
+abbrev pub two_nodes : Flat
+two_nodes = grown (codes "b") (after_keys (keys (codes "u")) (grown (codes "a") (client_on (codes "\n") (one (only 0)) 100)))
+
+-- what a client sees after keys, and what comes after the last of them
+abbrev pub text_after_keys : List Key → Flat → List ℕ
+text_after_keys ks flat = text_of 0 (after_keys ks flat)
+
+abbrev pub row_after : List Key → Key → Flat → Row
+row_after ks key flat = (row_normal key 0 (after_keys ks flat)).row
+
+-- moves in the history of the text
+pub record HistoryExamples : Type 0 where
+  pub u_takes_back : text_after_keys (keys (codes "u")) two_nodes ≡ codes "\n"
+  pub capital_u_makes_again : text_after_keys (keys (codes "uU")) two_nodes ≡ codes "b\n"
+  pub control_k_goes_to_the_node_below : text_after_keys (control 107 ∷ []) two_nodes ≡ codes "a\n"
+  pub both_changes_are_selected : sels_of 0 (after_keys (control 107 ∷ []) two_nodes) ≡ listed (only 0 ∷ only 1 ∷ []) 0
+  pub and_then_to_the_first : text_after_keys (control 107 ∷ control 107 ∷ []) two_nodes ≡ codes "\n"
+  pub below_it_is_none : row_after (control 107 ∷ control 107 ∷ []) (control 107) two_nodes ≡ Fails (error_text NoSuchNode)
+  pub control_j_goes_to_the_node_above : text_after_keys (control 107 ∷ control 107 ∷ control 106 ∷ []) two_nodes ≡ codes "a\n"
+  pub count_goes_over_as_many : text_after_keys (keys (codes "2") ++ control 107 ∷ []) two_nodes ≡ codes "\n"
+  pub above_the_last_is_none : row_after [] (control 106) two_nodes ≡ Fails (error_text NoSuchNode)
+  pub nothing_to_undo : row_after (keys (codes "u")) (key (Char 117)) two_nodes ≡ Fails (error_text NothingToUndo)
+  pub nothing_to_redo : row_after [] (key (Char 85)) two_nodes ≡ Fails (error_text NothingToRedo)
+  pub count_takes_back_as_many : text_after_keys (keys (codes "2u")) (grown (codes "c") two_nodes) ≡ codes "\n"
+  pub it_stops_at_the_first : row_after (keys (codes "9")) (key (Char 117)) two_nodes ≡ Fails (error_text NothingToUndo)
+  pub what_was_taken_back_stays_so : text_after_keys (keys (codes "9u")) two_nodes ≡ codes "\n"
+
 -- modes
 pub record ModeExamples : Type 0 where
   pub i_enters_insert_mode : mode_after (keys (codes "i")) ≡ Insert
@@ -165,4 +199,5 @@ pub record Examples : Type 0 where
   pub counts : CountExamples
   pub lists : ListExamples
   pub cells : CellExamples
+  pub history : HistoryExamples
   pub modes : ModeExamples

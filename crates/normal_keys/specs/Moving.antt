@@ -8,7 +8,7 @@ use Rattle.motion_keys.specs.Landmarks.{line_begin, line_of}
 use Rattle.motion_keys.specs.declared.finding.Motion.{Motion}
 use Rattle.motion_keys.specs.declared.finding.Reach.{Reach}
 use Rattle.kak_world.specs.Flat.{Flat, text_of, view_of, tabstop_of, sels_of, units_of, with_sels, with_units}
-use Rattle.kak_world.specs.Rows.{RowEnd, GivesUp, does}
+use Rattle.kak_world.specs.Rows.{Row, RowEnd, Asks, Fails, GivesUp, does}
 use Rattle.normal_keys.specs.declared.actions.Shape.{Shape}
 use Rattle.normal_keys.specs.declared.actions.Shape.TheVariants as shape
 use Rattle.normal_keys.specs.declared.each.Each.{Each}
@@ -47,11 +47,21 @@ abbrev pub after_unit : ℕ → (Flat → RowEnd) → Flat → RowEnd
 after_unit zero next flat = record { world = flat; row = GivesUp }
 after_unit (suc left) next flat = next (with_units left flat)
 
--- so many further runs of a change of the world, each of which takes a unit
-abbrev pub further_runs : ℕ → (Flat → Flat) → Flat → RowEnd
-further_runs zero change flat = does flat
-further_runs (suc n) change flat = after_unit (units_of flat) (λ w. further_runs n change (change w)) flat
+-- what comes behind a row: nothing where it failed, or gave up
+abbrev pub behind : Row → (Flat → RowEnd) → Flat → RowEnd
+behind (Asks ask) next flat = next flat
+behind (Fails text) next flat = record { world = flat; row = Fails text }
+behind GivesUp next flat = record { world = flat; row = GivesUp }
 
--- a change of the world as often as a count says, and once without one; the first run has its unit already
-abbrev pub runs : ℕ → (Flat → Flat) → Flat → RowEnd
-runs count change flat = further_runs (count - 1) change (change flat)
+-- a row, and what comes behind it
+abbrev pub then_row : RowEnd → (Flat → RowEnd) → RowEnd
+then_row end next = behind end.row next end.world
+
+-- so many further runs, each of which takes a unit, up to the first that fails
+abbrev pub further_runs : ℕ → (Flat → RowEnd) → Flat → RowEnd
+further_runs zero run flat = does flat
+further_runs (suc n) run flat = after_unit (units_of flat) (λ w. then_row (run w) (further_runs n run)) flat
+
+-- runs as often as a count says, and one without one, up to the first that fails; the first one has its unit already
+abbrev pub runs : ℕ → (Flat → RowEnd) → Flat → RowEnd
+runs count run flat = then_row (run flat) (further_runs (count - 1) run)

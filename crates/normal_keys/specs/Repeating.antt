@@ -1,12 +1,36 @@
 -- What is done as often as a count says.
-use Rattle.std.specs.Prelude.{ℕ}
-use Rattle.kak_world.specs.Flat.{Flat}
+use Rattle.std.specs.Prelude.{ℕ, zero, suc, ◌+◌, Bool, true, false}
+use Rattle.undo_model.specs.declared.travel.Travel.TheVariants.{Node}
+use Rattle.motion_keys.specs.declared.direction.Direction.{Direction}
+use Rattle.motion_keys.specs.declared.direction.Direction.TheVariants.{Forward, Backward}
+use Rattle.kak_world.specs.declared.ask.EditError.TheVariants.{NoSuchNode}
+use Rattle.kak_world.specs.Flat.{Flat, node_of}
+use Rattle.kak_world.specs.Rows.{RowEnd, does, fails}
+use Rattle.kak_world.specs.Editing.{travel_row}
 use Rattle.normal_keys.specs.declared.actions.Repeated.{Repeated}
-use Rattle.normal_keys.specs.declared.actions.Repeated.TheVariants.{Moves, TurnsMain}
+use Rattle.normal_keys.specs.declared.actions.Repeated.TheVariants.{Moves, TurnsMain, Travels, GoesToNode}
 use Rattle.normal_keys.specs.Moving.{moved}
 use Rattle.normal_keys.specs.Listing.{main_moved}
 
--- the world after one run
-abbrev pub once : Repeated → ℕ → Flat → Flat
-once (Moves motion reach) = moved motion reach
-once (TurnsMain direction) = main_moved direction
+-- the node below that of a number
+abbrev pub node_below : ℕ → ℕ → Flat → RowEnd
+node_below zero who flat = fails NoSuchNode flat
+node_below (suc n) who flat = travel_row (Node n) who flat
+
+-- the node of the undo tree with the next lower or the next higher number
+abbrev pub node_row : Direction → ℕ → Flat → RowEnd
+node_row Backward who flat = node_below (node_of who flat) who flat
+node_row Forward who flat = travel_row (Node (node_of who flat + 1)) who flat
+
+-- one run
+abbrev pub once : Repeated → ℕ → Flat → RowEnd
+once (Moves motion reach) who flat = does (moved motion reach who flat)
+once (TurnsMain direction) who flat = does (main_moved direction who flat)
+once (Travels travel) who flat = travel_row travel who flat
+once (GoesToNode direction) who flat = node_row direction who flat
+
+-- whether it can add selections to a list
+abbrev pub repeated_adds : Repeated → Bool
+repeated_adds (Travels travel) = true
+repeated_adds (GoesToNode direction) = true
+repeated_adds _ = false

@@ -20,6 +20,7 @@ use Rattle.normal_keys.specs.declared.actions.Shape.TheVariants as shape
 use Rattle.normal_keys.specs.declared.each.Each.TheVariants as each
 use Rattle.normal_keys.specs.Moving.{each_changed, moved, runs}
 use Rattle.normal_keys.specs.Listing.{list_changed}
+use Rattle.normal_keys.specs.declared.actions.Repeated.TheVariants.{Moves}
 use Rattle.normal_keys.specs.Repeating.{once}
 
 -- a count with one more digit, at most 999,999
@@ -101,7 +102,7 @@ place_of key = option_and_then place_named (character_of key)
 -- what is done with the next key, for which another one waited; one that doesn't fit does nothing
 abbrev pub sought_character : Search → Reach → ℕ → ℕ → Option ℕ → Flat → RowEnd
 sought_character search reach count who None flat = does flat
-sought_character search reach count who (Some c) flat = runs count (moved (Character search c) reach who) flat
+sought_character search reach count who (Some c) flat = runs count (once (Moves (Character search c) reach) who) flat
 
 abbrev pub sought_place : Reach → ℕ → Option Place → Flat → RowEnd
 sought_place reach who None flat = does flat

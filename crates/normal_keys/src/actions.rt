@@ -6,6 +6,7 @@ ghost use Rattle.normal_keys.specs.Actions.{moves, seeks, letter_action, alt_let
 use key_names::{Base, Key};
 use list_keys::{Cut, ListChange, Split};
 use motion_keys::{Direction, LinePart, Motion, Reach, Search, Until, WordKind, WordMove};
+use undo_model::Travel;
 
 /// What becomes of each selection by itself, without a motion.
 #[derive(Clone, Copy, PartialEq, Eq, Debug)]
@@ -29,6 +30,10 @@ pub enum Repeated {
     Moves(Motion, Reach),
     /// The selection behind the main one becomes the main one, or the one before it, round the ends.
     TurnsMain(Direction),
+    /// A move in the history of the text.
+    Travels(Travel),
+    /// A move to the node of the undo tree with the next lower or the next higher number.
+    GoesToNode(Direction),
 }
 
 /// What a key does.
@@ -119,6 +124,8 @@ fn sign_action(c: char) -> Action
         'C' => Action::Lists(ListChange::Copied(Direction::Forward)),
         '(' => Action::Repeats(Repeated::TurnsMain(Direction::Backward)),
         ')' => Action::Repeats(Repeated::TurnsMain(Direction::Forward)),
+        'u' => Action::Repeats(Repeated::Travels(Travel::Undo)),
+        'U' => Action::Repeats(Repeated::Travels(Travel::Redo)),
         'i' => Action::Inserts,
         ':' => Action::Prompts,
         _ => Action::Nothing,
@@ -209,6 +216,8 @@ fn control_action(base: Base) -> Action
     match base {
         Base::Char('f') => Action::MovesOnce(Motion::Page(Direction::Forward), Reach::Select),
         Base::Char('b') => Action::MovesOnce(Motion::Page(Direction::Backward), Reach::Select),
+        Base::Char('k') => Action::Repeats(Repeated::GoesToNode(Direction::Backward)),
+        Base::Char('j') => Action::Repeats(Repeated::GoesToNode(Direction::Forward)),
         _ => Action::Nothing,
     }
 }

@@ -1,19 +1,20 @@
 //! Keys that are run as often as a count says.
 #![tactic(auto, using(kak_world::proofs::WorldLaws::world_laws))]
 
-ghost use Rattle.std.specs.Prelude.{◌≡◌, ◌≤◌, true, length, OnOk, OnErr, IsOk, IsErrOf};
+ghost use Rattle.std.specs.Prelude.{◌≡◌, ◌≤◌, true, false, length, IsOk, IsErrOf};
 ghost use Rattle.kak_world.specs.Flat.{is_joined, sels_of};
-ghost use Rattle.kak_world.specs.Rows.{Gives};
+ghost use Rattle.kak_world.specs.Rows.{Answers, Gives};
 ghost use Rattle.normal_keys.specs.Moving.{runs};
 ghost use Rattle.normal_keys.specs.Listing.{main_moved};
-ghost use Rattle.normal_keys.specs.Repeating.{once};
+ghost use Rattle.normal_keys.specs.Repeating.{node_row, once, repeated_adds};
 
 use crate::actions::Repeated;
 use crate::each::{Each, change_each};
 use kak_world::{Ask, EditError, World};
 use list_keys::main_beside;
 use motion_keys::Direction;
-use std::alloc::{AllocError, Global};
+use std::alloc::Global;
+use undo_model::Travel;
 
 // Another selection becomes the main one.
 fn turn_main(world: &mut World, who: u32, direction: Direction)
@@ -24,26 +25,52 @@ fn turn_main(world: &mut World, who: u32, direction: Direction)
     world.set_main(who, main);
 }
 
-// Runs a key once.
-fn run_once(alloc: Global, world: &mut World, who: u32, what: Repeated) -> Result<(), AllocError>
+// Goes to the node of the undo tree with the next lower or the next higher number.
+fn go_to_node(
+    alloc: Global,
+    world: &mut World,
+    who: u32,
+    direction: Direction,
+) -> Result<(), EditError>
     requires { is_joined who world.old.flat ≡ true }
-    ensures does { OnOk result (world.new.flat ≡ once what who world.old.flat) }
-    ensures few { length (sels_of who world.old.flat).list ≤ 4 → IsOk result }
-    ensures err { OnErr result (world.new.flat ≡ world.old.flat) }
+    ensures row { Answers result world.new.flat (node_row direction who world.old.flat) }
+{
+    let node = world.node(who);
+    let to = match direction {
+        Direction::Forward => node + 1,
+        Direction::Backward => {
+            if node == 0 {
+                return Err(EditError::NoSuchNode);
+            }
+            node - 1
+        }
+    };
+    world.travel(alloc, who, Travel::Node(to))
+}
+
+// Runs a key once.
+fn run_once(alloc: Global, world: &mut World, who: u32, what: Repeated) -> Result<(), EditError>
+    requires { is_joined who world.old.flat ≡ true }
+    ensures row { Answers result world.new.flat (once what who world.old.flat) }
+    ensures few { repeated_adds what ≡ false → length (sels_of who world.old.flat).list ≤ 4 → IsOk result }
 {
     match what {
         Repeated::Moves(motion, reach) => {
-            change_each(alloc, world, who, Each::Moved(motion, reach))
+            change_each(alloc, world, who, Each::Moved(motion, reach))?;
+            Ok(())
         }
         Repeated::TurnsMain(direction) => {
             turn_main(world, who, direction);
             Ok(())
         }
+        Repeated::Travels(travel) => world.travel(alloc, who, travel),
+        Repeated::GoesToNode(direction) => go_to_node(alloc, world, who, direction),
     }
 }
 
-/// Runs a key of a client as often as a count says, and once without one. Each further run takes a unit. `BudgetSpent`
-/// comes where none is left for the next one. Takes no memory for at most four selections.
+/// Runs a key of a client as often as a count says, and once without one, up to the first run that fails. Each further run
+/// takes a unit. `BudgetSpent` comes where none is left for the next one. What can't add selections takes no memory for
+/// at most four.
 pub(crate) fn run_often(
     alloc: Global,
     world: &mut World,
@@ -53,7 +80,7 @@ pub(crate) fn run_often(
 ) -> Result<Ask, EditError>
     requires { is_joined who world.old.flat ≡ true }
     ensures row { Gives result world.new.flat (runs count (once what who) world.old.flat) }
-    ensures few { length (sels_of who world.old.flat).list ≤ 4 → ¬ IsErrOf result EditError.NoMemory }
+    ensures few { repeated_adds what ≡ false → length (sels_of who world.old.flat).list ≤ 4 → ¬ IsErrOf result EditError.NoMemory }
 {
     run_once(alloc, world, who, what)?;
     for _ in 1..count {

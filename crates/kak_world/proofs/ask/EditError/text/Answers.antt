@@ -22,3 +22,19 @@ returns-in-TooManySelections-clause-text c = rw c.in-TooManySelections.is c.from
 pub returns-in-BudgetSpent-clause-text : goal.returns-in-BudgetSpent-clause-text
 unfolding chars
 returns-in-BudgetSpent-clause-text c = rw c.in-BudgetSpent.is c.from_str-in-BudgetSpent.ensures
+
+pub returns-in-UndoFull-clause-text : goal.returns-in-UndoFull-clause-text
+unfolding chars
+returns-in-UndoFull-clause-text c = rw c.in-UndoFull.is c.from_str-in-UndoFull.ensures
+
+pub returns-in-NothingToUndo-clause-text : goal.returns-in-NothingToUndo-clause-text
+unfolding chars
+returns-in-NothingToUndo-clause-text c = rw c.in-NothingToUndo.is c.from_str-in-NothingToUndo.ensures
+
+pub returns-in-NothingToRedo-clause-text : goal.returns-in-NothingToRedo-clause-text
+unfolding chars
+returns-in-NothingToRedo-clause-text c = rw c.in-NothingToRedo.is c.from_str-in-NothingToRedo.ensures
+
+pub returns-in-NoSuchNode-clause-text : goal.returns-in-NoSuchNode-clause-text
+unfolding chars
+returns-in-NoSuchNode-clause-text c = rw c.in-NoSuchNode.is c.from_str-in-NoSuchNode.ensures

@@ -6,7 +6,7 @@ use Rattle.kak_world.proofs.ListLemmas.{lists-left, left-held}
 use Rattle.kak_world.proofs.buffer.Buffer.drop_lists.Goals as goal
 
 pub invariant_of-self : goal.invariant_of-self
-invariant_of-self c = subst (AreHeld c.self.inside.lines) (sym (filter_same _ (λ (h : HeldList). not (is_list_of c.args.holder h)) _ (λ x b f' k. search rules) _ _ c.retain.ensures.filtered)) (left-held c.args.holder c.self.inside.lines c.self.inside.lists.items c.self.invariant)
+invariant_of-self c = subst (AreHeld c.self.inside.store.story.text) (sym (filter_same _ (λ (h : HeldList). not (is_list_of c.args.holder h)) _ (λ x b f' k. search rules) _ _ c.retain.ensures.filtered)) (left-held c.args.holder c.self.inside.store.story.text c.self.inside.lists.items c.self.invariant)
 
 pub returns : goal.returns
 returns c = lists-left c.args.holder _ _ _ c.self.inside.lists.items _ _ c.self.view_is (filter_same _ (λ (h : HeldList). not (is_list_of c.args.holder h)) _ (λ x b f' k. search rules) _ _ c.retain.ensures.filtered)

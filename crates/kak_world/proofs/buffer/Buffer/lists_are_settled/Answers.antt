@@ -4,4 +4,4 @@ use Rattle.kak_world.proofs.SettledLemmas.{held-settled}
 use Rattle.kak_world.proofs.buffer.Buffer.lists_are_settled.Goals as goal
 
 pub returns : goal.returns
-returns c = subst ListsAreSettled c.self.view_is (held-settled c.self.inside.name c.self.inside.is_file c.self.inside.lines c.self.inside.lists.items c.self.invariant)
+returns c = subst ListsAreSettled c.self.view_is (held-settled c.self.inside.name c.self.inside.is_file c.self.inside.store.story c.self.inside.lists.items c.self.invariant)

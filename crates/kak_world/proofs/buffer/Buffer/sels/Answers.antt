@@ -12,9 +12,9 @@ index-list-requires c = let inside : c.place.result < length c.self.inside.lists
 pub returns-clause-sels : goal.returns-clause-sels
 returns-clause-sels c =
     sym (ap (λ (h : Held). h.sels) (list-read c.args.holder _ _ _ c.self.inside.lists.items _ _ _ c.self.view_is c.requires (c.place.ensures ∙ ap (place_where (is_list_of c.args.holder)) c.as_slice.ensures.value) c.index-list.ensures))
-    ∙ ap (λ (b : Buffer). selected b.text c.index-list.result.now.sels) c.self.view_is
+    ∙ ap (λ (b : Buffer). selected b.story.text c.index-list.result.now.sels) c.self.view_is
 
 pub returns-clause-held : goal.returns-clause-held
 returns-clause-held c =
-    subst (λ (b : Buffer). IsHeld b.text c.index-list.result.now.sels) c.self.view_is
+    subst (λ (b : Buffer). IsHeld b.story.text c.index-list.result.now.sels) c.self.view_is
     (list-held _ c.self.inside.lists.items _ _ c.self.invariant (list-inside c.args.holder _ _ _ c.self.inside.lists.items _ _ c.self.view_is c.requires (c.place.ensures ∙ ap (place_where (is_list_of c.args.holder)) c.as_slice.ensures.value)) c.index-list.ensures)

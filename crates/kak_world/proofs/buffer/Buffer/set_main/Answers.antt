@@ -16,16 +16,16 @@ index_mut-list-requires c = let inside : c.place-at.result < length c.self.insid
 pub set_main-requires : goal.set_main-requires
 set_main-requires c =
     let same = ap (λ (h : Held). length h.sels.list) (list-read c.args.holder _ _ _ c.self.inside.lists.items _ _ _ c.self.view_is c.requires.list (c.place-at.ensures ∙ ap (place_where (is_list_of c.args.holder)) c.as_slice.ensures.value) c.index_mut-list.ensures.value) in
-    omega (arith, same, c.requires.there, length-map c.index_mut-list.result.now.sels.list (range_of c.self.inside.lines))
+    omega (arith, same, c.requires.there, length-map c.index_mut-list.result.now.sels.list (range_of c.self.inside.store.story.text))
 
 pub invariant_of-self : goal.invariant_of-self
 invariant_of-self c =
     let same = ap (λ (h : Held). length h.sels.list) (list-read c.args.holder _ _ _ c.self.inside.lists.items _ _ _ c.self.view_is c.requires.list (c.place-at.ensures ∙ ap (place_where (is_list_of c.args.holder)) c.as_slice.ensures.value) c.index_mut-list.ensures.value) in
     let inside : c.place-at.result < length c.self.inside.lists.items = list-inside c.args.holder _ _ _ c.self.inside.lists.items _ _ c.self.view_is c.requires.list (c.place-at.ensures ∙ ap (place_where (is_list_of c.args.holder)) c.as_slice.ensures.value) in
-    all-set (λ (h : HeldList). IsHeld c.self.inside.lines h.sels) c.self.inside.lists.items c.place-at.result _ c.self.invariant
-    (rw c.set_main.ensures (main-held c.self.inside.lines c.index_mut-list.result.now.sels c.args.n (list-held _ c.self.inside.lists.items _ _ c.self.invariant inside c.index_mut-list.ensures.value) (omega (arith, same, c.requires.there, length-map c.index_mut-list.result.now.sels.list (range_of c.self.inside.lines)))))
+    all-set (λ (h : HeldList). IsHeld c.self.inside.store.story.text h.sels) c.self.inside.lists.items c.place-at.result _ c.self.invariant
+    (rw c.set_main.ensures (main-held c.self.inside.store.story.text c.index_mut-list.result.now.sels c.args.n (list-held _ c.self.inside.lists.items _ _ c.self.invariant inside c.index_mut-list.ensures.value) (omega (arith, same, c.requires.there, length-map c.index_mut-list.result.now.sels.list (range_of c.self.inside.store.story.text)))))
 
 pub returns : goal.returns
 returns c = list-set c.args.holder _ _ _ c.self.inside.lists.items _ _ c.index_mut-list.result.now _ (λ held. record held { sels = record { list = (list_on c.args.holder c.args.self.now).sels.list; main = c.args.n } }) c.self.view_is c.requires.list (c.place-at.ensures ∙ ap (place_where (is_list_of c.args.holder)) c.as_slice.ensures.value) c.index_mut-list.ensures.value
-    (ap (λ s. let h : Held = record { holder = c.index_mut-list.result.now.holder; sels = selected c.self.inside.lines s; view = window_seen c.index_mut-list.result.now.window } in h) c.set_main.ensures
+    (ap (λ s. let h : Held = record { holder = c.index_mut-list.result.now.holder; sels = selected c.self.inside.store.story.text s; view = window_seen c.index_mut-list.result.now.window } in h) c.set_main.ensures
     ∙ ap (λ (x : Held). let h : Held = record { holder = c.index_mut-list.result.now.holder; sels = record { list = x.sels.list; main = c.args.n }; view = window_seen c.index_mut-list.result.now.window } in h) (list-read c.args.holder _ _ _ c.self.inside.lists.items _ _ _ c.self.view_is c.requires.list (c.place-at.ensures ∙ ap (place_where (is_list_of c.args.holder)) c.as_slice.ensures.value) c.index_mut-list.ensures.value))

@@ -11,5 +11,5 @@ pub index_mut-list-requires : goal.index_mut-list-requires
 index_mut-list-requires c = let inside : c.place-at.result < length c.self.inside.lists.items = list-inside c.args.holder _ _ _ c.self.inside.lists.items _ _ c.self.view_is c.requires.list (c.place-at.ensures ∙ ap (place_where (is_list_of c.args.holder)) c.as_slice.ensures.value) in omega (arith, c.self.inside.lists.ok.0)
 
 pub returns : goal.returns
-returns c = list-set c.args.holder _ _ _ c.self.inside.lists.items _ _ c.index_mut-list.result.now _ (λ held. record held { sels = selected c.args.self.now.text c.args.sels }) c.self.view_is c.requires.list (c.place-at.ensures ∙ ap (place_where (is_list_of c.args.holder)) c.as_slice.ensures.value) c.index_mut-list.ensures.value
-    (ap (λ (b : Buffer). let h : Held = record { holder = c.index_mut-list.result.now.holder; sels = selected b.text c.args.sels; view = window_seen c.index_mut-list.result.now.window } in h) c.self.view_is)
+returns c = list-set c.args.holder _ _ _ c.self.inside.lists.items _ _ c.index_mut-list.result.now _ (λ held. record held { sels = selected c.args.self.now.story.text c.args.sels }) c.self.view_is c.requires.list (c.place-at.ensures ∙ ap (place_where (is_list_of c.args.holder)) c.as_slice.ensures.value) c.index_mut-list.ensures.value
+    (ap (λ (b : Buffer). let h : Held = record { holder = c.index_mut-list.result.now.holder; sels = selected b.story.text c.args.sels; view = window_seen c.index_mut-list.result.now.window } in h) c.self.view_is)

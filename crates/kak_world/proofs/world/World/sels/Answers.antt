@@ -10,8 +10,8 @@ sels-requires c = ap (has_list (Of c.args.who)) c.shown.ensures ∙ joined_list 
 
 pub returns-clause-sels : goal.returns-clause-sels
 unfolding sels_of list_of text_of
-returns-clause-sels c = sym (ap (λ (b : Buffer). (list_on (Of c.args.who) b).sels) c.shown.ensures) ∙ c.sels.ensures.sels ∙ ap (λ (b : Buffer). selected b.text c.sels.result.now) c.shown.ensures
+returns-clause-sels c = sym (ap (λ (b : Buffer). (list_on (Of c.args.who) b).sels) c.shown.ensures) ∙ c.sels.ensures.sels ∙ ap (λ (b : Buffer). selected b.story.text c.sels.result.now) c.shown.ensures
 
 pub returns-clause-held : goal.returns-clause-held
 unfolding text_of
-returns-clause-held c = subst (λ (b : Buffer). IsHeld b.text c.sels.result.now) c.shown.ensures c.sels.ensures.held
+returns-clause-held c = subst (λ (b : Buffer). IsHeld b.story.text c.sels.result.now) c.shown.ensures c.sels.ensures.held
