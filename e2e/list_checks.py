@@ -5,6 +5,7 @@ from drawings import keys_line
 from processes import run_whole
 
 MAX_SELECTIONS = 262_144
+MAX_GROUPS = 99_999
 # a request line has at most this many bytes, and a `<ret>` five of them
 RETURNS_A_LINE = 100_000
 
@@ -30,6 +31,12 @@ ROWS = {
     "a count as far as the units": ("x" * 5000, ["9999l"], "1:4097 normal 1/1", "given up: budget spent"),
     "a count that the text ends first": ("x" * 50, ["99l"], "1:51 normal 1/1", ""),
     "a count of turns": ("a<ret>b<ret>c", ["%<a-s>2)"], "2:2 normal 2/3", ""),
+    "what was typed is taken back": ("", ["ia<esc>", "u"], "1:1 normal 1/1", ""),
+    "two groups are": ("ab", ["ix<c-u>y<esc>", "2u"], "1:1 normal 1/1", ""),
+    "the first text has none before it": ("ab", ["9u"], "1:1 normal 1/1", "nothing to undo"),
+    "there is nothing to make again": ("ab", ["U"], "1:1 normal 1/1", "nothing to redo"),
+    "below the first node is none": ("", ["<c-k>"], "1:1 normal 1/1", "no such undo node"),
+    "what changed on both sides of a way is selected": ("", ["ia<esc>uib<esc>", "<c-k>"], "1:1 normal 1/2", ""),
     "wide characters and tabs": ("漢字<ret><tab>b", ["lj"], "2:1 normal 1/1", ""),
 }
 
@@ -70,3 +77,8 @@ def run(program, report):
     one_more = newlines(MAX_SELECTIONS)
     is_after(program, report, "one more selection", [*one_more, keys_line("%<a-s>")],
              f"{MAX_SELECTIONS + 1}:1 normal 1/1", "too many selections")
+    # as many groups as a tree has room for beside its first text, and one more; then that one is taken back all the same
+    groups = [keys_line("ix<esc>" * (MAX_GROUPS // 3))] * 3
+    is_after(program, report, "one group more than the undo tree has room for", [*groups, keys_line("iy")],
+             "1:100000 insert 1/1", "undo tree full")
+    is_after(program, report, "a full undo tree goes back", [*groups, keys_line("iy<esc>u")], "1:99999 normal 1/1", "")
