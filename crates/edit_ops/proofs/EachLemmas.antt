@@ -58,7 +58,7 @@ each-behind : (last : ℕ) (f : ℕ → Range → Splice) (m n : ℕ) (r : Range
 each-behind last f m n r [] k o h b w a = k.ends m r o h
 each-behind last f m n r (s ∷ rs) k o h b w a = (k.apart m n r s o b.0 w.0.0 w.0.1, k.ordered n s w.0.0 w.0.1, each-behind last f n (n + 1) s rs k w.0.0 w.0.1 a.0 w.1 a.1)
 
-each-in_order : (last : ℕ) (f : ℕ → Range → Splice) (rs : List Range) → KeepsOrder last f → AreWithin last rs → AreApart rs → AreInOrder 0 last (each_from f 0 rs)
+pub each-in_order : (last : ℕ) (f : ℕ → Range → Splice) (rs : List Range) → KeepsOrder last f → AreWithin last rs → AreApart rs → AreInOrder 0 last (each_from f 0 rs)
 each-in_order last f [] k w a = omega arith
 each-in_order last f (r ∷ rs) k w a = (omega arith, k.ordered 0 r w.0.0 w.0.1, each-behind last f 0 1 r rs k w.0.0 w.0.1 a.0 w.1 a.1)
 

@@ -284,8 +284,8 @@ go-on last shifts w s ss rest e g = record {
 }
 
 -- an edit begins
-pub begin-underway : (text : List ℕ) (last : Coord) (list : Listed) (splices : List Splice) (shifts : List Shift) → IsOfEdit text last list splices shifts → IsUnderway text last shifts (none_passed last) splices text 0
-begin-underway text last list splices shifts h =
+pub begin-underway : (text : List ℕ) (last : Coord) (splices : List Splice) (shifts : List Shift) → IsOfEdit text last splices shifts → IsUnderway text last shifts (none_passed last) splices text 0
+begin-underway text last splices shifts h =
     let none : 0 ≡ 0 + length text - length text = omega arith in
     record {
       first = h.stored;
@@ -303,8 +303,8 @@ begin-underway text last list splices shifts h =
       shifts_are = h.shifts_are;
     }
 
-pub begin-on : (last : Coord) (list : Listed) (splices : List Splice) (shifts : List Shift) → IsOfSomeEdit last list splices shifts → GoesOn last shifts (none_passed last) splices
-begin-on last list splices shifts h = record { text = h.text; now = h.text; from = 0; underway = begin-underway h.text last list splices shifts h.edit }
+pub begin-on : (last : Coord) (splices : List Splice) (shifts : List Shift) → IsOfSomeEdit last splices shifts → GoesOn last shifts (none_passed last) splices
+begin-on last splices shifts h = record { text = h.text; now = h.text; from = 0; underway = begin-underway h.text last splices shifts h.edit }
 
 shift-small : (text : List ℕ) (c : Change) → IsStored text → IsStored (changed text c) → IsSmallShift (shift_of text c)
 shift-small text (Insertion p s) h k = record {
@@ -323,32 +323,31 @@ shifts-small text [] h a n k = absurd (omega arith)
 shifts-small text (c ∷ cs) h a zero k = shift-small text c h a.0.stored
 shifts-small text (c ∷ cs) h a (suc n) k = shifts-small (changed text c) cs a.0.stored a.1 n (omega arith)
 
-pub edit-small : (last : Coord) (list : Listed) (splices : List Splice) (shifts : List Shift) → IsOfSomeEdit last list splices shifts → AreSmallShifts shifts
-edit-small last list splices shifts h = subst AreSmallShifts (sym h.edit.shifts_are) (shifts-small h.text (changes_of h.text splices) h.edit.stored h.edit.steps)
+pub edit-small : (last : Coord) (splices : List Splice) (shifts : List Shift) → IsOfSomeEdit last splices shifts → AreSmallShifts shifts
+edit-small last splices shifts h = subst AreSmallShifts (sym h.edit.shifts_are) (shifts-small h.text (changes_of h.text splices) h.edit.stored h.edit.steps)
 
 pub length-marks : (last : Coord) (shifts : List Shift) (w : Passed) (ss : List Splice) → length (marks last shifts w ss) ≡ length ss
 length-marks last shifts w [] = refl
 length-marks last shifts w (s ∷ ss) = ap (λ n. suc n) (length-marks last shifts (passed last shifts w s) ss)
 
 -- the settled list of what replacements leave is the list that the edit leaves
-pub edit-left : (text : List ℕ) (last : Coord) (list s : Listed) (splices : List Splice) (shifts : List Shift) (sels : List Sel) → IsOfEdit text last list splices shifts → list.main < length list.list → sels ≡ marks last shifts (none_passed last) splices
-    → ((t : List ℕ) → AreInside t sels → IsSettledIn t (ranges_of t sels) list.main s) → IsLeftBy text splices list.main s
-edit-left text last list s splices shifts sels h main e settles =
+pub edit-left : (text : List ℕ) (last : Coord) (main : ℕ) (s : Listed) (splices : List Splice) (shifts : List Shift) (sels : List Sel) → IsOfEdit text last splices shifts → main < length splices → sels ≡ marks last shifts (none_passed last) splices
+    → ((t : List ℕ) → AreInside t sels → IsSettledIn t (ranges_of t sels) main s) → IsLeftBy text splices main s
+edit-left text last main s splices shifts sels h inside_main e settles =
     let end : List ℕ = edited text (flat_splices text splices) in
-    let all : AreSelsOf end (marks last shifts (none_passed last) splices) (ranges_left (length text) text (flat_splices text splices)) = all-left text last shifts (none_passed last) splices text 0 (begin-underway text last list splices shifts h) in
+    let all : AreSelsOf end (marks last shifts (none_passed last) splices) (ranges_left (length text) text (flat_splices text splices)) = all-left text last shifts (none_passed last) splices text 0 (begin-underway text last splices shifts h) in
     let inside : AreInside end sels = subst (AreInside end) (sym e) all.inside in
     let ranges : ranges_of end sels ≡ ranges_left (length text) text (flat_splices text splices) = ap (ranges_of end) e ∙ all.ranges_are in
-    let settled_in : IsSettledIn end (ranges_of end sels) list.main s = settles end inside in
-    let count : length (ranges_of end sels) ≡ length list.list = length-map sels (range_of end) ∙ ap length e ∙ length-marks last shifts (none_passed last) splices ∙ h.one_each in
+    let settled_in : IsSettledIn end (ranges_of end sels) main s = settles end inside in
+    let count : length (ranges_of end sels) ≡ length splices = length-map sels (range_of end) ∙ ap length e ∙ length-marks last shifts (none_passed last) splices in
     record {
-      held = settled-held end (ranges_of end sels) list.main s settled_in;
-      left = selected-is end (record { list = ranges_of end sels; main = list.main }) s (ranges-inside end sels inside) (omega (arith, count)) settled_in
-          ∙ ap (λ rs. settled (record { list = rs; main = list.main })) ranges;
+      held = settled-held end (ranges_of end sels) main s settled_in;
+      left = selected-is end (record { list = ranges_of end sels; main = main }) s (ranges-inside end sels inside) (omega (arith, count, inside_main)) settled_in
+          ∙ ap (λ rs. settled (record { list = rs; main = main })) ranges;
     }
 
 -- so the settled list is the one that is left
-pub ok-left : (r : Result Listed AllocError) (last : Coord) (list : Listed) (splices : List Splice) (shifts : List Shift) (sels : List Sel) (main : ℕ) → list.main < length list.list → main ≡ list.main → sels ≡ marks last shifts (none_passed last) splices
-    → IfOk r (λ s. (t : List ℕ) → AreInside t sels → IsSettledIn t (ranges_of t sels) main s) → IfOk r (λ s. (text : List ℕ) → IsOfEdit text last list splices shifts → IsLeftBy text splices list.main s)
-ok-left (Ok s) last list splices shifts sels main h e k settles =
-    λ text edit. edit-left text last list s splices shifts sels edit h k (λ t i. subst (λ m. IsSettledIn t (ranges_of t sels) m s) e (settles t i))
-ok-left (Err x) last list splices shifts sels main h e k settles = settles
+pub ok-left : (r : Result Listed AllocError) (last : Coord) (main : ℕ) (splices : List Splice) (shifts : List Shift) (sels : List Sel) → main < length splices → sels ≡ marks last shifts (none_passed last) splices
+    → IfOk r (λ s. (t : List ℕ) → AreInside t sels → IsSettledIn t (ranges_of t sels) main s) → IfOk r (λ s. (text : List ℕ) → IsOfEdit text last splices shifts → IsLeftBy text splices main s)
+ok-left (Ok s) last main splices shifts sels h k settles = λ text edit. edit-left text last main s splices shifts sels edit h k settles
+ok-left (Err x) last main splices shifts sels h k settles = settles

@@ -19,7 +19,7 @@ pub line_behind-at : (text : List ℕ) (at : Coord) → IsPlace text at → line
 line_behind-at text at h = ap (λ (c : Coord). offset text (record { line = c.line + 1; column = 0 })) (coord_at-offset text at h)
 
 -- later offsets are on later lines
-lines-rise : (text : List ℕ) (a b : ℕ) → a ≤ b → b < length text → (coord_at text a).line ≤ (coord_at text b).line
+pub lines-rise : (text : List ℕ) (a b : ℕ) → a ≤ b → b < length text → (coord_at text a).line ≤ (coord_at text b).line
 lines-rise text a b h k =
     ordered_lines text (coord_at text a) (coord_at text b) (inl (IsPlace-coord_at text a (omega arith))) (inl (IsPlace-coord_at text b k)) (omega (arith, offset-coord_at text a (omega arith), offset-coord_at text b (omega arith)))
 

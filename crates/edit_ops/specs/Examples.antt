@@ -1,31 +1,15 @@
 -- Worked examples of edits over several selections, which hold by computation.
-use Rattle.std.specs.Prelude.{◌≡◌, ℕ, true, false, None, List, [], ◌∷◌, codes}
-use Rattle.list_model.specs.Ranges.{Range, Selected, only}
+use Rattle.std.specs.Prelude.{◌≡◌, [], ◌∷◌, codes}
+use Rattle.list_model.specs.Ranges.{only}
 use Rattle.edit_ops.specs.declared.kinds.Erase.TheVariants.{Selection, BeforeCursor, AtCursor}
 use Rattle.edit_ops.specs.declared.kinds.Put.TheVariants.{Before, After, Over, BeforeCursor as AtTheCursor}
 use Rattle.edit_ops.specs.Erasing.{erasures}
 use Rattle.edit_ops.specs.Putting.{puts}
 use Rattle.edit_ops.specs.Leaving.{edited, left_by}
-
--- a straight selection
-abbrev pub straight : ℕ → ℕ → Range
-straight a b = record { low = a; high = b; turned = false; target = None }
-
--- a turned one
-abbrev pub turned : ℕ → ℕ → Range
-turned a b = record { low = a; high = b; turned = true; target = None }
-
--- a list with its main selection
-abbrev pub listed : List Range → ℕ → Selected
-listed list main = record { list = list; main = main }
-
--- the two characters between three others
-abbrev pub two_marks : List Range
-two_marks = only 1 ∷ only 3 ∷ []
-
--- a character, and the last line behind it
-abbrev pub letter_and_rest : List Range
-letter_and_rest = only 2 ∷ straight 3 4 ∷ []
+use Rattle.edit_ops.specs.Samples.{straight, turned, listed, two_marks, letter_and_rest}
+use Rattle.edit_ops.specs.TextExamples.{ReadExamples, OpenExamples, RotateExamples, FillExamples}
+use Rattle.edit_ops.specs.CrowdingExamples.{CrowdExamples}
+use Rattle.edit_ops.specs.AligningExamples.{AlignExamples}
 
 pub record EraseExamples : Type 0 where
   pub text_of_one_newline : edited (codes "\n") (erasures Selection (only 0 ∷ [])) ≡ codes "\n"
@@ -78,3 +62,9 @@ pub record PutExamples : Type 0 where
 pub record WorkedExamples : Type 0 where
   pub erasing : EraseExamples
   pub putting : PutExamples
+  pub reading : ReadExamples
+  pub opening : OpenExamples
+  pub rotating : RotateExamples
+  pub filling : FillExamples
+  pub crowding : CrowdExamples
+  pub aligning : AlignExamples

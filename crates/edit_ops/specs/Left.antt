@@ -13,19 +13,18 @@ use Rattle.buffer_store.specs.Stored.{shifts_of}
 use Rattle.edit_ops.specs.Leaving.{edited, left_by}
 use Rattle.edit_ops.specs.Passing.{ended, no_shift}
 
--- there is a replacement for each selection of a list, and the shifts are those of the edit of a text with this last place
-pub record IsOfEdit (text : List ℕ) (last : Coord) (list : Listed) (splices : List Splice) (shifts : List Shift) : Type 0 where
+-- the shifts are those of the edit that replacements make of a text with this last place
+pub record IsOfEdit (text : List ℕ) (last : Coord) (splices : List Splice) (shifts : List Shift) : Type 0 where
   pub stored : IsStored text
   pub last_is : last ≡ coord_at text (last_place text)
   pub are_splices : AreSplicesOf text splices
-  pub one_each : length splices ≡ length list.list
   pub steps : AreSteps text (changes_of text splices)
   pub shifts_are : shifts ≡ shifts_of text (changes_of text splices)
 
 -- there is such a text
-pub record IsOfSomeEdit (last : Coord) (list : Listed) (splices : List Splice) (shifts : List Shift) : Type 0 where
+pub record IsOfSomeEdit (last : Coord) (splices : List Splice) (shifts : List Shift) : Type 0 where
   pub text : List ℕ
-  pub edit : IsOfEdit text last list splices shifts
+  pub edit : IsOfEdit text last splices shifts
 
 -- a list is held in the text after an edit, and is the one that the edit leaves
 pub record IsLeftBy (text : List ℕ) (splices : List Splice) (main : ℕ) (s : Listed) : Type 0 where

@@ -28,11 +28,15 @@ line_behind text o = offset text (record { line = (coord_at text o).line + 1; co
 abbrev pub put_in_at : ℕ → List ℕ → Splice
 put_in_at at s = record { from = at; «to» = at; put = s }
 
+-- characters put in the place of a range's
+abbrev pub put_over : List ℕ → Range → Splice
+put_over s r = record { from = r.low; «to» = r.high + 1; put = s }
+
 -- characters put at a range; before it and behind it, they go to its lines where whole lines are put
 abbrev pub put_at : List ℕ → Bool → Put → List ℕ → Range → Splice
 put_at text whole Before s r = put_in_at (if whole then line_begin text r.low else r.low) s
 put_at text whole After s r = put_in_at (if whole then line_behind text r.high else r.high + 1) s
-put_at text whole Over s r = record { from = r.low; «to» = r.high + 1; put = s }
+put_at text whole Over s r = put_over s r
 put_at text whole BeforeCursor s r = put_in_at (cursor r) s
 
 -- the n-th string put at the n-th range of a list; where some string ends in a newline, whole lines are put

@@ -1,4 +1,5 @@
-//! What is erased at selections, and where characters are put.
+//! What is erased at selections, where characters are put and lines opened, which way texts go, and whether lines get blanks
+//! or lose them.
 
 /// What is erased at a selection.
 #[derive(Clone, Copy, PartialEq, Eq, Debug)]
@@ -22,4 +23,31 @@ pub enum Put {
     Over,
     /// Before its cursor.
     BeforeCursor,
+}
+
+/// On which side of a selection a line is opened.
+#[derive(Clone, Copy, PartialEq, Eq, Debug)]
+pub enum Side {
+    /// Below the line of its last character.
+    Below,
+    /// Above the line of its first character.
+    Above,
+}
+
+/// Which way the texts of selections go round.
+#[derive(Clone, Copy, PartialEq, Eq, Debug)]
+pub enum Rotation {
+    /// Each text goes to the selection behind its own, the last one to the first.
+    Forward,
+    /// Each text goes to the selection before its own, the first one to the last.
+    Backward,
+}
+
+/// Whether lines get blanks at their start, or lose them.
+#[derive(Clone, Copy, PartialEq, Eq, Debug)]
+pub enum Indent {
+    /// They get some.
+    More,
+    /// They lose some.
+    Less,
 }

@@ -16,11 +16,29 @@ use selection_set::{Sel, Sels, SelsError};
 use smallvec::SmallVec;
 use std::alloc::{AllocError, Global};
 
-/// The list that an edit leaves to the client who makes it, by its replacements, one for each of the client's selections,
-/// the shifts of its changes, and the last place of the text before it. For each selection it has the text that was put in
-/// for it, or the one character at its place where nothing was put in; each is straight, without a target, and has gone
-/// through the later changes of the edit. The main one stays. It costs the list, the shifts and the characters that were put
-/// in once; where what was put in went before the place of an earlier selection, the list is sorted.
+/// The list that an edit leaves to the client who makes it, by the number of its main selection, the replacements of the edit,
+/// one for each of its selections, the shifts of its changes, and the last place of the text before it. For each selection
+/// it has the text that was put in for it, or the one character at its place where nothing was put in; each is straight, without
+/// a target, and has gone through the later changes of the edit. The main one stays. It costs the shifts and the characters that
+/// were put in once; where what was put in went before the place of an earlier selection, the list is sorted.
+pub fn left_list(
+    alloc: Global,
+    last: Coord,
+    main: usize,
+    splices: &[Splice],
+    shifts: &[Shift],
+) -> Result<Sels, AllocError>
+    requires edit { IsOfSomeEdit last splices.now shifts.now }
+    requires main { main < length splices.now }
+    requires few { length splices.now ≤ MAX_SELECTIONS }
+    ensures { IfOk result (λ s. (text : List ℕ) → IsOfEdit text last splices.now shifts.now → IsLeftBy text splices.now main s) }
+{
+    let homes = homes_of(alloc, shifts)?;
+    let list = marks_of(alloc, last, splices, shifts, homes.as_slice())?;
+    settled(alloc, list, main)
+}
+
+/// The same, by the client's selections before the edit, of which there is one for each replacement.
 pub fn after(
     alloc: Global,
     last: Coord,
@@ -28,12 +46,11 @@ pub fn after(
     splices: &[Splice],
     shifts: &[Shift],
 ) -> Result<Sels, AllocError>
-    requires { IsOfSomeEdit last sels.now splices.now shifts.now }
-    ensures { IfOk result (λ s. (text : List ℕ) → IsOfEdit text last sels.now splices.now shifts.now → IsLeftBy text splices.now sels.now.main s) }
+    requires edit { IsOfSomeEdit last splices.now shifts.now }
+    requires one_each { length splices.now ≡ length sels.now.list }
+    ensures { IfOk result (λ s. (text : List ℕ) → IsOfEdit text last splices.now shifts.now → IsLeftBy text splices.now sels.now.main s) }
 {
-    let homes = homes_of(alloc, shifts)?;
-    let list = marks_of(alloc, last, sels, splices, shifts, homes.as_slice())?;
-    settled(alloc, list, sels.main())
+    left_list(alloc, last, sels.main(), splices, shifts)
 }
 
 // Where the begin of each shift ends, that of the last one first.
@@ -66,12 +83,11 @@ fn ended(shifts: &[Shift], ends: &[Coord], next: usize, at: Coord) -> Coord
 fn marks_of(
     alloc: Global,
     last: Coord,
-    sels: &Sels,
     splices: &[Splice],
     shifts: &[Shift],
     ends: &[Coord],
 ) -> Result<SmallVec<Sel, 4>, AllocError>
-    requires edit { IsOfSomeEdit last sels.now splices.now shifts.now }
+    requires edit { IsOfSomeEdit last splices.now shifts.now }
     requires homes { ends.now ≡ homes shifts.now }
     ensures { IfOk result (λ list. list.items ≡ marks last shifts.now (none_passed last) splices.now) }
 {

@@ -1,13 +1,16 @@
 //! Strings that are put at each selection.
 
-ghost use Rattle.std.specs.Prelude.{◌≡◌, ◌+◌, ◌<◌, map, chars, if◌then◌else◌, IfOk};
+ghost use Rattle.std.specs.Prelude.{◌≡◌, ◌+◌, ◌<◌, ◌↔◌, map, chars, if◌then◌else◌, IfOk, IsErrOf};
+ghost use Rattle.text_model.specs.declared.TheConstants.{MAX_CHARS};
 ghost use Rattle.text_model.specs.Texts.{IsPlace, IsPlaceOrEnd, offset, line_count, ends_in_newline};
 ghost use Rattle.selection_set.specs.Inside.{IsInside, range_of};
 ghost use Rattle.selection_set.specs.Listing.{ranges_of};
 ghost use Rattle.selection_set.specs.Held.{IsHeld};
 ghost use Rattle.buffer_store.specs.Buffers.{flat_splice, flat_splices, IsSpliceOf, AreSplicesOf};
-ghost use Rattle.edit_ops.specs.Putting.{nth_string, some_is_line, line_begin, line_behind, put_at, puts};
+ghost use Rattle.edit_ops.specs.Putting.{nth_string, some_is_line, line_begin, line_behind, put_over, put_at, puts};
+ghost use Rattle.edit_ops.specs.Crowding.{put_together};
 
+use crate::crowding::{PutError, are_crowded};
 use crate::kinds::Put;
 use crate::places::{behind, line_start, next_line};
 use buffer_store::Splice;
@@ -19,20 +22,25 @@ use std::alloc::{AllocError, Global};
 
 /// The replacements that put the n-th string at the n-th selection, from the first to the last; selections beyond the
 /// strings get the last one, and no characters where there are none. Before and behind selections, whole lines are put
-/// where any of the strings ends in a newline.
+/// where any of the strings ends in a newline. Where they would put in more than `MAX_CHARS` characters together, it is
+/// found before any string is copied.
 pub fn put(
     alloc: Global,
     lines: &Lines,
     sels: &Sels,
     strings: &Words,
     how: Put,
-) -> Result<Vec<Splice>, AllocError>
+) -> Result<Vec<Splice>, PutError>
     requires { IsHeld lines.now sels.now }
     ensures puts { IfOk result (λ s. flat_splices lines.now s.items ≡ puts lines.now how (map (λ w. chars w) strings.now) (ranges_of lines.now sels.now.list)) }
     ensures splices { IfOk result (λ s. AreSplicesOf lines.now s.items) }
+    ensures long { IsErrOf result PutError.TooLong ↔ (MAX_CHARS < put_together (puts lines.now how (map (λ w. chars w) strings.now) (ranges_of lines.now sels.now.list))) }
 {
+    if are_crowded(strings, sels.len()) {
+        return Err(PutError::TooLong);
+    }
     let strings = strings_of(alloc, strings)?;
-    put_chars(alloc, lines, sels, strings.as_slice(), how)
+    Ok(put_chars(alloc, lines, sels, strings.as_slice(), how)?)
 }
 
 // The strings as characters.
@@ -110,17 +118,26 @@ fn put_at(lines: &Lines, whole: bool, how: Put, text: Chars, sel: Sel) -> Splice
     match how {
         Put::Before => put_in_at(place_before(lines, whole, sel.low), text),
         Put::After => put_in_at(place_behind(lines, whole, sel.high), text),
-        Put::Over => Splice {
-            from: sel.low,
-            to: behind(lines, sel.high),
-            text,
-        },
+        Put::Over => put_over(lines, text, sel),
         Put::BeforeCursor => put_in_at(sel.cursor(), text),
     }
 }
 
-// Characters put in at a place.
-fn put_in_at(at: Coord, text: Chars) -> Splice
+/// Characters put in the place of a selection's.
+pub(crate) fn put_over(lines: &Lines, text: Chars, sel: Sel) -> Splice
+    requires { IsInside lines.now sel }
+    ensures puts { flat_splice lines.now result ≡ put_over text (range_of lines.now sel) }
+    ensures ends { IsSpliceOf lines.now result }
+{
+    Splice {
+        from: sel.low,
+        to: behind(lines, sel.high),
+        text,
+    }
+}
+
+/// Characters put in at a place.
+pub(crate) fn put_in_at(at: Coord, text: Chars) -> Splice
     ensures { result ≡ record { from = at; «to» = at; text = text } }
 {
     Splice {

@@ -13,14 +13,14 @@ use std::alloc::Global;
 use std::process::Abort;
 use std::test::Fail;
 
-fn lines(alloc: Global, text: &str) -> Result<Lines, Fail> {
+pub(crate) fn lines(alloc: Global, text: &str) -> Result<Lines, Fail> {
     let chars = Chars::from_str(alloc, text)?;
     let text = Text::of_chars(alloc, chars.as_slice())?;
     Ok(Lines::of_text(alloc, &text)?)
 }
 
 // The ends of a selection, by their offsets.
-fn pair<R: Abort>(rt: &R, lines: &Lines, anchor: usize, cursor: usize) -> Pair
+pub(crate) fn pair<R: Abort>(rt: &R, lines: &Lines, anchor: usize, cursor: usize) -> Pair
     ensures { IsPairInside lines.now result }
 {
     assert!(rt; anchor < lines.len());
@@ -32,7 +32,12 @@ fn pair<R: Abort>(rt: &R, lines: &Lines, anchor: usize, cursor: usize) -> Pair
 }
 
 // The selections between some ends, of which the first is the main one.
-fn listed<R: Abort>(rt: &R, alloc: Global, lines: &Lines, pairs: &[Pair]) -> Result<Sels, Fail>
+pub(crate) fn listed<R: Abort>(
+    rt: &R,
+    alloc: Global,
+    lines: &Lines,
+    pairs: &[Pair],
+) -> Result<Sels, Fail>
     requires { AllByRecursion (IsPairInside lines.now) pairs.now }
     ensures { IfOk result (λ s. IsHeld lines.now s) }
 {
@@ -48,12 +53,12 @@ fn words(alloc: Global, strings: &[&str]) -> Result<Words, Fail> {
     Ok(words)
 }
 
-fn at(line: u32, column: u32) -> Coord {
+pub(crate) fn at(line: u32, column: u32) -> Coord {
     Coord { line, column }
 }
 
 // The replacements are just these.
-fn assert_splices<R: Abort>(
+pub(crate) fn assert_splices<R: Abort>(
     rt: &R,
     alloc: Global,
     splices: &[Splice],
@@ -136,4 +141,119 @@ fn one_line_makes_all_lines(rt: HostRuntime) -> Result<(), Fail> {
     let before = put(alloc, &text, &sels, &strings, Put::Before)?;
     let expected = [(at(0, 0), at(0, 0), "x"), (at(1, 0), at(1, 0), "y\n")];
     assert_splices(&rt, alloc, before.as_slice(), expected.as_slice())
+}
+
+#[test]
+fn texts_are_those_of_selections(rt: HostRuntime) -> Result<(), Fail> {
+    let alloc = rt.alloc();
+    let text = lines(alloc, "aé\ncd\n")?;
+    let pairs = [pair(&rt, &text, 0, 0), pair(&rt, &text, 3, 1)];
+    let sels = listed(&rt, alloc, &text, pairs.as_slice())?;
+    let chars = texts(alloc, &text, &sels)?;
+    assert_eq!(rt; chars.len(), 2);
+    assert_eq!(rt; chars[0].as_slice(), ['a'].as_slice());
+    assert_eq!(rt; chars[1].as_slice(), ['é', '\n', 'c'].as_slice());
+    let words = strings(alloc, &text, &sels)?;
+    assert_eq!(rt; words.len(), 2);
+    assert_eq!(rt; words.get(0), "a");
+    assert_eq!(rt; words.get(1), "é\nc");
+    Ok(())
+}
+
+// A string of 4,194,304 characters, a fourth of what a text may have.
+fn quarter(alloc: Global) -> Result<String, Fail> {
+    let mut part = String::from_str(alloc, "é")?;
+    for _ in 0..22 {
+        let again = String::from_str(alloc, part.as_str())?;
+        part.push_str(again.as_str())?;
+    }
+    Ok(part)
+}
+
+#[test]
+fn strings_that_are_too_much_together_are_refused(rt: HostRuntime) -> Result<(), Fail> {
+    let alloc = rt.alloc();
+    let text = lines(alloc, "abc\n")?;
+    let pairs = [
+        pair(&rt, &text, 0, 0),
+        pair(&rt, &text, 1, 1),
+        pair(&rt, &text, 2, 2),
+        pair(&rt, &text, 3, 3),
+    ];
+    let sels = listed(&rt, alloc, &text, pairs.as_slice())?;
+    let mut string = quarter(alloc)?;
+    let most = words(alloc, [string.as_str()].as_slice())?;
+    assert!(rt; put(alloc, &text, &sels, &most, Put::Over).is_ok());
+    string.push('x')?;
+    let more = words(alloc, [string.as_str()].as_slice())?;
+    let refused = put(alloc, &text, &sels, &more, Put::BeforeCursor).err();
+    assert_eq!(rt; refused, Some(PutError::TooLong));
+    Ok(())
+}
+
+#[test]
+fn lines_are_opened(rt: HostRuntime) -> Result<(), Fail> {
+    let alloc = rt.alloc();
+    let text = lines(alloc, "ab\nc\n")?;
+    let pairs = [pair(&rt, &text, 0, 0), pair(&rt, &text, 3, 1)];
+    let sels = listed(&rt, alloc, &text, pairs.as_slice())?;
+    let below = open(alloc, &text, &sels, Side::Below)?;
+    let expected = [(at(1, 0), at(1, 0), "\n"), (at(2, 0), at(2, 0), "\n")];
+    assert_splices(&rt, alloc, below.as_slice(), expected.as_slice())?;
+    let above = open(alloc, &text, &sels, Side::Above)?;
+    let expected = [(at(0, 0), at(0, 0), "\n"), (at(0, 0), at(0, 0), "\n")];
+    assert_splices(&rt, alloc, above.as_slice(), expected.as_slice())
+}
+
+#[test]
+fn texts_go_round(rt: HostRuntime) -> Result<(), Fail> {
+    let alloc = rt.alloc();
+    let text = lines(alloc, "a bc\nd\n")?;
+    let pairs = [
+        pair(&rt, &text, 0, 0),
+        pair(&rt, &text, 3, 2),
+        pair(&rt, &text, 4, 5),
+    ];
+    let sels = listed(&rt, alloc, &text, pairs.as_slice())?;
+    let forward = rotate(alloc, &text, &sels, Rotation::Forward)?;
+    let expected = [
+        (at(0, 0), at(0, 1), "\nd"),
+        (at(0, 2), at(0, 4), "a"),
+        (at(0, 4), at(1, 1), "bc"),
+    ];
+    assert_splices(&rt, alloc, forward.as_slice(), expected.as_slice())?;
+    let backward = rotate(alloc, &text, &sels, Rotation::Backward)?;
+    let expected = [
+        (at(0, 0), at(0, 1), "bc"),
+        (at(0, 2), at(0, 4), "\nd"),
+        (at(0, 4), at(1, 1), "a"),
+    ];
+    assert_splices(&rt, alloc, backward.as_slice(), expected.as_slice())
+}
+
+#[test]
+fn selections_are_filled(rt: HostRuntime) -> Result<(), Fail> {
+    let alloc = rt.alloc();
+    let text = lines(alloc, "ab\ncd\n")?;
+    let pairs = [pair(&rt, &text, 0, 0), pair(&rt, &text, 3, 1)];
+    let sels = listed(&rt, alloc, &text, pairs.as_slice())?;
+    let filled = fill(alloc, &text, &sels, 'é')?;
+    let expected = [(at(0, 0), at(0, 1), "é"), (at(0, 1), at(1, 1), "ééé")];
+    assert_splices(&rt, alloc, filled.as_slice(), expected.as_slice())
+}
+
+#[test]
+fn cursors_are_aligned(rt: HostRuntime) -> Result<(), Fail> {
+    let alloc = rt.alloc();
+    let text = lines(alloc, "\tb\naab\n")?;
+    let pairs = [pair(&rt, &text, 1, 1), pair(&rt, &text, 5, 4)];
+    let sels = listed(&rt, alloc, &text, pairs.as_slice())?;
+    let splices = align(alloc, &text, &sels, 8)?;
+    let expected = [(at(0, 1), at(0, 1), ""), (at(1, 1), at(1, 1), "       ")];
+    assert_splices(&rt, alloc, splices.as_slice(), expected.as_slice())?;
+    let pairs = [pair(&rt, &text, 1, 1), pair(&rt, &text, 2, 4)];
+    let sels = listed(&rt, alloc, &text, pairs.as_slice())?;
+    let refused = align(alloc, &text, &sels, 8).err();
+    assert_eq!(rt; refused, Some(AlignError::SameLine));
+    Ok(())
 }

@@ -32,7 +32,7 @@ passed_at-walk-requires-clause-room c =
     omega (arith, k.room, ap (count_then c.args.last c.loop-splice.walk c.splice-item.result) c.place-at.ensures)
 
 pub passed_at-walk-requires-clause-small : goal.passed_at-walk-requires-clause-small
-passed_at-walk-requires-clause-small c = edit-small c.args.last c.args.sels.now c.args.splices.now c.args.shifts.now c.requires.edit
+passed_at-walk-requires-clause-small c = edit-small c.args.last c.args.splices.now c.args.shifts.now c.requires.edit
 
 pub passed_at-walk-requires-clause-last_small : goal.passed_at-walk-requires-clause-last_small
 passed_at-walk-requires-clause-last_small c = (can c.args.last c.args.shifts.now c.loop-splice.walk c.args.splices.now c.loop-splice.splice-index c.splice-item.result c.loop-splice-test.true c.splice-item.is c.loop-splice.invariant.goes_on).last_small

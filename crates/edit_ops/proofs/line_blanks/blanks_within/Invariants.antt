@@ -1,0 +1,9 @@
+use Rattle.std.proofs.Common.{◌≡◌, ◌+◌, ◌≤◌, drop}
+use Rattle.edit_ops.specs.Blanks.{blanks_within}
+use Rattle.edit_ops.proofs.line_blanks.blanks_within.Given as goal
+
+abbrev pub invariant-loop-i : goal.invariant-loop-i
+invariant-loop-i l = record {
+  so_far : blanks_within l.tabstop l.most 0 l.line ≡ l.i + blanks_within l.tabstop l.most l.column (drop l.i l.line);
+  within : l.column ≤ l.most;
+}

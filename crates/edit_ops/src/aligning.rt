@@ -1,0 +1,163 @@
+//! Cursors that are brought to one display column.
+
+ghost use Rattle.std.specs.Prelude.{◌≡◌, ◌<◌, ◌≤◌, ◌↔◌, true, false, length, map, max, nat_lt, IfOk, OnOk, IsErrOf};
+ghost use Rattle.text_model.specs.declared.TheConstants.{MAX_CHARS};
+ghost use Rattle.selection_set.specs.Inside.{IsInside, range_of};
+ghost use Rattle.selection_set.specs.Listing.{AreInside, ranges_of};
+ghost use Rattle.selection_set.specs.Held.{IsHeld};
+ghost use Rattle.buffer_store.specs.Buffers.{flat_splices, AreSplicesOf};
+ghost use Rattle.edit_ops.specs.Crowding.{put_together};
+ghost use Rattle.edit_ops.specs.Aligning.{alignments, cursor_column, greatest, lacking, shares_line, shares_with_next, spaced, spaces};
+ghost use Rattle.edit_ops.specs.declared.aligning.AlignError.TheVariants.{NoMemory};
+
+use buffer_store::Splice;
+use kak_text::{Chars, MAX_CHARS, MAX_TABSTOP};
+use line_buffer::Lines;
+use selection_set::{Sel, Sels};
+use std::alloc::{AllocError, Global};
+use window_view::cell_of;
+
+/// Why cursors aren't aligned. Nothing is changed then.
+#[derive(Clone, Copy, PartialEq, Eq, Debug)]
+pub enum AlignError {
+    /// Two selections begin on one line.
+    SameLine,
+    /// The spaces are more characters together than a text may have. None of them was made.
+    TooLong,
+    /// Memory ran out.
+    NoMemory,
+}
+
+impl From<AllocError> for AlignError {
+    ghost from_gives = { λ _ e. e ≡ NoMemory };
+
+    fn from(_e: AllocError) -> AlignError {
+        AlignError::NoMemory
+    }
+}
+
+/// The replacements that put spaces before the first character of each selection, from the first to the last: as many as
+/// the display column of its cursor is below the greatest one of a cursor, with a tab stop at each `tabstop` columns. It
+/// goes over the line of each cursor once, up to the cursor.
+pub fn align(
+    alloc: Global,
+    lines: &Lines,
+    sels: &Sels,
+    tabstop: u32,
+) -> Result<Vec<Splice>, AlignError>
+    requires held { IsHeld lines.now sels.now }
+    requires some { 1 ≤ tabstop }
+    requires few { tabstop ≤ MAX_TABSTOP }
+    ensures aligns { IfOk result (λ s. flat_splices lines.now s.items ≡ alignments lines.now tabstop (ranges_of lines.now sels.now.list)) }
+    ensures splices { IfOk result (λ s. AreSplicesOf lines.now s.items) }
+    ensures same_line { IsErrOf result AlignError.SameLine ↔ (shares_line lines.now (ranges_of lines.now sels.now.list) ≡ true) }
+    ensures long { IsErrOf result AlignError.TooLong → MAX_CHARS < put_together (alignments lines.now tabstop (ranges_of lines.now sels.now.list)) }
+    ensures fits { OnOk result (put_together (alignments lines.now tabstop (ranges_of lines.now sels.now.list)) ≤ MAX_CHARS) }
+{
+    if share_lines(sels.as_slice()) {
+        return Err(AlignError::SameLine);
+    }
+    let columns = columns_of(alloc, lines, sels.as_slice(), tabstop)?;
+    let last = greatest(columns.as_slice());
+    if lack_too_much(columns.as_slice(), last) {
+        return Err(AlignError::TooLong);
+    }
+    Ok(spaced(alloc, sels.as_slice(), columns.as_slice(), last)?)
+}
+
+// Whether a selection begins on the line on which the next one does.
+fn share_lines(sels: &[Sel]) -> bool
+    ensures { result ≡ shares_with_next sels.now }
+{
+    for n in 1..sels.len() {
+        if sels[n - 1].low.line == sels[n].low.line {
+            return true;
+        }
+    }
+    false
+}
+
+// The display columns of the cursors of selections.
+fn columns_of(
+    alloc: Global,
+    lines: &Lines,
+    sels: &[Sel],
+    tabstop: u32,
+) -> Result<Vec<u32>, AllocError>
+    requires inside { AreInside lines.now sels.now }
+    requires some { 1 ≤ tabstop }
+    requires few { tabstop ≤ MAX_TABSTOP }
+    ensures { IfOk result (λ c. c.items ≡ map (cursor_column lines.now tabstop) (ranges_of lines.now sels.now)) }
+{
+    let mut columns = Vec::with_capacity(alloc, sels.len())?;
+    for sel in sels {
+        columns.push_reserved(column_of(lines, *sel, tabstop));
+    }
+    Ok(columns)
+}
+
+// The display column of the cursor of a selection.
+fn column_of(lines: &Lines, sel: Sel, tabstop: u32) -> u32
+    requires inside { IsInside lines.now sel }
+    requires some { 1 ≤ tabstop }
+    requires few { tabstop ≤ MAX_TABSTOP }
+    ensures { result ≡ cursor_column lines.now tabstop (range_of lines.now sel) }
+{
+    let at = sel.cursor();
+    cell_of(lines.line(at.line as usize), at.column as usize, tabstop)
+}
+
+// The greatest of some numbers, and 0 where there are none.
+fn greatest(numbers: &[u32]) -> u32
+    ensures { result ≡ greatest numbers.now }
+{
+    let mut most = 0;
+    for n in numbers {
+        most = most.max(*n);
+    }
+    most
+}
+
+// Whether the spaces that bring columns to one are more characters than a text may have.
+fn lack_too_much(columns: &[u32], last: u32) -> bool
+    ensures { result ≡ nat_lt MAX_CHARS (lacking last columns.now) }
+{
+    let mut room = MAX_CHARS;
+    for column in columns {
+        let count = last.saturating_sub(*column) as usize;
+        if room < count {
+            return true;
+        }
+        room -= count;
+    }
+    false
+}
+
+// Spaces before each selection, which bring these columns to one.
+fn spaced(
+    alloc: Global,
+    sels: &[Sel],
+    columns: &[u32],
+    last: u32,
+) -> Result<Vec<Splice>, AllocError>
+    requires { length columns.now ≡ length sels.now }
+    ensures { IfOk result (λ s. s.items ≡ spaced last columns.now sels.now) }
+{
+    let mut splices = Vec::with_capacity(alloc, sels.len())?;
+    for (n, sel) in sels.iter().enumerate() {
+        let text = spaces(alloc, last.saturating_sub(columns[n]) as usize)?;
+        splices.push_reserved(Splice {
+            from: sel.low,
+            to: sel.low,
+            text,
+        });
+    }
+    Ok(splices)
+}
+
+// So many spaces.
+fn spaces(alloc: Global, count: usize) -> Result<Chars, AllocError>
+    ensures { IfOk result (λ s. s ≡ spaces count) }
+{
+    Ok(Chars::of_vec(vec![in alloc; ' '; count]?))
+}

@@ -1,0 +1,59 @@
+//! Blank characters at the start of lines.
+
+ghost use Rattle.std.specs.Prelude.{◌≡◌, ◌^◌, ◌≤◌};
+ghost use Rattle.kak_text.specs.Cells.{cells_of};
+ghost use Rattle.edit_ops.specs.Blanks.{is_blank, blanks, blanks_within};
+
+use kak_text::{Class, cells, class};
+
+/// How many blanks a line begins with.
+pub(crate) fn blanks(line: &[char]) -> usize
+    ensures { result ≡ blanks line.now }
+{
+    for (i, c) in line.iter().enumerate() {
+        if !is_blank(*c) {
+            return i;
+        }
+    }
+    line.len()
+}
+
+/// How many of the blanks that a line begins with end at a display column or before, where tabs reach the multiples of
+/// `tabstop`.
+pub(crate) fn blanks_within(line: &[char], tabstop: u32, most: u32) -> usize
+    ensures { result ≡ blanks_within tabstop most 0 line.now }
+{
+    let mut column = 0;
+    for (i, c) in line.iter().enumerate() {
+        if !is_blank(*c) {
+            return i;
+        }
+        column += cells_at(*c, column, tabstop);
+        if u64::from(most) < column {
+            return i;
+        }
+    }
+    line.len()
+}
+
+// Whether a character is a tab or a space of any kind.
+fn is_blank(c: char) -> bool
+    ensures { result ≡ is_blank c }
+{
+    class(c).is(Class::Blank)
+}
+
+// How many cells a character takes that begins at a display column. Tabs without stops take none.
+fn cells_at(c: char, column: u64, tabstop: u32) -> u64
+    ensures value { result ≡ cells_of c column tabstop }
+    ensures small { result ≤ 2 ^ 32 }
+{
+    if c != '\t' {
+        return u64::from(cells(c, 0, 1));
+    }
+    if tabstop == 0 {
+        return 0;
+    }
+    let stop = u64::from(tabstop);
+    stop - column % stop
+}
