@@ -1,9 +1,10 @@
 //! A buffer: its history, and the log of its shifts.
 
-ghost use Rattle.std.specs.Prelude.{◌≡◌, ℕ, ◌<◌, ◌≤◌, length, option_map, IfOk, OnOk, OnErr};
+ghost use Rattle.std.specs.Prelude.{◌≡◌, ℕ, ◌<◌, ◌≤◌, not, ◌&&◌, nat_le, length, option_map, IfOk, OnOk, OnErr};
 ghost use Rattle.change_list.specs.Logs.{stamp_of, fresh, pushed, trimmed};
 ghost use Rattle.change_list.specs.declared.log.TheConstants.{MAX_STAMP};
-ghost use Rattle.undo_model.specs.Stories.{committed_by, is_modified, marked_saved};
+ghost use Rattle.undo_model.specs.Stories.{is_own, nodes_due, committed_by, is_modified, marked_saved};
+ghost use Rattle.undo_model.specs.declared.TheConstants.{MAX_NODES};
 ghost use Rattle.undo_model.specs.Kept.{IsStory};
 ghost use Rattle.buffer_store.specs.Buffers.{opened_with};
 
@@ -66,6 +67,13 @@ impl Buffer {
         ensures { result ≡ option_map (λ g. g.owner) self.now.story.group }
     {
         self.history.owner()
+    }
+
+    /// Whether the tree has no place for a group that a client would begin.
+    pub fn is_full_for(&self, who: u32) -> bool
+        ensures { result ≡ (not (is_own who self.now.story.group) && nat_le MAX_NODES (nodes_due self.now.story)) }
+    {
+        self.history.is_full_for(who)
     }
 
     /// Whether the text may differ from what was saved.

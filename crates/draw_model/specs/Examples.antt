@@ -18,7 +18,7 @@ opened = joined_by 0 opening
 
 -- a world with a line of ASCII characters
 abbrev pub holding : List ℕ → Flat
-holding text = joined_by 0 (record { buffers = Some (made (codes "*scratch*") false text) ∷ []; clients = []; rest = record { units = 0 } })
+holding text = joined_by 0 (record { buffers = Some (made (codes "*scratch*") false text) ∷ []; clients = []; rest = record { units = 0; registers = [] } })
 
 -- of where the main cursor stands
 pub record PlaceExamples : Type 0 where

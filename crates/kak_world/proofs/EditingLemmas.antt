@@ -1,24 +1,21 @@
 -- A buffer after an edit or a move in its history, as the code keeps it.
-use Rattle.std.proofs.Common.{◌≡◌, ℕ, Bool, true, false, cond, List, [], ◌∷◌, length, map, take, refl, sym, ap, subst, ◌∙◌, arith, take_all, None, Some}
-use Rattle.std.specs.Prelude.{OnOk, OnErr, ◌⊎◌}
-use Rattle.std.specs.declared.option.Option.{Option}
+use Rattle.std.proofs.Common.{◌≡◌, ℕ, Bool, List, [], ◌∷◌, length, map, take, refl, sym, ap, subst, ◌∙◌, arith, take_all, None}
+use Rattle.std.specs.Prelude.{OnOk, OnErr}
 use Rattle.std.specs.declared.result.Result.{Result}
-use Rattle.tables.proofs.TableLemmas.{by_test}
 use Rattle.text_model.specs.declared.coords.Shift.{Shift}
 use Rattle.text_model.specs.Texts.{IsStored}
 use Rattle.text_model.specs.Changes.{Change, Insertion, Erasure, changed, all_changed, move_of, IsInside, IsShift}
 use Rattle.text_model.proofs.ChangeLemmas.{move_of-change}
 use Rattle.undo_model.specs.Steps.{AreSteps}
-use Rattle.tables.specs.Tables.{changed_where, first_where}
+use Rattle.tables.specs.Tables.{first_where}
 use Rattle.tables.proofs.RowLemmas.{changed-same, changed-stays}
 use Rattle.undo_model.specs.declared.travel.Travel.{Travel}
-use Rattle.undo_model.specs.Stories.{Story, edited, committed, is_own}
+use Rattle.undo_model.specs.Stories.{Story, edited}
 use Rattle.undo_model.specs.Moves.{target_of, gone_by, moved_by, move_changes}
 use Rattle.undo_model.specs.Marks.{left_by}
 use Rattle.undo_model.specs.Kept.{IsStory}
 use Rattle.undo_model.proofs.TreeLemmas.{Leads}
 use Rattle.undo_model.proofs.MoveLemmas.{named-leads}
-use Rattle.undo_model.proofs.StoryLemmas.{committed-text}
 use Rattle.selection_set.specs.Listing.{Listed}
 use Rattle.selection_set.specs.Held.{selected, IsHeld}
 use Rattle.move_marks.specs.Marking.{IsLeftBy}
@@ -27,6 +24,7 @@ use Rattle.buffer_store.specs.declared.errors.BufferError.{BufferError}
 use Rattle.buffer_store.specs.declared.errors.MoveError.{MoveError}
 use Rattle.buffer_store.specs.Stored.{shift_of, shifts_of}
 use Rattle.buffer_store.specs.Buffers.{Stored, IsEdited, IsBroken}
+use Rattle.buffer_store.proofs.PartLemmas.{edited-text}
 use Rattle.kak_world.specs.declared.lists.HeldList.{HeldList}
 use Rattle.kak_world.specs.declared.holder.Holder.{Holder}
 use Rattle.kak_world.specs.Flat.{Held, Buffer, fresh, is_held_by, with_list}
@@ -44,11 +42,6 @@ shift-fits text (Erasure p q) i = record { insert_is = refl; change = move_of-ch
 pub steps-shifts : (text : List ℕ) (cs : List Change) → AreSteps text cs → AreShiftsOf text cs (shifts_of text cs)
 steps-shifts text [] s = tt
 steps-shifts text (c ∷ cs) s = (s.0.stored, shift-fits text c s.0.inside, steps-shifts (changed text c) cs s.1)
-
--- the text behind changes that a client made
-pub edited-text : (who : ℕ) (cs : List Change) (s : Story) → (edited who cs s).text ≡ all_changed s.text cs
-edited-text who [] s = refl
-edited-text who (c ∷ cs) s = ap (λ t. all_changed t (c ∷ cs)) (by_test (λ t. (cond t s (committed s)).text ≡ s.text) (is_own who s.group) (λ _. refl) (λ _. committed-text s))
 
 -- lists can go along with changes whose shifts these are
 pub can-go : (text : List ℕ) (cs : List Change) (shifts given : List Shift) (lists : List HeldList) → AreSteps text cs → shifts ≡ shifts_of text cs → given ≡ shifts → IsStored text → AreHeld text lists → CanMove lists given

@@ -18,7 +18,11 @@ use Rattle.kak_world.specs.declared.holder.Holder.{Holder}
 use Rattle.kak_world.specs.declared.holder.Holder.TheVariants.{Of}
 use Rattle.kak_world.specs.declared.own.Own.{Own}
 use Rattle.kak_world.specs.declared.clients.Client.{Client}
-use Rattle.kak_world.specs.Flat.{Held, Buffer, Flat, fresh, newcomer, is_of, is_here, is_held_by, has_list, with_list, listed_for, committed_for, left_behind, buffer_or_scratch, changed_at, lowest, least_free, numbers_of, client_of, shown_of, buffer_of, story_of, text_of, is_joined, with_own, with_list_of, with_sels, with_view, with_units, joined_by, left_by}
+use Rattle.kak_registers.specs.declared.row.Register.{Register}
+use Rattle.kak_registers.specs.declared.names.RegisterError.{RegisterError}
+use Rattle.kak_registers.specs.Refusals.{refusal_of}
+use Rattle.kak_world.specs.Registers.{set_unless, set_row}
+use Rattle.kak_world.specs.Flat.{Held, Buffer, Flat, fresh, newcomer, is_of, is_here, is_held_by, has_list, with_list, listed_for, committed_for, left_behind, buffer_or_scratch, changed_at, lowest, least_free, numbers_of, client_of, shown_of, buffer_of, story_of, text_of, is_joined, with_own, with_list_of, with_sels, with_view, with_units, joined_by, left_by, with_registers}
 use Rattle.kak_world.specs.Changing.{changed_in, splice_changes_of, edited_by, traveled_by, commits}
 use Rattle.kak_world.proofs.WorldLaws.{has-edited, has-traveled}
 use Rattle.kak_world.specs.Rows.{does, fails}
@@ -205,6 +209,19 @@ joined_others_go k who flat other =
       where
         by : (holder : Holder) → is_held_by (Of who) (record (fresh holder) { holder = holder }) ≡ true → is_held_by (Of k) (record (fresh holder) { holder = holder }) ≡ false
         by (Of n) e = apart who k n other e
+
+-- the registers
+pub keeps_registers : (rows : List Register) (flat : Flat) → KeepsClients flat (with_registers rows flat)
+unfolding with_registers shown_of client_of
+keeps_registers rows flat = keeps-by-parts flat (with_registers rows flat) refl (λ k. refl) (λ k n. refl)
+
+pub keeps_set_row : (name : ℕ) (strings : List (List ℕ)) (flat : Flat) → KeepsClients flat (set_row name strings flat).world
+unfolding set_row
+keeps_set_row name strings flat = by (refusal_of name strings)
+  where
+    by : (o : Option RegisterError) → KeepsClients flat (set_unless o name strings flat).world
+    by None = keeps_registers _ flat
+    by (Some refusal) = keeps_same flat
 
 -- the rows of edits and moves
 pub keeps_edit_row : (splices : List Splice) (who : ℕ) (flat : Flat) → KeepsClients flat (edit_row splices who flat).world

@@ -1,12 +1,12 @@
 -- What an edit and a move answer, as their rows say.
-use Rattle.std.proofs.Common.{◌≡◌, ℕ, Bool, true, false, cond, List, [], length, take, refl, sym, ap, subst, ◌∙◌, None, Some, inl, inr}
+use Rattle.std.proofs.Common.{◌≡◌, ℕ, ◌<◌, Bool, true, false, cond, List, [], ◌∷◌, length, take, refl, sym, ap, subst, ◌∙◌, None, Some, inl, inr, arith}
 use Rattle.std.specs.Prelude.{◌⊎◌}
 use Rattle.std.specs.declared.option.Option.{Option}
 use Rattle.text_model.specs.Changes.{Change, all_changed}
 use Rattle.undo_model.specs.declared.travel.Travel.{Travel}
 use Rattle.undo_model.specs.declared.travel.Travel.TheVariants.{Undo, Redo, Node}
 use Rattle.undo_model.specs.Stories.{Story, is_undo_full}
-use Rattle.undo_model.specs.Moves.{target_of, move_changes}
+use Rattle.undo_model.specs.Moves.{target_of}
 use Rattle.undo_model.specs.Edits.{Splice, is_too_long}
 use Rattle.buffer_store.specs.declared.edits.Splice.{Splice as CodeSplice}
 use Rattle.buffer_store.specs.declared.errors.BufferError.{BufferError}
@@ -14,14 +14,13 @@ use Rattle.buffer_store.specs.declared.errors.BufferError.TheVariants as edit
 use Rattle.buffer_store.specs.declared.errors.MoveError.{MoveError}
 use Rattle.buffer_store.specs.declared.errors.MoveError.TheVariants as move
 use Rattle.buffer_store.specs.Buffers.{flat_splices, changes_of, refusal_of}
-use Rattle.kak_world.specs.declared.ask.EditError.{EditError}
 use Rattle.kak_world.specs.declared.ask.EditError.TheVariants.{UndoFull, TextFull}
 use Rattle.kak_world.specs.declared.holder.Holder.TheVariants.{Of}
 use Rattle.kak_world.specs.Flat.{Buffer, Flat, shown_of, buffer_of, story_of, text_of}
 use Rattle.kak_world.specs.Changing.{buffer_changed, buffer_edited, buffer_traveled, changed_in, splice_changes_of, edited_by, traveled_by, IsSomeEdited, IsSomeMoved, IsAfterSome, IsCutOff}
-use Rattle.kak_world.specs.Rows.{Row, RowEnd, Fails, does, fails, error_text, row_of}
+use Rattle.kak_world.specs.Rows.{Row, Fails, does, fails, error_text, row_of}
 use Rattle.kak_world.specs.Refusals.{of_edit, of_move}
-use Rattle.kak_world.specs.Editing.{edit_row, travel_row, move_ends, move_refusal}
+use Rattle.kak_world.specs.Editing.{is_full_for, long_refusal, edit_row, travel_row, move_ends, move_refusal}
 use Rattle.std.specs.Prelude.{IfSome}
 
 false-by : (b : Bool) → (b ≡ true → ⊥) → b ≡ false
@@ -52,6 +51,21 @@ edit-refused edit.TextFull splices who flat new undo full =
     ∙ ap (λ t. cond t (fails TextFull flat) (does (edited_by splices who flat))) (full refl).0.1
     ∙ ap (fails TextFull) (sym (full refl).1)
 edit-refused edit.NoMemory splices who flat new undo full = tt
+
+-- an edit that makes a change and gives a text that is too long
+pub edit-long : (splices : List Splice) (who : ℕ) (flat : Flat) → is_too_long (length (text_of who flat)) (text_of who flat) splices ≡ true → 0 < length (splice_changes_of splices who flat) → edit_row splices who flat ≡ fails (long_refusal who flat) flat
+unfolding edit_row long_refusal
+edit-long splices who flat long some =
+    ap (λ t. cond (is_undo_full who (splice_changes_of splices who flat) (story_of who flat)) (fails UndoFull flat) (cond t (fails TextFull flat) (does (edited_by splices who flat)))) long
+    ∙ by (splice_changes_of splices who flat) some
+  where
+    chosen : (t : Bool) → cond t (fails UndoFull flat) (fails TextFull flat) ≡ fails (cond t UndoFull TextFull) flat
+    chosen true = refl
+    chosen false = refl
+
+    by : (cs : List Change) → 0 < length cs → cond (is_undo_full who cs (story_of who flat)) (fails UndoFull flat) (fails TextFull flat) ≡ fails (cond (is_full_for who (story_of who flat)) UndoFull TextFull) flat
+    by [] h = absurd (omega arith)
+    by (c ∷ cs) h = chosen (is_full_for who (story_of who flat))
 
 -- a move that was made, and one that was refused
 pub travel-done : (travel : Travel) (who : ℕ) (flat new : Flat) → new ≡ traveled_by travel who flat → (target_of travel (story_of who flat) ≡ None → ⊥) → travel_row travel who flat ≡ does new

@@ -8,19 +8,21 @@ use Rattle.tables.proofs.TableLemmas.{by_test}
 use Rattle.tables.proofs.RowLemmas.{Leaves, AreApart, first-changed, first-changed_other, first-kept, any-changed, changed-same, changed-stays, changed-changed, any-map}
 use Rattle.list_model.specs.Ranges.{Selected}
 use Rattle.window_view.specs.View.{View}
-use Rattle.text_model.specs.Changes.{Change}
+use Rattle.text_model.specs.Changes.{Change, all_changed}
 use Rattle.undo_model.specs.declared.travel.Travel.{Travel}
 use Rattle.undo_model.specs.Stories.{Story, edited, is_own, committed, committed_by}
 use Rattle.undo_model.specs.Moves.{moved_by, move_changes}
 use Rattle.undo_model.specs.Edits.{Splice}
 use Rattle.undo_model.specs.Marks.{left_by}
 use Rattle.undo_model.proofs.StoryLemmas.{committed-text}
+use Rattle.buffer_store.proofs.PartLemmas.{edited-text}
+use Rattle.kak_registers.specs.declared.row.Register.{Register}
 use Rattle.kak_world.specs.declared.holder.Holder.{Holder}
 use Rattle.kak_world.specs.declared.holder.Holder.TheVariants.{Of}
 use Rattle.kak_world.specs.declared.own.Own.{Own}
 use Rattle.kak_world.specs.declared.clients.Client.{Client}
-use Rattle.kak_world.specs.Flat.{Held, Buffer, Flat, same_holder, is_of, is_here, is_held_by, has_list, list_on, with_list, committed_for, scratch, fresh, newcomer, is_there, buffer_at, changed_at, client_of, shown_of, buffer_of, list_of, is_joined, own_of, number_of, name_of, text_of, sels_of, view_of, units_of, with_own, with_list_of, with_sels, with_view, with_units}
-use Rattle.kak_world.specs.Changing.{list_moved, buffer_changed, buffer_edited, buffer_moved, buffer_traveled, changed_in, splice_changes_of, edited_by, traveled_by, commits}
+use Rattle.kak_world.specs.Flat.{Held, Buffer, Flat, same_holder, is_of, is_here, is_held_by, has_list, list_on, with_list, committed_for, scratch, fresh, newcomer, is_there, buffer_at, changed_at, client_of, shown_of, buffer_of, list_of, is_joined, own_of, number_of, name_of, text_of, sels_of, view_of, units_of, registers_of, with_registers, with_own, with_list_of, with_sels, with_view, with_units}
+use Rattle.kak_world.specs.Changing.{list_moved, buffer_changed, buffer_edited, buffer_traveled, changed_in, splice_changes_of, edited_by, traveled_by, commits}
 use Rattle.kak_world.proofs.SlotLemmas.{buffer-changed, buffer-kept, there-kept, there-mapped}
 
 and-first : (a b : Bool) → (a && b) ≡ true → a ≡ true
@@ -207,6 +209,31 @@ pub view_view : (who : ℕ) (v : View) (flat : Flat) → is_joined who flat ≡ 
 unfolding view_of with_view
 view_view who v flat j = ap (λ (h : Held). h.view) (list_list who (λ held. record held { view = v }) flat (λ h. refl) j)
 
+-- other contents of the registers
+pub joined_registers : (k : ℕ) (rows : List Register) (flat : Flat) → is_joined k (with_registers rows flat) ≡ is_joined k flat
+unfolding is_joined buffer_of shown_of client_of with_registers
+joined_registers k rows flat = refl
+
+pub own_registers : (k : ℕ) (rows : List Register) (flat : Flat) → own_of k (with_registers rows flat) ≡ own_of k flat
+unfolding own_of client_of with_registers
+own_registers k rows flat = refl
+
+pub text_registers : (k : ℕ) (rows : List Register) (flat : Flat) → text_of k (with_registers rows flat) ≡ text_of k flat
+unfolding text_of buffer_of shown_of client_of with_registers
+text_registers k rows flat = refl
+
+pub sels_registers : (k : ℕ) (rows : List Register) (flat : Flat) → sels_of k (with_registers rows flat) ≡ sels_of k flat
+unfolding sels_of list_of buffer_of shown_of client_of with_registers
+sels_registers k rows flat = refl
+
+pub units_registers : (rows : List Register) (flat : Flat) → units_of (with_registers rows flat) ≡ units_of flat
+unfolding units_of with_registers
+units_registers rows flat = refl
+
+pub registers_own : (who : ℕ) (f : Own → Own) (flat : Flat) → registers_of (with_own who f flat) ≡ registers_of flat
+unfolding registers_of with_own
+registers_own who f flat = refl
+
 -- other units
 pub joined_units : (k u : ℕ) (flat : Flat) → is_joined k (with_units u flat) ≡ is_joined k flat
 unfolding is_joined buffer_of shown_of client_of with_units
@@ -260,6 +287,13 @@ joined_edited k splices who flat = joined-changed k _ _ flat (λ b. has-edited (
 pub own_edited : (k : ℕ) (splices : List Splice) (who : ℕ) (flat : Flat) → own_of k (edited_by splices who flat) ≡ own_of k flat
 unfolding edited_by
 own_edited k splices who flat = own_changed k _ _ flat
+
+-- the text that an edit leaves
+pub text_edited : (splices : List Splice) (who : ℕ) (flat : Flat) → is_joined who flat ≡ true → text_of who (edited_by splices who flat) ≡ all_changed (text_of who flat) (splice_changes_of splices who flat)
+unfolding edited_by text_of buffer_of shown_of client_of changed_in
+text_edited splices who flat j =
+    ap (λ (b : Buffer). b.story.text) (buffer-changed _ (buffer_edited who (splice_changes_of splices who flat)) flat.buffers (joined_there who flat j))
+    ∙ edited-text who (splice_changes_of splices who flat) (buffer_of who flat).story
 
 pub units_edited : (splices : List Splice) (who : ℕ) (flat : Flat) → units_of (edited_by splices who flat) ≡ units_of flat
 unfolding edited_by
@@ -317,4 +351,4 @@ pub view_commits : (k who : ℕ) (flat : Flat) → view_of k (commits who flat) 
 unfolding view_of list_of
 view_commits k who flat = ap (λ b. (list_on (Of k) b).view) (buffer_commits k who flat)
 
-pub ruleset world_laws = (own_known, own_same, own_own, joined_own, joined_sels, joined_view, joined_units, joined_edited, joined_traveled, joined_commits, own_sels, own_view, own_units, own_changed, own_edited, own_traveled, own_commits, text_own, text_sels, text_view, text_units, text_commits, sels_own, sels_sels, sels_view, sels_units, sels_commits, name_own, name_sels, number_own, number_sels, view_own, view_sels, view_commits, units_own, units_sels, units_units, units_changed, units_edited, units_traveled, units_commits)
+pub ruleset world_laws = (own_known, own_same, own_own, joined_own, joined_sels, joined_view, joined_units, joined_registers, joined_edited, joined_traveled, joined_commits, own_sels, own_view, own_units, own_registers, own_changed, own_edited, own_traveled, own_commits, text_own, text_sels, text_view, text_units, text_registers, text_edited, text_commits, sels_own, sels_sels, sels_view, sels_units, sels_registers, sels_commits, name_own, name_sels, number_own, number_sels, view_own, view_sels, view_commits, units_own, units_sels, units_units, units_registers, registers_own, units_changed, units_edited, units_traveled, units_commits)

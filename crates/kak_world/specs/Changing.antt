@@ -1,6 +1,5 @@
 -- How a buffer changes: each single change of its text moves every selection list on it.
 use Rattle.std.specs.Prelude.{◌≡◌, ℕ, List, length, map, option_map, take}
-use Rattle.list_model.specs.Ranges.{Selected, cursor}
 use Rattle.text_model.specs.Changes.{Change, all_changed}
 use Rattle.selection_map.specs.Catching.{eager_by}
 use Rattle.undo_model.specs.declared.travel.Travel.{Travel}
@@ -10,7 +9,7 @@ use Rattle.undo_model.specs.Edits.{Splice, edit_changes}
 use Rattle.undo_model.specs.Marks.{left_by}
 use Rattle.kak_world.specs.declared.holder.Holder.{Holder}
 use Rattle.kak_world.specs.declared.holder.Holder.TheVariants.{Of}
-use Rattle.kak_world.specs.Flat.{Held, Buffer, Flat, changed_at, with_list, committed_for, shown_of, story_of, text_of}
+use Rattle.kak_world.specs.Flat.{Held, Buffer, Flat, changed_at, with_list, committed_for, shown_of, text_of}
 
 -- a list of a text after single changes of it: it is carried through each, and settled there
 abbrev pub list_moved : List ℕ → List Change → Held → Held

@@ -1,14 +1,15 @@
 -- Edits and moves in history as rows: what they do, and why they are refused.
-use Rattle.std.specs.Prelude.{ℕ, ◌==◌, ◌+◌, ◌-◌, if◌then◌else◌, List, length, None, Some}
+use Rattle.std.specs.Prelude.{ℕ, Bool, not, ◌&&◌, nat_le, if◌then◌else◌, List, length, None, Some}
 use Rattle.std.specs.declared.option.Option.{Option}
 use Rattle.undo_model.specs.declared.travel.Travel.{Travel}
 use Rattle.undo_model.specs.declared.travel.Travel.TheVariants.{Undo, Redo, Node}
-use Rattle.undo_model.specs.Stories.{is_undo_full}
+use Rattle.undo_model.specs.declared.TheConstants.{MAX_NODES}
+use Rattle.undo_model.specs.Stories.{Story, is_own, nodes_due, is_undo_full}
 use Rattle.undo_model.specs.Moves.{target_of}
 use Rattle.undo_model.specs.Edits.{Splice, is_too_long}
 use Rattle.kak_world.specs.declared.ask.EditError.{EditError}
 use Rattle.kak_world.specs.declared.ask.EditError.TheVariants.{UndoFull, TextFull, NothingToUndo, NothingToRedo, NoSuchNode}
-use Rattle.kak_world.specs.Flat.{Flat, text_of, story_of, node_of}
+use Rattle.kak_world.specs.Flat.{Flat, text_of, story_of}
 use Rattle.kak_world.specs.Changing.{splice_changes_of, edited_by, traveled_by}
 use Rattle.kak_world.specs.Rows.{RowEnd, does, fails}
 
@@ -19,6 +20,14 @@ edit_row splices who flat =
     if is_undo_full who (splice_changes_of splices who flat) (story_of who flat) then fails UndoFull flat
     else (if is_too_long (length (text_of who flat)) (text_of who flat) splices then fails TextFull flat
     else does (edited_by splices who flat))
+
+-- whether the tree of a story has no place for a group that a client would begin
+abbrev pub is_full_for : ℕ → Story → Bool
+is_full_for who s = not (is_own who s.group) && nat_le MAX_NODES (nodes_due s)
+
+-- why an edit of a client is refused that makes a change and gives a text that is too long
+unfoldable pub long_refusal : ℕ → Flat → EditError
+long_refusal who flat = if is_full_for who (story_of who flat) then UndoFull else TextFull
 
 -- why a move leads nowhere
 abbrev pub move_refusal : Travel → EditError

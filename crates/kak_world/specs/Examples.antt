@@ -37,7 +37,7 @@ abbrev pub on_text : List ℕ → Selected → Selected → Flat
 on_text text first second = record {
   buffers = Some (record { name = codes "n"; is_file = true; story = opened text; lists = list_for 7 first ∷ list_for 9 second ∷ [] }) ∷ [];
   clients = newcomer 7 0 0 ∷ newcomer 9 1 0 ∷ [];
-  rest = record { units = 0 };
+  rest = record { units = 0; registers = [] };
 }
 
 abbrev pub at : ℕ → Selected

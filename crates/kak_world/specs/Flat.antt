@@ -8,6 +8,7 @@ use Rattle.key_names.specs.declared.key.Key.{Key}
 use Rattle.list_model.specs.Ranges.{Selected, only}
 use Rattle.window_view.specs.View.{View}
 use Rattle.undo_model.specs.Stories.{Story, opened, committed, committed_by}
+use Rattle.kak_registers.specs.declared.row.Register.{Register}
 use Rattle.kak_world.specs.declared.holder.Holder.{Holder}
 use Rattle.kak_world.specs.declared.holder.Holder.TheVariants.{Of}
 use Rattle.kak_world.specs.declared.own.Mode.{Mode}
@@ -62,7 +63,7 @@ scratch = made (codes "*scratch*") false (10 ∷ [])
 
 -- what a client that has just come has of its own
 abbrev pub first_own : Own
-first_own = record { mode = Normal; count = 0; pending = None; status = Quiet; prompt = []; leaving = false; drawn = false }
+first_own = record { mode = Normal; count = 0; register = None; pending = None; status = Quiet; appending = false; prompt = []; leaving = false; drawn = false }
 
 -- a client that has just come: its number in the history, the number in its name, and that of the buffer that it sees
 abbrev pub newcomer : ℕ → ℕ → ℕ → Client
@@ -70,7 +71,7 @@ newcomer who number shown = record { who = who; number = number; shown = shown; 
 
 -- the world before anything happened: the one buffer, and no client
 abbrev pub opening : Flat
-opening = record { buffers = Some scratch ∷ []; clients = []; rest = record { units = 0 } }
+opening = record { buffers = Some scratch ∷ []; clients = []; rest = record { units = 0; registers = [] } }
 
 -- whether a client has that number in the history
 abbrev pub is_of : ℕ → Client → Bool
@@ -212,17 +213,27 @@ tabstop_of who flat = 8
 unfoldable pub units_of : Flat → ℕ
 units_of flat = flat.rest.units
 
+-- what the registers hold
+unfoldable pub registers_of : Flat → List Register
+registers_of flat = flat.rest.registers
+
 abbrev pub mode_of : ℕ → Flat → Mode
 mode_of who flat = (own_of who flat).mode
 
 abbrev pub count_of : ℕ → Flat → ℕ
 count_of who flat = (own_of who flat).count
 
+abbrev pub register_of : ℕ → Flat → Option ℕ
+register_of who flat = (own_of who flat).register
+
 abbrev pub pending_of : ℕ → Flat → Option Key
 pending_of who flat = (own_of who flat).pending
 
 abbrev pub status_of : ℕ → Flat → Status
 status_of who flat = (own_of who flat).status
+
+abbrev pub is_appending : ℕ → Flat → Bool
+is_appending who flat = (own_of who flat).appending
 
 abbrev pub prompt_of : ℕ → Flat → List ℕ
 prompt_of who flat = (own_of who flat).prompt
@@ -251,6 +262,10 @@ with_view who view flat = with_list_of who (λ held. record held { view = view }
 
 unfoldable pub with_units : ℕ → Flat → Flat
 with_units units flat = record flat { rest = record flat.rest { units = units } }
+
+-- the world with other contents of the registers
+unfoldable pub with_registers : List Register → Flat → Flat
+with_registers rows flat = record flat { rest = record flat.rest { registers = rows } }
 
 -- the world with one more client, named by the least number that no other has; it sees the buffer with the least number
 unfoldable pub joined_by : ℕ → Flat → Flat

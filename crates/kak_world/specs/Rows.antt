@@ -1,5 +1,5 @@
 -- What a row, which is one key or one command, gives: the new world, and what comes next.
-use Rattle.std.specs.Prelude.{◌≡◌, ℕ, List, [], ◌++◌, codes, IfSome}
+use Rattle.std.specs.Prelude.{◌≡◌, ℕ, List, [], ◌∷◌, ◌++◌, codes, IfSome}
 use Rattle.std.specs.declared.option.Option.{Option}
 use Rattle.std.specs.Prelude.{Some, None}
 use Rattle.std.specs.declared.result.Result.{Result}
@@ -7,7 +7,7 @@ use Rattle.std.specs.Prelude.{Ok, Err}
 use Rattle.kak_world.specs.declared.ask.Ask.{Ask}
 use Rattle.kak_world.specs.declared.ask.Ask.TheVariants.{Nothing}
 use Rattle.kak_world.specs.declared.ask.EditError.{EditError}
-use Rattle.kak_world.specs.declared.ask.EditError.TheVariants.{TextFull, UndoFull, NothingToUndo, NothingToRedo, NoSuchNode, NoSuchCommand, NothingSelected, TooManySelections, BudgetSpent, NoMemory}
+use Rattle.kak_world.specs.declared.ask.EditError.TheVariants.{TextFull, UndoFull, NothingToUndo, NothingToRedo, NoSuchNode, NoSuchRegister, ReadOnlyRegister, RegisterFull, SharedLine, NoSuchCommand, NothingSelected, TooManySelections, BudgetSpent, NoMemory}
 use Rattle.kak_world.specs.Flat.{Flat}
 
 -- What comes after a row: it asks for something, it fails with a status text, or the whole step is given up.
@@ -32,6 +32,10 @@ error_text UndoFull = codes "undo tree full"
 error_text NothingToUndo = codes "nothing to undo"
 error_text NothingToRedo = codes "nothing to redo"
 error_text NoSuchNode = codes "no such undo node"
+error_text (NoSuchRegister name) = codes "no such register: " ++ name ∷ []
+error_text (ReadOnlyRegister name) = codes "register is read only: " ++ name ∷ []
+error_text RegisterFull = codes "register is full"
+error_text SharedLine = codes "align needs one selection per line"
 error_text (NoSuchCommand name) = codes "no such command: " ++ name
 error_text NothingSelected = codes "nothing selected"
 error_text TooManySelections = codes "too many selections"

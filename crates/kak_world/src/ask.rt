@@ -1,10 +1,11 @@
 //! What one key or one command gives: an ask for what comes next, or a refusal.
 
-ghost use Rattle.std.specs.Prelude.{◌≡◌, IfOk, IsErr};
+ghost use Rattle.std.specs.Prelude.{◌≡◌, ◌++◌, ◌∷◌, [], chars, IfOk, IsErr};
 ghost use Rattle.kak_world.specs.declared.ask.EditError.TheVariants.{NoMemory};
-ghost use Rattle.kak_world.specs.Refusals.{of_edit, of_move};
+ghost use Rattle.kak_world.specs.Refusals.{of_edit, of_move, of_register};
 
 use buffer_store::{BufferError, MoveError};
+use kak_registers::RegisterError;
 use kak_text::Chars;
 use std::alloc::{AllocError, Global};
 
@@ -32,6 +33,14 @@ pub enum EditError {
     NothingToRedo,
     /// The undo tree has no such node.
     NoSuchNode,
+    /// There is no register of that name.
+    NoSuchRegister(char),
+    /// The register is only read.
+    ReadOnlyRegister(char),
+    /// The register would hold more characters than one may.
+    RegisterFull,
+    /// Two selections begin on one line, where one on each is asked for.
+    SharedLine,
     /// There is no such command.
     NoSuchCommand(Chars),
     /// No selection would be left.
@@ -77,6 +86,28 @@ impl From<MoveError> for EditError {
     }
 }
 
+impl From<RegisterError> for EditError {
+    ghost from_gives = { λ r e. e ≡ of_register r };
+
+    fn from(error: RegisterError) -> EditError {
+        match error {
+            RegisterError::NoRegister(name) => EditError::NoSuchRegister(name),
+            RegisterError::ReadOnly(name) => EditError::ReadOnlyRegister(name),
+            RegisterError::RegisterFull => EditError::RegisterFull,
+            RegisterError::NoMemory => EditError::NoMemory,
+        }
+    }
+}
+
+// A status text that ends in the name of a register.
+fn with_name(alloc: Global, text: &str, name: char) -> Result<Chars, AllocError>
+    ensures { IfOk result (λ whole. whole ≡ chars text.now ++ name ∷ []) }
+{
+    let mut whole = Chars::from_str(alloc, text)?;
+    whole.push(name)?;
+    Ok(whole)
+}
+
 impl EditError {
     ghost use Rattle.kak_world.specs.Rows.{error_text};
 
@@ -94,6 +125,12 @@ impl EditError {
             EditError::NothingSelected => Chars::from_str(alloc, "nothing selected"),
             EditError::TooManySelections => Chars::from_str(alloc, "too many selections"),
             EditError::BudgetSpent => Chars::from_str(alloc, "given up: budget spent"),
+            EditError::RegisterFull => Chars::from_str(alloc, "register is full"),
+            EditError::SharedLine => Chars::from_str(alloc, "align needs one selection per line"),
+            EditError::NoSuchRegister(name) => with_name(alloc, "no such register: ", *name),
+            EditError::ReadOnlyRegister(name) => {
+                with_name(alloc, "register is read only: ", *name)
+            }
             EditError::NoSuchCommand(name) => {
                 let mut text = Chars::from_str(alloc, "no such command: ")?;
                 text.extend_from_slice(name.as_slice())?;

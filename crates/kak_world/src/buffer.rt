@@ -5,6 +5,7 @@ ghost use Rattle.list_model.specs.Ranges.{Selected};
 ghost use Rattle.selection_set.specs.Held.{selected, IsHeld};
 ghost use Rattle.window_view.specs.View.{followed};
 ghost use Rattle.window_view.specs.Views.{view_of as window_seen};
+ghost use Rattle.undo_model.specs.Steps.{AreSteps};
 ghost use Rattle.undo_model.specs.declared.TheConstants.{MAX_NODES};
 ghost use Rattle.undo_model.specs.Stories.{committed, is_undo_full};
 ghost use Rattle.undo_model.specs.Moves.{target_of, move_changes};
@@ -12,6 +13,7 @@ ghost use Rattle.undo_model.specs.Edits.{is_too_long};
 ghost use Rattle.buffer_store.specs.declared.errors.BufferError.TheVariants.{UndoFull, TextFull};
 ghost use Rattle.buffer_store.specs.Stored.{shifts_of};
 ghost use Rattle.buffer_store.specs.Buffers.{AreSplicesOf, flat_splices, changes_of, refusal_of};
+ghost use Rattle.kak_world.specs.Editing.{is_full_for};
 ghost use Rattle.kak_world.specs.Flat.{made, has_list, list_on, with_list, listed_for, unlisted_for, committed_for};
 ghost use Rattle.kak_world.specs.Settled.{ListsAreSettled};
 ghost use Rattle.kak_world.specs.Dropping.{listed_for_viewers};
@@ -200,6 +202,13 @@ impl Buffer {
         self.store.commit(who);
     }
 
+    /// Whether the undo tree has no place for a group that a client would begin.
+    pub fn is_full_for(&self, who: u32) -> bool
+        ensures { result ≡ is_full_for who self.now.story }
+    {
+        self.store.is_full_for(who)
+    }
+
     /// The number of the node that the text is at, or will be at when what is pending is committed.
     pub fn node(&self) -> u32
         ensures value { result ≡ (committed self.now.story).current }
@@ -224,6 +233,7 @@ impl Buffer {
         requires { AreSplicesOf self.old.story.text splices.now }
         ensures ok { OnOk result (self.new ≡ buffer_edited who (changes_of self.old.story.text splices.now) self.old) }
         ensures shifts { IfOk result (λ shifts. shifts.items ≡ shifts_of self.old.story.text (changes_of self.old.story.text splices.now)) }
+        ensures steps { OnOk result (AreSteps self.old.story.text (changes_of self.old.story.text splices.now)) }
         ensures undo_full { IsErrOf result UndoFull ↔ (is_undo_full who (changes_of self.old.story.text splices.now) self.old.story ≡ true) }
         ensures text_full { IsErrOf result TextFull ↔ ((is_undo_full who (changes_of self.old.story.text splices.now) self.old.story ≡ false)
             × (is_too_long (length self.old.story.text) self.old.story.text (flat_splices self.old.story.text splices.now) ≡ true)) }

@@ -163,8 +163,10 @@ impl Clients {
             own: Own {
                 mode: Mode::Normal,
                 count: 0,
+                register: None,
                 pending: None,
                 status: Status::Quiet,
+                appending: false,
                 prompt: Chars::new(alloc),
                 leaving: false,
                 drawn: false,

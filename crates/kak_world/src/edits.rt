@@ -1,14 +1,15 @@
 //! Edits of the text that a client sees, and moves in its history.
 
-ghost use Rattle.std.specs.Prelude.{◌≡◌, ◌≤◌, true, map, option_map, IfOk, IsErrOf};
+ghost use Rattle.std.specs.Prelude.{◌≡◌, ◌≤◌, true, map, option_map, IfOk, OnOk, IsErrOf};
 ghost use Rattle.buffer_store.specs.Stored.{shifts_of};
 ghost use Rattle.buffer_store.specs.Buffers.{AreSplicesOf, flat_splices, changes_of};
 ghost use Rattle.undo_model.specs.declared.TheConstants.{MAX_NODES};
+ghost use Rattle.undo_model.specs.Steps.{AreSteps};
 ghost use Rattle.undo_model.specs.Moves.{move_changes};
 ghost use Rattle.kak_world.specs.declared.ask.EditError.TheVariants.{NoMemory};
 ghost use Rattle.kak_world.specs.Flat.{is_joined, text_of, story_of, node_of, committed_for};
-ghost use Rattle.kak_world.specs.Changing.{commits, IsAfterSome, IsCutOff};
-ghost use Rattle.kak_world.specs.Editing.{edit_row, travel_row};
+ghost use Rattle.kak_world.specs.Changing.{edited_by, commits, IsAfterSome, IsCutOff};
+ghost use Rattle.kak_world.specs.Editing.{edit_row, long_refusal, travel_row};
 ghost use Rattle.kak_world.specs.Rows.{Answers};
 
 use crate::ask::EditError;
@@ -52,7 +53,9 @@ impl World {
         requires joined { is_joined who self.old.flat ≡ true }
         requires splices { AreSplicesOf (text_of who self.old.flat) splices.now }
         ensures row { Answers result self.new.flat (edit_row (flat_splices (text_of who self.old.flat) splices.now) who self.old.flat) }
+        ensures edits { OnOk result (self.new.flat ≡ edited_by (flat_splices (text_of who self.old.flat) splices.now) who self.old.flat) }
         ensures shifts { IfOk result (λ shifts. shifts.items ≡ shifts_of (text_of who self.old.flat) (changes_of (text_of who self.old.flat) splices.now)) }
+        ensures steps { OnOk result (AreSteps (text_of who self.old.flat) (changes_of (text_of who self.old.flat) splices.now)) }
         ensures wanting { IsErrOf result NoMemory → IsAfterSome who (changes_of (text_of who self.old.flat) splices.now) self.old.flat self.new.flat }
     {
         let n = self.clients.client(who).shown as usize;
@@ -62,6 +65,19 @@ impl World {
                 Ok(shifts) => Ok(shifts),
                 Err(error) => Err(EditError::from(error)),
             },
+        }
+    }
+
+    /// Why an edit of a client is refused that makes a change and gives a text that is too long.
+    #[tactic(auto, unfolding(crate::specs::Editing::long_refusal, crate::specs::Flat::story_of))]
+    pub fn long_refusal(&self, who: u32) -> EditError
+        requires { is_joined who self.now.flat ≡ true }
+        ensures { result ≡ long_refusal who self.now.flat }
+    {
+        if self.shown(who).is_full_for(who) {
+            EditError::UndoFull
+        } else {
+            EditError::TextFull
         }
     }
 

@@ -13,6 +13,7 @@ pub mod laws;
 mod lists;
 pub mod own;
 pub mod reads;
+pub mod registers;
 pub mod showing;
 pub mod slots;
 pub mod world;

@@ -28,9 +28,13 @@ pub struct Own {
     pub mode: Mode,
     /// How often the next key is to be run, as digits have said so far; 0 where none did.
     pub count: u32,
+    /// The register that was chosen for the next key, if one was.
+    pub register: Option<char>,
     /// The key that waits for another one, where one does, as the first of `fx`.
     pub pending: Option<Key>,
     pub status: Status,
+    /// Whether insert mode was entered behind the selections, so that leaving it takes their cursors back.
+    pub appending: bool,
     /// What was typed into the prompt.
     pub prompt: Chars,
     /// Whether the client was granted to leave.

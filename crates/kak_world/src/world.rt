@@ -7,6 +7,7 @@ ghost use Rattle.kak_world.specs.Flat.{scratch, opening, units_of, with_units};
 
 use crate::buffer::Buffer;
 use crate::clients::Clients;
+use kak_registers::Registers;
 use kak_text::{Chars, Text};
 use line_buffer::Lines;
 use std::alloc::{AllocError, Global};
@@ -20,6 +21,8 @@ pub const MAX_CLIENTS: usize = 64;
 pub struct Rest {
     /// How many keys and commands the step may still run.
     pub units: u32,
+    /// What all clients' registers hold.
+    pub registers: Registers,
 }
 
 /// The state that all clients share, and what is each client's own.
@@ -81,7 +84,10 @@ impl World {
         Ok(World {
             buffers,
             clients: Clients::new(alloc),
-            rest: Rest { units: 0 },
+            rest: Rest {
+                units: 0,
+                registers: Registers::new(alloc),
+            },
         })
     }
 

@@ -38,3 +38,19 @@ returns-in-NothingToRedo-clause-text c = rw c.in-NothingToRedo.is c.from_str-in-
 pub returns-in-NoSuchNode-clause-text : goal.returns-in-NoSuchNode-clause-text
 unfolding chars
 returns-in-NoSuchNode-clause-text c = rw c.in-NoSuchNode.is c.from_str-in-NoSuchNode.ensures
+
+pub returns-in-RegisterFull-clause-text : goal.returns-in-RegisterFull-clause-text
+unfolding chars
+returns-in-RegisterFull-clause-text c = rw c.in-RegisterFull.is c.from_str-in-RegisterFull.ensures
+
+pub returns-in-SharedLine-clause-text : goal.returns-in-SharedLine-clause-text
+unfolding chars
+returns-in-SharedLine-clause-text c = rw c.in-SharedLine.is c.from_str-in-SharedLine.ensures
+
+pub returns-in-NoSuchRegister-clause-text : goal.returns-in-NoSuchRegister-clause-text
+unfolding chars
+returns-in-NoSuchRegister-clause-text c = rw c.in-NoSuchRegister.is c.with_name.ensures
+
+pub returns-in-ReadOnlyRegister-clause-text : goal.returns-in-ReadOnlyRegister-clause-text
+unfolding chars
+returns-in-ReadOnlyRegister-clause-text c = rw c.in-ReadOnlyRegister.is c.with_name-in-ReadOnlyRegister.ensures

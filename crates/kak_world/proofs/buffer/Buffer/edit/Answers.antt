@@ -1,11 +1,10 @@
-use Rattle.std.proofs.Common.{◌≡◌, [], ap, sym, subst, ◌∙◌}
-use Rattle.std.specs.Prelude.{take}
-use Rattle.text_model.specs.declared.coords.Shift.{Shift}
+use Rattle.std.proofs.Common.{ap, subst, ◌∙◌}
 use Rattle.buffer_store.specs.Stored.{shifts_of}
 use Rattle.buffer_store.specs.Buffers.{changes_of}
+use Rattle.undo_model.specs.Steps.{AreSteps}
 use Rattle.kak_world.specs.Flat.{Buffer}
 use Rattle.kak_world.specs.Changing.{buffer_edited}
-use Rattle.kak_world.proofs.AnswerLemmas.{on-ok, carried-ok, carried-if, carried-err, carried-to, carried-from}
+use Rattle.kak_world.proofs.AnswerLemmas.{on-ok, carried-ok, carried-if, carried-err, carried-from}
 use Rattle.kak_world.proofs.EditingLemmas.{some-of, can-go, have-gone, edited-held, edited-some, edited-all, left-alone}
 use Rattle.kak_world.proofs.buffer.Buffer.edit.Goals as goal
 
@@ -31,6 +30,13 @@ returns-clause-shifts c =
     let text = ap (λ (b : Buffer). b.story.text) c.self.view_is in
     carried-if _ c.edit-done.result _ _ c.carrying.ensures (on-ok c.edit-done.result e.all (λ all.
     e.shifts_are ∙ ap (shifts_of _) all ∙ ap (λ t. shifts_of t (changes_of t c.args.splices.now)) text))
+
+pub returns-clause-steps : goal.returns-clause-steps
+returns-clause-steps c =
+    let e = c.edit-done.ensures.edits in
+    let text = ap (λ (b : Buffer). b.story.text) c.self.view_is in
+    carried-ok _ c.edit-done.result _ _ c.carrying.ensures (on-ok c.edit-done.result e.all (λ all.
+    subst (λ t. AreSteps t (changes_of t c.args.splices.now)) text (subst (AreSteps _) all e.steps)))
 
 pub returns-clause-undo_left : goal.returns-clause-undo_left
 returns-clause-undo_left c = λ h.

@@ -1,12 +1,13 @@
-use Rattle.std.proofs.Common.{◌≡◌, ◌<◌, true, false, length, Err, ap, ap₂, sym, subst, ◌∙◌, arith}
-use Rattle.kak_world.proofs.WorldLemmas.{here-of, shown-inside, shown-not_none, slot-at, list-of, has-set, text-of, story-of, buffer-of, changed-of, same-of}
+use Rattle.std.proofs.Common.{◌≡◌, ◌<◌, true, false, length, Err, ap, sym, subst, ◌∙◌, arith}
+use Rattle.kak_world.proofs.WorldLemmas.{here-of, shown-inside, shown-not_none, slot-at, has-set, text-of, buffer-of, changed-of, same-of}
 use Rattle.buffer_store.specs.Buffers.{AreSplicesOf, flat_splices, changes_of}
 use Rattle.kak_world.proofs.RowAnswers.{edit-done, edit-refused, edited-of, some-edited}
 use Rattle.undo_model.specs.Stories.{is_undo_full}
 use Rattle.undo_model.specs.Edits.{is_too_long}
+use Rattle.undo_model.specs.Steps.{AreSteps}
 use Rattle.buffer_store.specs.Stored.{shifts_of}
-use Rattle.kak_world.specs.Flat.{Buffer, buffer_of, text_of, story_of}
-use Rattle.kak_world.proofs.AnswerLemmas.{ok-err, error-of}
+use Rattle.kak_world.specs.Flat.{Buffer, text_of, story_of}
+use Rattle.kak_world.proofs.AnswerLemmas.{ok-err}
 use Rattle.kak_world.proofs.world.World.edit.Goals.{in-Ok, in-Err}
 use Rattle.kak_world.proofs.world.World.edit.Goals as goal
 
@@ -59,4 +60,21 @@ returns-clause-wanting c =
     elim c.match-edit.branch [
       | in-Ok w ↦ rw w.result-is (λ h. absurd (ok-err _ _ h))
       | in-Err w ↦ rw w.result-is (λ h. some-edited c.args.who _ _ c.args.self.now.flat _ _ _ (ap (λ (x : Buffer). changes_of x.story.text c.args.splices.now) b) w.in-Err.ensures.err (λ f t. changed-of c.args.who _ _ _ _ _ _ _ _ f c.self.view_is c.client.ensures c.requires.joined c.index_mut.ensures.value c.in-Some.is t))
+    ]
+
+pub returns-clause-steps : goal.returns-clause-steps
+unfolding text_of
+returns-clause-steps c =
+    let b = (buffer-of c.args.who _ _ _ _ _ _ _ c.self.view_is c.client.ensures c.requires.joined c.index_mut.ensures.value c.in-Some.is) in
+    elim c.match-edit.branch [
+      | in-Ok w ↦ rw w.result-is (subst (λ (x : Buffer). AreSteps x.story.text (changes_of x.story.text c.args.splices.now)) b w.in-Ok.ensures.steps)
+      | in-Err w ↦ rw w.result-is tt
+    ]
+
+pub returns-clause-edits : goal.returns-clause-edits
+returns-clause-edits c =
+    let b = (buffer-of c.args.who _ _ _ _ _ _ _ c.self.view_is c.client.ensures c.requires.joined c.index_mut.ensures.value c.in-Some.is) in
+    elim c.match-edit.branch [
+      | in-Ok w ↦ rw w.result-is (edited-of c.args.splices.now c.args.who c.args.self.now.flat _ _ _ b w.in-Ok.ensures.ok (λ f t. changed-of c.args.who _ _ _ _ _ _ _ _ f c.self.view_is c.client.ensures c.requires.joined c.index_mut.ensures.value c.in-Some.is t))
+      | in-Err w ↦ rw w.result-is tt
     ]

@@ -1,11 +1,8 @@
-use Rattle.std.proofs.Common.{◌≡◌, ◌<◌, ◌⊎◌, inl, inr, None, length, Err, ap, ap₂, sym, subst, ◌∙◌, arith}
-use Rattle.kak_world.proofs.WorldLemmas.{here-of, shown-inside, shown-not_none, slot-at, list-of, has-set, story-of, buffer-of, changed-of}
-use Rattle.undo_model.specs.Stories.{Story}
+use Rattle.std.proofs.Common.{◌≡◌, ◌<◌, None, length, ap, subst, ◌∙◌, arith}
+use Rattle.kak_world.proofs.WorldLemmas.{here-of, shown-inside, shown-not_none, slot-at, list-of, has-set, buffer-of, changed-of}
 use Rattle.undo_model.specs.Moves.{target_of, move_changes}
 use Rattle.kak_world.proofs.RowAnswers.{either-none, travel-done, travel-refused, traveled-of, some-cut}
-use Rattle.kak_world.specs.Flat.{Buffer, buffer_of, text_of, story_of}
-use Rattle.kak_world.specs.declared.holder.Holder.TheVariants.{Of}
-use Rattle.kak_world.specs.Changing.{buffer_traveled}
+use Rattle.kak_world.specs.Flat.{Buffer, text_of, story_of}
 use Rattle.kak_world.proofs.AnswerLemmas.{ok-err, error-of}
 use Rattle.kak_world.proofs.world.World.travel.Goals.{in-Ok, in-Err}
 use Rattle.kak_world.proofs.world.World.travel.Goals as goal

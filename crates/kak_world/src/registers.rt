@@ -1,0 +1,42 @@
+//! What the registers hold.
+
+ghost use Rattle.std.specs.Prelude.{◌≡◌, OnOk, IsErrOf};
+ghost use Rattle.kak_world.specs.declared.ask.EditError.TheVariants.{NoMemory};
+ghost use Rattle.kak_world.specs.Flat.{registers_of};
+ghost use Rattle.kak_world.specs.Registers.{with_register, set_row};
+ghost use Rattle.kak_world.specs.Rows.{Answers};
+
+use crate::ask::EditError;
+use crate::world::World;
+use kak_ports::Words;
+use kak_registers::Registers;
+use std::alloc::Global;
+
+impl World {
+    /// What the registers hold.
+    #[tactic(auto, unfolding(crate::specs::Flat::registers_of))]
+    pub fn registers(&self) -> &Registers
+        ensures { result.now ≡ registers_of self.now.flat }
+    {
+        &self.rest.registers
+    }
+
+    /// Has a register hold a copy of these strings. `NoSuchRegister`, `ReadOnlyRegister` and `RegisterFull` come where the
+    /// register can't hold them, the first of these that holds; an error leaves the world.
+    #[tactic(auto, unfolding(crate::specs::Flat::registers_of, crate::specs::Flat::with_registers, crate::specs::Registers::set_row))]
+    pub fn set_register(
+        &mut self,
+        alloc: Global,
+        name: char,
+        strings: &Words,
+    ) -> Result<(), EditError>
+        ensures row { Answers result self.new.flat (set_row name strings.now self.old.flat) }
+        ensures sets { OnOk result (self.new.flat ≡ with_register name strings.now self.old.flat) }
+        ensures wanting { IsErrOf result NoMemory → self.new.flat ≡ self.old.flat }
+    {
+        match self.rest.registers.set(alloc, name, strings) {
+            Ok(()) => Ok(()),
+            Err(error) => Err(EditError::from(error)),
+        }
+    }
+}
