@@ -1,7 +1,7 @@
 -- The row of characters that go in before cursors, by what the code hands over.
 use Rattle.std.proofs.Common.{◌≡◌, ℕ, List, map, ap, sym, ◌∙◌}
 use Rattle.list_model.specs.Ranges.{Selected}
-use Rattle.selection_set.specs.Listing.{Listed, ranges_of}
+use Rattle.selection_set.specs.Listing.{Listed}
 use Rattle.selection_set.specs.Held.{selected}
 use Rattle.buffer_store.specs.declared.edits.Splice.{Splice as CodeSplice}
 use Rattle.buffer_store.specs.Buffers.{flat_splices}

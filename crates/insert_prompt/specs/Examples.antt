@@ -1,5 +1,6 @@
 -- Worked examples of the rows of insert mode and of prompts, which hold by computation.
 use Rattle.std.specs.Prelude.{◌≡◌, ℕ, true, false, None, Some, [], ◌∷◌, List, length, codes}
+use Rattle.key_names.specs.declared.key.Key.{Key}
 use Rattle.key_names.specs.declared.key.Base.TheVariants.{Char, Ret, Tab, Esc}
 use Rattle.list_model.specs.Ranges.{Range, Selected, only}
 use Rattle.undo_model.specs.Stories.{opened}
@@ -20,7 +21,7 @@ abbrev pub two_clients : List ℕ → Own → Selected → Selected → Flat
 two_clients text own first second = record {
   buffers = Some (record { name = codes "*scratch*"; is_file = false; story = opened text; lists = list_for 0 first ∷ list_for 1 second ∷ [] }) ∷ [];
   clients = record (newcomer 0 0 0) { own = own } ∷ newcomer 1 1 0 ∷ [];
-  rest = record { units = 0 };
+  rest = record { units = 0; registers = [] };
 }
 
 -- client 0 in insert mode on a text, with these selections, and client 1 on the character at an offset
@@ -43,6 +44,9 @@ prompting typed = two_clients (10 ∷ []) (record first_own { mode = Prompt; pro
 abbrev pub turned : ℕ → ℕ → Range
 turned a b = record { low = a; high = b; turned = true; target = None }
 
+abbrev pub control_u : Key
+control_u = record { control = true; alt = false; shift = false; base = Char 117 }
+
 pub record Examples : Type 0 where
   pub goes_in_before_the_cursor : seen (insert_base (Char 120) 0 (selecting (codes "ab\n") (only 1 ∷ []) 0)).world ≡ seen (selecting (codes "axb\n") (only 2 ∷ []) 0)
   -- the other client's selection stays on its character
@@ -57,7 +61,7 @@ pub record Examples : Type 0 where
   pub any_character_goes_in : seen (insert_base (Char 0x6F22) 0 (selecting (codes "ab\n") (only 1 ∷ []) 0)).world ≡ seen (selecting (97 ∷ 0x6F22 ∷ 98 ∷ 10 ∷ []) (only 2 ∷ []) 0)
   pub tab_goes_in : seen (insert_base Tab 0 (selecting (codes "ab\n") (only 0 ∷ []) 0)).world ≡ seen (selecting (codes "\tab\n") (only 1 ∷ []) 1)
   pub typing_is_pending : length (story_of 0 (insert_base (Char 120) 0 (selecting (codes "ab\n") (only 1 ∷ []) 0)).world).nodes ≡ 1
-  pub control_u_commits : length (story_of 0 (insert_control (Char 117) 0 (insert_base (Char 120) 0 (selecting (codes "ab\n") (only 1 ∷ []) 0)).world).world).nodes ≡ 2
+  pub control_u_commits : length (story_of 0 (insert_control (Char 117) control_u 0 (insert_base (Char 120) 0 (selecting (codes "ab\n") (only 1 ∷ []) 0)).world).world).nodes ≡ 2
   pub escape_leaves : mode_of 0 (insert_base Esc 0 (selecting (codes "ab\n") (only 1 ∷ []) 0)).world ≡ Normal
   pub prompt_grows : (prompt_base (Char 113) 0 (prompting (codes "a"))).world ≡ prompting (codes "aq")
   pub prompt_runs : (prompt_base Ret 0 (prompting (codes "quit"))).row ≡ Asks (Commands (codes "quit"))

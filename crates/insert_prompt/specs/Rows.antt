@@ -1,13 +1,30 @@
 -- The rows of insert mode and of prompts: what each key does.
-use Rattle.std.specs.Prelude.{ℕ, Bool, not, ◌==◌, ◌&&◌, ◌||◌, if◌then◌else◌, List, [], ◌∷◌, ◌++◌, map}
+use Rattle.std.specs.Prelude.{ℕ, false, not, ◌==◌, ◌&&◌, ◌||◌, if◌then◌else◌, List, [], ◌∷◌, ◌++◌, map, encode_utf8_all, None, Some}
+use Rattle.std.specs.declared.option.Option.{Option}
 use Rattle.key_names.specs.declared.key.Key.{Key}
 use Rattle.key_names.specs.declared.key.Base.{Base}
-use Rattle.key_names.specs.declared.key.Base.TheVariants.{Char, Ret, Tab, Esc}
+use Rattle.key_names.specs.declared.key.Base.TheVariants.{Char, Ret, Tab, Backspace, Del, Left, Right, Up, Down, Home, End, Esc}
 use Rattle.key_names.specs.Modified.{is_modified}
 use Rattle.kak_world.specs.declared.ask.Ask.TheVariants.{Commands}
 use Rattle.kak_world.specs.declared.own.Mode.TheVariants.{Normal}
+use Rattle.edit_ops.specs.declared.kinds.Erase.{Erase}
+use Rattle.edit_ops.specs.declared.kinds.Erase.TheVariants.{BeforeCursor, AtCursor}
+use Rattle.edit_ops.specs.declared.kinds.Put.TheVariants.{BeforeCursor as PutBeforeCursor}
 use Rattle.edit_ops.specs.Typing.{typed_before}
-use Rattle.kak_world.specs.Flat.{Flat, sels_of, prompt_of, with_own}
+use Rattle.edit_ops.specs.Erasing.{erasures}
+use Rattle.motion_keys.specs.declared.direction.Direction.TheVariants.{Forward, Backward}
+use Rattle.motion_keys.specs.declared.finding.Motion.TheVariants.{Step, Line, To}
+use Rattle.motion_keys.specs.declared.finding.Reach.TheVariants.{Select}
+use Rattle.motion_keys.specs.declared.landmarks.Place.TheVariants.{LineStart}
+use Rattle.key_rows.specs.declared.each.Each.TheVariants as each
+use Rattle.key_rows.specs.declared.shapes.Shape.TheVariants.{CursorNewline, OneBack}
+use Rattle.kak_world.specs.Registers.{set_row}
+use Rattle.key_rows.specs.Sequence.{then_row}
+use Rattle.key_rows.specs.Each.{each_changed, moved}
+use Rattle.key_rows.specs.Naming.{register_named}
+use Rattle.key_rows.specs.Reading.{strings_read}
+use Rattle.key_rows.specs.Edits.{with_strings, puts_of}
+use Rattle.kak_world.specs.Flat.{Flat, sels_of, pending_of, is_appending, prompt_of, with_own}
 use Rattle.kak_world.specs.Changing.{commits}
 use Rattle.kak_world.specs.Rows.{RowEnd, Asks, does}
 use Rattle.kak_world.specs.Editing.{edit_row}
@@ -16,29 +33,70 @@ use Rattle.kak_world.specs.Editing.{edit_row}
 abbrev pub typed : List ℕ → ℕ → Flat → RowEnd
 typed s who flat = edit_row (map (typed_before s) (sels_of who flat).list) who flat
 
+-- a character is erased before each cursor, where there is one, or at it
+abbrev pub erased : Erase → ℕ → Flat → RowEnd
+erased what who flat = edit_row (erasures what (sels_of who flat).list) who flat
+
+-- where insert mode was entered behind selections, the cursors go back
+abbrev pub taken_back : ℕ → Flat → Flat
+taken_back who flat = if is_appending who flat then each_changed (each.Reshaped OneBack) who flat else flat
+
 -- the client is in normal mode
 abbrev pub leave_insert : ℕ → Flat → Flat
-leave_insert who flat = with_own who (λ o. record o { mode = Normal }) flat
+leave_insert who flat = with_own who (λ o. record o { mode = Normal; appending = false }) (taken_back who flat)
 
 -- the row of a key without modifiers in insert mode: a character goes in as itself, return as a newline (10), tab as a
--- tab (9)
+-- tab (9); others erase or move
 abbrev pub insert_base : Base → ℕ → Flat → RowEnd
 insert_base (Char c) who flat = typed (c ∷ []) who flat
 insert_base Ret who flat = typed (10 ∷ []) who flat
 insert_base Tab who flat = typed (9 ∷ []) who flat
+insert_base Backspace who flat = erased BeforeCursor who flat
+insert_base Del who flat = erased AtCursor who flat
+insert_base Left who flat = does (moved (Step Backward) Select who flat)
+insert_base Right who flat = does (moved (Step Forward) Select who flat)
+insert_base Up who flat = does (moved (Line Backward) Select who flat)
+insert_base Down who flat = does (moved (Line Forward) Select who flat)
+insert_base Home who flat = does (moved (To LineStart) Select who flat)
+insert_base End who flat = does (each_changed (each.Reshaped CursorNewline) who flat)
 insert_base Esc who flat = does (leave_insert who flat)
 insert_base _ who flat = does flat
 
--- the row of a key with control alone in insert mode: `<c-u>` commits what is pending of the client
-abbrev pub insert_control : Base → ℕ → Flat → RowEnd
-insert_control (Char c) who flat = if c == 117 then does (commits who flat) else does flat
-insert_control _ who flat = does flat
+-- a client for whose next key one waits, or none
+abbrev pub awaiting : Option Key → ℕ → Flat → Flat
+awaiting key who flat = with_own who (λ o. record o { pending = key }) flat
 
--- the row of a key in insert mode; a key without a row does nothing
-unfoldable pub row_insert : Key → ℕ → Flat → RowEnd
-row_insert key who flat =
-    if key.control && not (key.alt || key.shift) then insert_control key.base who flat
+-- what a character does with control: `<c-u>` commits what is pending of the client, and `<c-r>` waits for the name of a register
+abbrev pub control_character : ℕ → Key → ℕ → Flat → RowEnd
+control_character c key who flat = if c == 117 then does (commits who flat) else (if c == 114 then does (awaiting (Some key) who flat) else does flat)
+
+-- the row of a key with control alone in insert mode
+abbrev pub insert_control : Base → Key → ℕ → Flat → RowEnd
+insert_control (Char c) key who flat = control_character c key who flat
+insert_control _ key who flat = does flat
+
+-- the n-th string of a register goes in before the n-th cursor
+abbrev pub put_register : ℕ → ℕ → Flat → RowEnd
+put_register name who flat = with_strings (strings_read name who flat) name (λ strings w. edit_row (puts_of PutBeforeCursor strings who w) who w) flat
+
+abbrev pub put_named : Option ℕ → ℕ → Flat → RowEnd
+put_named None who flat = does flat
+put_named (Some name) who flat = put_register name who flat
+
+-- the row of a key in insert mode that no other key waits for; a key without a row does nothing
+abbrev pub insert_first : Key → ℕ → Flat → RowEnd
+insert_first key who flat =
+    if key.control && not (key.alt || key.shift) then insert_control key.base key who flat
     else (if is_modified key then does flat else insert_base key.base who flat)
+
+-- by the key that waits for it, if one does
+abbrev pub insert_pending : Option Key → Key → ℕ → Flat → RowEnd
+insert_pending None key who flat = insert_first key who flat
+insert_pending (Some waits) key who flat = put_named (register_named key) who (awaiting None who flat)
+
+-- the row of a key in insert mode
+unfoldable pub row_insert : Key → ℕ → Flat → RowEnd
+row_insert key who flat = insert_pending (pending_of who flat) key who flat
 
 -- a character goes in at the end of the prompt
 abbrev pub prompt_character : ℕ → ℕ → Flat → RowEnd
@@ -48,10 +106,15 @@ prompt_character c who flat = does (with_own who (λ o. record o { prompt = o.pr
 abbrev pub leave_prompt : ℕ → Flat → Flat
 leave_prompt who flat = with_own who (λ o. record o { mode = Normal; prompt = [] }) flat
 
+-- a prompt that is accepted: it is left, register `:` (58) holds what was typed, and that is run as commands
+abbrev pub accepted : ℕ → Flat → RowEnd
+accepted who flat =
+    then_row (set_row 58 (encode_utf8_all (prompt_of who flat) ∷ []) (leave_prompt who flat)) (λ w. record { world = w; row = Asks (Commands (prompt_of who flat)) })
+
 -- the row of a key without modifiers in a prompt: what was typed is run as commands, or left
 abbrev pub prompt_base : Base → ℕ → Flat → RowEnd
 prompt_base (Char c) who flat = prompt_character c who flat
-prompt_base Ret who flat = record { world = leave_prompt who flat; row = Asks (Commands (prompt_of who flat)) }
+prompt_base Ret who flat = accepted who flat
 prompt_base Esc who flat = does (leave_prompt who flat)
 prompt_base _ who flat = does flat
 

@@ -1,14 +1,18 @@
 //! The rows of insert mode.
 #![tactic(auto, using(kak_world::proofs::WorldLaws::world_laws))]
 
-ghost use Rattle.std.specs.Prelude.{◌≡◌, true, ◌∷◌, []};
+ghost use Rattle.std.specs.Prelude.{◌≡◌, true, None, ◌∷◌, []};
 ghost use Rattle.kak_world.specs.Flat.{is_joined};
 ghost use Rattle.kak_world.specs.Rows.{Gives, does};
-ghost use Rattle.insert_prompt.specs.Rows.{typed, insert_control, row_insert};
+ghost use Rattle.key_rows.specs.Each.{each_changed, moved};
+ghost use Rattle.key_rows.specs.Naming.{register_named};
+ghost use Rattle.insert_prompt.specs.Rows.{typed, erased, leave_insert, awaiting, insert_control, put_register, put_named, insert_base, insert_first, row_insert};
 
-use edit_ops::before_cursors;
+use edit_ops::{Erase, Put, before_cursors, erase};
 use kak_world::{Ask, EditError, Mode, World};
 use key_names::{Base, Key};
+use key_rows::{Each, Shape, change_each, register_named, register_puts};
+use motion_keys::{Direction, Motion, Place, Reach};
 use std::alloc::Global;
 
 // Puts a character in before each cursor.
@@ -23,39 +27,135 @@ fn put_in(alloc: Global, world: &mut World, who: u32, c: char) -> Result<Ask, Ed
     }
 }
 
-// Runs a key with control alone.
-fn run_control(world: &mut World, who: u32, base: Base)
+// Erases a character before each cursor, or at it.
+fn erase_at(alloc: Global, world: &mut World, who: u32, what: Erase) -> Result<Ask, EditError>
     requires { is_joined who world.old.flat ≡ true }
-    ensures { does world.new.flat ≡ insert_control base who world.old.flat }
+    ensures row { Gives result world.new.flat (erased what who world.old.flat) }
 {
-    match base {
+    let splices = erase(alloc, world.lines(who), world.sels(who), what)?;
+    world.edit(alloc, who, splices.as_slice())?;
+    Ok(Ask::Nothing)
+}
+
+// Moves each selection.
+fn step(alloc: Global, world: &mut World, who: u32, motion: Motion) -> Result<Ask, EditError>
+    requires { is_joined who world.old.flat ≡ true }
+    ensures row { Gives result world.new.flat (does (moved motion Reach.Select who world.old.flat)) }
+{
+    change(alloc, world, who, Each::Moved(motion, Reach::Select))
+}
+
+// Does something to each selection.
+fn change(alloc: Global, world: &mut World, who: u32, change: Each) -> Result<Ask, EditError>
+    requires { is_joined who world.old.flat ≡ true }
+    ensures row { Gives result world.new.flat (does (each_changed change who world.old.flat)) }
+{
+    change_each(alloc, world, who, change)?;
+    Ok(Ask::Nothing)
+}
+
+// Leaves insert mode; where it was entered behind selections, the cursors go back.
+fn leave(alloc: Global, world: &mut World, who: u32) -> Result<Ask, EditError>
+    requires { is_joined who world.old.flat ≡ true }
+    ensures row { Gives result world.new.flat (does (leave_insert who world.old.flat)) }
+{
+    if world.own(who).appending {
+        change_each(alloc, world, who, Each::Reshaped(Shape::OneBack))?;
+    }
+    let own = world.own_mut(who);
+    own.mode = Mode::Normal;
+    own.appending = false;
+    Ok(Ask::Nothing)
+}
+
+// Puts the n-th string of a register in before the n-th cursor.
+fn put_register(alloc: Global, world: &mut World, who: u32, name: char) -> Result<Ask, EditError>
+    requires { is_joined who world.old.flat ≡ true }
+    ensures row { Gives result world.new.flat (put_register name who world.old.flat) }
+{
+    let splices = register_puts(alloc, world, who, name, Put::BeforeCursor)?;
+    world.edit(alloc, who, splices.as_slice())?;
+    Ok(Ask::Nothing)
+}
+
+// Lets a key wait for the next one, or none.
+fn set_pending(world: &mut World, who: u32, key: Option<Key>)
+    requires { is_joined who world.old.flat ≡ true }
+    ensures { world.new.flat ≡ awaiting key who world.old.flat }
+{
+    world.own_mut(who).pending = key;
+}
+
+// Runs a key with control alone.
+fn run_control(world: &mut World, who: u32, key: Key)
+    requires { is_joined who world.old.flat ≡ true }
+    ensures { does world.new.flat ≡ insert_control key.base key who world.old.flat }
+{
+    match key.base {
         Base::Char('u') => world.commit(who),
+        Base::Char('r') => set_pending(world, who, Some(key)),
         _ => {}
     }
 }
 
-/// Runs one key of insert mode. `UndoFull` and `TextFull` come exactly where the undo tree has no place for what was
-/// typed, or else the text no room, and leave the world.
-#[tactic(auto, using(kak_world::proofs::WorldLaws::world_laws), unfolding(crate::specs::Rows::row_insert))]
-pub fn insert_key(alloc: Global, world: &mut World, who: u32, key: Key) -> Result<Ask, EditError>
+// Runs a key without modifiers.
+fn run_plain(alloc: Global, world: &mut World, who: u32, base: Base) -> Result<Ask, EditError>
     requires { is_joined who world.old.flat ≡ true }
-    ensures row { Gives result world.new.flat (row_insert key who world.old.flat) }
+    ensures row { Gives result world.new.flat (insert_base base who world.old.flat) }
+{
+    match base {
+        Base::Char(c) => put_in(alloc, world, who, c),
+        Base::Ret => put_in(alloc, world, who, '\n'),
+        Base::Tab => put_in(alloc, world, who, '\t'),
+        Base::Backspace => erase_at(alloc, world, who, Erase::BeforeCursor),
+        Base::Del => erase_at(alloc, world, who, Erase::AtCursor),
+        Base::Left => step(alloc, world, who, Motion::Step(Direction::Backward)),
+        Base::Right => step(alloc, world, who, Motion::Step(Direction::Forward)),
+        Base::Up => step(alloc, world, who, Motion::Line(Direction::Backward)),
+        Base::Down => step(alloc, world, who, Motion::Line(Direction::Forward)),
+        Base::Home => step(alloc, world, who, Motion::To(Place::LineStart)),
+        Base::End => change(alloc, world, who, Each::Reshaped(Shape::CursorNewline)),
+        Base::Esc => leave(alloc, world, who),
+        _ => Ok(Ask::Nothing),
+    }
+}
+
+// Runs a key that no other key waits for.
+fn run_first(alloc: Global, world: &mut World, who: u32, key: Key) -> Result<Ask, EditError>
+    requires { is_joined who world.old.flat ≡ true }
+    ensures row { Gives result world.new.flat (insert_first key who world.old.flat) }
 {
     if key.control && !(key.alt || key.shift) {
-        run_control(world, who, key.base);
+        run_control(world, who, key);
         return Ok(Ask::Nothing);
     }
     if key.is_modified() {
         return Ok(Ask::Nothing);
     }
-    match key.base {
-        Base::Char(c) => put_in(alloc, world, who, c),
-        Base::Ret => put_in(alloc, world, who, '\n'),
-        Base::Tab => put_in(alloc, world, who, '\t'),
-        Base::Esc => {
-            world.own_mut(who).mode = Mode::Normal;
-            Ok(Ask::Nothing)
-        }
-        _ => Ok(Ask::Nothing),
+    run_plain(alloc, world, who, key.base)
+}
+
+// Runs a key for which `<c-r>` waited: it names a register, or does nothing.
+fn run_named(alloc: Global, world: &mut World, who: u32, key: Key) -> Result<Ask, EditError>
+    requires { is_joined who world.old.flat ≡ true }
+    ensures row { Gives result world.new.flat (put_named (register_named key) who (awaiting None who world.old.flat)) }
+{
+    set_pending(world, who, None);
+    match register_named(key) {
+        Some(name) => put_register(alloc, world, who, name),
+        None => Ok(Ask::Nothing),
+    }
+}
+
+/// Runs one key of insert mode. `UndoFull` and `TextFull` come exactly where the undo tree has no place for an edit, or else the
+/// text no room, and `NoSuchRegister` where a key names no register; they leave the text, the selections and the registers.
+#[tactic(auto, using(kak_world::proofs::WorldLaws::world_laws), unfolding(crate::specs::Rows::row_insert))]
+pub fn insert_key(alloc: Global, world: &mut World, who: u32, key: Key) -> Result<Ask, EditError>
+    requires { is_joined who world.old.flat ≡ true }
+    ensures row { Gives result world.new.flat (row_insert key who world.old.flat) }
+{
+    match world.own(who).pending {
+        None => run_first(alloc, world, who, key),
+        Some(_) => run_named(alloc, world, who, key),
     }
 }

@@ -5,7 +5,7 @@ use Rattle.std.specs.declared.result.Result.{Result}
 use Rattle.std.specs.declared.alloc.AllocError.{AllocError}
 use Rattle.kak_world.specs.declared.ask.Ask.{Ask}
 use Rattle.kak_world.specs.declared.ask.EditError.{EditError}
-use Rattle.kak_world.specs.declared.ask.EditError.TheVariants.{TextFull, UndoFull, NothingToUndo, NothingToRedo, NoSuchNode, NoSuchCommand, NothingSelected, TooManySelections, BudgetSpent, NoMemory}
+use Rattle.kak_world.specs.declared.ask.EditError.TheVariants.{TextFull, UndoFull, NothingToUndo, NothingToRedo, NoSuchNode, NoSuchRegister, ReadOnlyRegister, RegisterFull, SharedLine, NoSuchCommand, NothingSelected, TooManySelections, BudgetSpent, NoMemory}
 use Rattle.kak_world.specs.Flat.{Flat, is_joined, units_of, with_units}
 use Rattle.kak_world.specs.Rows.{Asks, Fails, GivesUp, RowEnd, Gives, error_text}
 use Rattle.command_set.specs.Rows.{row_command}
@@ -58,6 +58,10 @@ row-fails who NothingToUndo (Ok e) now f n before end g = failed-row who (error_
 row-fails who NothingToRedo (Ok e) now f n before end g = failed-row who (error_text NothingToRedo) e now before end g f
 row-fails who NoSuchNode (Ok e) now f n before end g = failed-row who (error_text NoSuchNode) e now before end g f
 row-fails who (NoSuchCommand name) (Ok e) now f n before end g = failed-row who (error_text (NoSuchCommand name)) e now before end g f
+row-fails who (NoSuchRegister name) (Ok e) now f n before end g = failed-row who (error_text (NoSuchRegister name)) e now before end g f
+row-fails who (ReadOnlyRegister name) (Ok e) now f n before end g = failed-row who (error_text (ReadOnlyRegister name)) e now before end g f
+row-fails who RegisterFull (Ok e) now f n before end g = failed-row who (error_text RegisterFull) e now before end g f
+row-fails who SharedLine (Ok e) now f n before end g = failed-row who (error_text SharedLine) e now before end g f
 row-fails who NothingSelected (Ok e) now f n before end g = failed-row who (error_text NothingSelected) e now before end g f
 row-fails who TooManySelections (Ok e) now f n before end g = failed-row who (error_text TooManySelections) e now before end g f
 row-fails who BudgetSpent (Ok e) now f n before end g = given-up-row who e now before end g f

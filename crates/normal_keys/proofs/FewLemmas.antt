@@ -1,13 +1,14 @@
 -- Lists that don't become longer.
 use Rattle.std.proofs.Common.{◌≡◌, ℕ, suc, ◌≤◌, Bool, true, false, List, [], ◌∷◌, length, map, None, refl, sym, ap, ◌∙◌, arith}
 use Rattle.std.specs.Prelude.{if◌then◌else◌, nat_le}
+use Rattle.std.specs.declared.option.Option.{Option}
 use Rattle.std.proofs.lemmas.Bool.{false≢true}
 use Rattle.std.proofs.lemmas.List.{length-map}
 use Rattle.list_model.specs.Ranges.{Range, Selected}
 use Rattle.list_model.specs.Settling.{placed, sorted, swept, ranges, each_settled}
 use Rattle.list_model.proofs.EmbedLemmas.{swept_no_longer}
 use Rattle.kak_world.specs.Flat.{Flat, is_joined, sels_of, view_of, tabstop_of, text_of, units_of, with_units}
-use Rattle.kak_world.proofs.WorldLaws.{sels_sels, sels_own, sels_units, joined_sels, joined_units}
+use Rattle.kak_world.proofs.WorldLaws.{sels_sels, sels_own, sels_units, joined_units}
 use Rattle.list_keys.specs.declared.changes.ListChange.{ListChange}
 use Rattle.list_keys.specs.declared.changes.ListChange.TheVariants.{WholeText, MainAlone, WithoutMain, Cut, Split, Copied}
 use Rattle.list_keys.specs.Cuts.{cut_by}
@@ -16,13 +17,12 @@ use Rattle.list_keys.specs.Changes.{change_adds, made_count}
 use Rattle.list_keys.proofs.RowLemmas.{made-few}
 use Rattle.normal_keys.specs.Rows.{cleared}
 use Rattle.normal_keys.specs.declared.actions.Repeated.{Repeated}
-use Rattle.normal_keys.specs.declared.actions.Repeated.TheVariants.{Moves, TurnsMain, Travels, GoesToNode}
-use Rattle.normal_keys.specs.declared.each.Each.{Each}
-use Rattle.normal_keys.specs.declared.each.Each.TheVariants as each
-use Rattle.normal_keys.specs.Moving.{each_range, each_changed}
-use Rattle.normal_keys.specs.Repeating.{once, repeated_adds}
+use Rattle.normal_keys.specs.declared.actions.Repeated.TheVariants.{Moves, TurnsMain, Travels, GoesToNode, Puts}
+use Rattle.key_rows.specs.declared.each.Each.{Each}
+use Rattle.key_rows.specs.declared.each.Each.TheVariants as each
+use Rattle.key_rows.specs.Each.{each_range, each_changed}
+use Rattle.normal_keys.specs.Repeating.{once, repeated_grows}
 use Rattle.kak_world.specs.Rows.{RowEnd, does}
-use Rattle.kak_world.specs.Keeping.{KeepsClients}
 use Rattle.normal_keys.proofs.KeepingLaws.{keeps-once}
 
 length-placed : (r : Range) (rs : List Range) → length (placed r rs) ≡ suc (length rs)
@@ -51,18 +51,19 @@ changed-few change who flat j =
     omega (arith, each-few f (sels_of who flat), ap (λ (s : Selected). length s.list) (sels_sels who (each_settled f (sels_of who flat)) flat j))
 
 -- one run that can't add selections makes no list longer
-once-few : (what : Repeated) (who : ℕ) (flat : Flat) → repeated_adds what ≡ false → is_joined who flat ≡ true → length (sels_of who (once what who flat).world).list ≤ length (sels_of who flat).list
-once-few (Moves motion reach) who flat a j = changed-few (each.Moved motion reach) who flat j
-once-few (TurnsMain direction) who flat a j = omega (arith, ap (λ (s : Selected). length s.list) (sels_sels who (main_turned direction (sels_of who flat)) flat j))
-once-few (Travels travel) who flat a j = absurd (false≢true (sym a))
-once-few (GoesToNode direction) who flat a j = absurd (false≢true (sym a))
+once-few : (what : Repeated) (register : Option ℕ) (who : ℕ) (flat : Flat) → repeated_grows what ≡ false → is_joined who flat ≡ true → length (sels_of who (once what register who flat).world).list ≤ length (sels_of who flat).list
+once-few (Moves motion reach) register who flat a j = changed-few (each.Moved motion reach) who flat j
+once-few (TurnsMain direction) register who flat a j = omega (arith, ap (λ (s : Selected). length s.list) (sels_sels who (main_turned direction (sels_of who flat)) flat j))
+once-few (Travels travel) register who flat a j = absurd (false≢true (sym a))
+once-few (GoesToNode direction) register who flat a j = absurd (false≢true (sym a))
+once-few (Puts how) register who flat a j = absurd (false≢true (sym a))
 
-pub run-few : (what : Repeated) (who : ℕ) (before after : Flat) → repeated_adds what ≡ false → is_joined who before ≡ true → once what who before ≡ does after → length (sels_of who before).list ≤ 4 → length (sels_of who after).list ≤ 4
-run-few what who before after a j e h = omega (arith, h, once-few what who before a j, ap (λ (x : RowEnd). length (sels_of who x.world).list) e)
+pub run-few : (what : Repeated) (register : Option ℕ) (who : ℕ) (before after : Flat) → repeated_grows what ≡ false → is_joined who before ≡ true → once what register who before ≡ does after → length (sels_of who before).list ≤ 4 → length (sels_of who after).list ≤ 4
+run-few what register who before after a j e h = omega (arith, h, once-few what register who before a j, ap (λ (x : RowEnd). length (sels_of who x.world).list) e)
 
 -- and nobody goes
-pub run-stays : (what : Repeated) (who : ℕ) (before after : Flat) → is_joined who before ≡ true → once what who before ≡ does after → is_joined who after ≡ true
-run-stays what who before after j e = sym (ap (λ (x : RowEnd). is_joined who x.world) e) ∙ (keeps-once what who before).joined who ∙ j
+pub run-stays : (what : Repeated) (register : Option ℕ) (who : ℕ) (before after : Flat) → is_joined who before ≡ true → once what register who before ≡ does after → is_joined who after ≡ true
+run-stays what register who before after j e = sym (ap (λ (x : RowEnd). is_joined who x.world) e) ∙ (keeps-once what register who before).joined who ∙ j
 
 -- a unit that was taken is none of the list's
 pub unit-few : (who : ℕ) (before after : Flat) → after ≡ with_units (units_of after) before → length (sels_of who before).list ≤ 4 → length (sels_of who after).list ≤ 4
@@ -72,7 +73,7 @@ pub unit-stays : (who : ℕ) (before after : Flat) → after ≡ with_units (uni
 unit-stays who before after e j = ap (is_joined who) e ∙ joined_units who (units_of after) before ∙ j
 
 pub cleared-few : (who : ℕ) (before after : Flat) → after ≡ cleared who before → length (sels_of who before).list ≤ 4 → length (sels_of who after).list ≤ 4
-cleared-few who before after e h = omega (arith, h, ap (λ (w : Flat). length (sels_of who w).list) e, ap (λ (s : Selected). length s.list) (sels_own who who (λ o. record o { count = 0; pending = None }) before))
+cleared-few who before after e h = omega (arith, h, ap (λ (w : Flat). length (sels_of who w).list) e, ap (λ (s : Selected). length s.list) (sels_own who who (λ o. record o { count = 0; register = None; pending = None }) before))
 
 -- a change that adds none makes no more than there were, or one
 pub unadding-few : (change : ListChange) (text : List ℕ) (s : Selected) → change_adds change ≡ false → length s.list ≤ 4 → made_count change text s ≤ 4

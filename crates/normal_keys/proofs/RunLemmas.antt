@@ -2,10 +2,11 @@
 use Rattle.std.proofs.Common.{◌≡◌, ℕ, suc, ◌+◌, ◌-◌, ◌<◌, refl, sym, ap, ◌∙◌, arith}
 use Rattle.std.specs.Prelude.{IfSome}
 use Rattle.kak_world.specs.declared.ask.EditError.{EditError}
-use Rattle.kak_world.specs.declared.ask.EditError.TheVariants.{TextFull, UndoFull, NothingToUndo, NothingToRedo, NoSuchNode, NoSuchCommand, NothingSelected, TooManySelections, BudgetSpent, NoMemory}
+use Rattle.kak_world.specs.declared.ask.EditError.TheVariants.{TextFull, UndoFull, NothingToUndo, NothingToRedo, NoSuchNode, NoSuchRegister, ReadOnlyRegister, RegisterFull, SharedLine, NoSuchCommand, NothingSelected, TooManySelections, BudgetSpent, NoMemory}
 use Rattle.kak_world.specs.Flat.{Flat, units_of, with_units}
 use Rattle.kak_world.specs.Rows.{RowEnd, GivesUp, does, row_of}
-use Rattle.normal_keys.specs.Moving.{after_unit, then_row, further_runs, runs}
+use Rattle.key_rows.specs.Sequence.{then_row}
+use Rattle.normal_keys.specs.Running.{after_unit, further_runs, runs}
 
 -- as many runs less one
 one_less : (k n : ℕ) → k < n → n - k ≡ suc (n - (k + 1))
@@ -36,6 +37,10 @@ fails-all UndoFull next end whole rest w e = w ∙ ap (λ x. then_row x rest) e
 fails-all NothingToUndo next end whole rest w e = w ∙ ap (λ x. then_row x rest) e
 fails-all NothingToRedo next end whole rest w e = w ∙ ap (λ x. then_row x rest) e
 fails-all NoSuchNode next end whole rest w e = w ∙ ap (λ x. then_row x rest) e
+fails-all (NoSuchRegister name) next end whole rest w e = w ∙ ap (λ x. then_row x rest) e
+fails-all (ReadOnlyRegister name) next end whole rest w e = w ∙ ap (λ x. then_row x rest) e
+fails-all RegisterFull next end whole rest w e = w ∙ ap (λ x. then_row x rest) e
+fails-all SharedLine next end whole rest w e = w ∙ ap (λ x. then_row x rest) e
 fails-all (NoSuchCommand name) next end whole rest w e = w ∙ ap (λ x. then_row x rest) e
 fails-all NothingSelected next end whole rest w e = w ∙ ap (λ x. then_row x rest) e
 fails-all TooManySelections next end whole rest w e = w ∙ ap (λ x. then_row x rest) e

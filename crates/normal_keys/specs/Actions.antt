@@ -20,7 +20,13 @@ use Rattle.undo_model.specs.declared.travel.Travel.TheVariants.{Undo, Redo}
 use Rattle.list_keys.specs.declared.cuts.Cut.TheVariants as cut
 use Rattle.list_keys.specs.declared.parts.Split.TheVariants as split
 use Rattle.list_keys.specs.declared.changes.ListChange.TheVariants as list
-use Rattle.normal_keys.specs.declared.actions.Shape.TheVariants as shape
+use Rattle.key_rows.specs.declared.shapes.Shape.TheVariants as shape
+use Rattle.edit_ops.specs.declared.kinds.Put.TheVariants.{Before as PutBefore, After as PutAfter}
+use Rattle.edit_ops.specs.declared.kinds.Side.TheVariants.{Below, Above}
+use Rattle.edit_ops.specs.declared.kinds.Rotation.TheVariants.{Forward as RotateOn, Backward as RotateBack}
+use Rattle.edit_ops.specs.declared.kinds.Indent.TheVariants.{More, Less}
+use Rattle.key_rows.specs.declared.edits.Edit.TheVariants as edit
+use Rattle.key_rows.specs.declared.entries.Entry.TheVariants as entry
 use Rattle.normal_keys.specs.declared.actions.Repeated.TheVariants as repeated
 use Rattle.normal_keys.specs.declared.actions.Action.{Action}
 use Rattle.normal_keys.specs.declared.actions.Action.TheVariants as action
@@ -83,7 +89,23 @@ signs =
     ∷ (code ")", action.Repeats (repeated.TurnsMain Forward))
     ∷ (code "u", action.Repeats (repeated.Travels Undo))
     ∷ (code "U", action.Repeats (repeated.Travels Redo))
-    ∷ (code "i", action.Inserts)
+    ∷ (code "d", action.Edits edit.Cut)
+    ∷ (code "y", action.Edits edit.Keep)
+    ∷ (code "R", action.Edits edit.Replace)
+    ∷ (code "r", action.Fills)
+    ∷ (code ">", action.Edits (edit.Indent More))
+    ∷ (code "<", action.Edits (edit.Indent Less))
+    ∷ (code "&", action.Edits edit.Align)
+    ∷ (code "p", action.Repeats (repeated.Puts PutAfter))
+    ∷ (code "P", action.Repeats (repeated.Puts PutBefore))
+    ∷ (code "i", action.Inserts entry.Before)
+    ∷ (code "a", action.Inserts entry.Behind)
+    ∷ (code "I", action.Inserts entry.FirstLine)
+    ∷ (code "A", action.Inserts entry.LastNewline)
+    ∷ (code "o", action.Inserts (entry.Open Below))
+    ∷ (code "O", action.Inserts (entry.Open Above))
+    ∷ (code "c", action.Inserts entry.Cut)
+    ∷ (34, action.ChoosesRegister)
     ∷ (code ":", action.Prompts)
     ∷ []
 
@@ -95,6 +117,11 @@ alt_signs =
     ∷ (code ":", action.Shapes shape.Straight)
     ∷ (code ",", action.Lists list.WithoutMain)
     ∷ (code "C", action.Lists (list.Copied Backward))
+    ∷ (code "d", action.Edits edit.Erase)
+    ∷ (code "j", action.Edits edit.Join)
+    ∷ (code ")", action.Edits (edit.Rotate RotateOn))
+    ∷ (code "(", action.Edits (edit.Rotate RotateBack))
+    ∷ (code "c", action.Inserts entry.Erase)
     ∷ (code "s", action.Lists (list.Split split.AtLineEnds))
     ∷ (code "S", action.Lists (list.Split split.IntoEnds))
     ∷ []

@@ -1,8 +1,9 @@
 pub mod Actions
-pub mod Moving
 pub mod Listing
+pub mod Running
 pub mod Repeating
 pub mod Rows
-pub mod Adding
+pub mod Growing
 pub mod Examples
+pub mod EditExamples
 pub mod Laws

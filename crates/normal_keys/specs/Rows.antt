@@ -10,15 +10,19 @@ use Rattle.motion_keys.specs.declared.landmarks.Place.TheVariants as place
 use Rattle.motion_keys.specs.declared.char_moves.Search.{Search}
 use Rattle.motion_keys.specs.declared.finding.Motion.TheVariants.{Character, To}
 use Rattle.motion_keys.specs.declared.finding.Reach.{Reach}
-use Rattle.kak_world.specs.declared.own.Mode.TheVariants.{Insert, Prompt}
-use Rattle.kak_world.specs.Flat.{Flat, count_of, pending_of, with_own}
+use Rattle.kak_world.specs.declared.own.Mode.TheVariants.{Prompt}
+use Rattle.kak_world.specs.Flat.{Flat, count_of, register_of, pending_of, with_own}
 use Rattle.kak_world.specs.Rows.{RowEnd, does}
+use Rattle.key_rows.specs.declared.each.Each.TheVariants as each
+use Rattle.key_rows.specs.Each.{each_changed, moved}
+use Rattle.key_rows.specs.Naming.{register_named}
+use Rattle.key_rows.specs.Edits.{fill_row, edit_done}
+use Rattle.key_rows.specs.Entering.{enter_row}
+use Rattle.normal_keys.specs.declared.prefixes.Prefix.{Prefix}
 use Rattle.normal_keys.specs.declared.actions.Action.{Action}
 use Rattle.normal_keys.specs.declared.actions.Action.TheVariants as action
 use Rattle.normal_keys.specs.Actions.{code, looked_up, action_of}
-use Rattle.normal_keys.specs.declared.actions.Shape.TheVariants as shape
-use Rattle.normal_keys.specs.declared.each.Each.TheVariants as each
-use Rattle.normal_keys.specs.Moving.{each_changed, moved, runs}
+use Rattle.normal_keys.specs.Running.{runs}
 use Rattle.normal_keys.specs.Listing.{list_changed}
 use Rattle.normal_keys.specs.declared.actions.Repeated.TheVariants.{Moves}
 use Rattle.normal_keys.specs.Repeating.{once}
@@ -27,21 +31,21 @@ use Rattle.normal_keys.specs.Repeating.{once}
 abbrev pub with_digit : ℕ → ℕ → ℕ
 with_digit count digit = min 999999 (count * 10 + digit)
 
--- a client without a count, and with no key that waits
-abbrev pub cleared : ℕ → Flat → Flat
-cleared who flat = with_own who (λ o. record o { count = 0; pending = None }) flat
+-- what stands before a key of a client
+abbrev pub prefix_of : ℕ → Flat → Prefix
+prefix_of who flat = record { count = count_of who flat; register = register_of who flat }
 
--- a client with a count
-abbrev pub counted : ℕ → ℕ → Flat → Flat
-counted count who flat = with_own who (λ o. record o { count = count }) flat
+-- a client without a count and a register, and with no key that waits
+abbrev pub cleared : ℕ → Flat → Flat
+cleared who flat = with_own who (λ o. record o { count = 0; register = None; pending = None }) flat
+
+-- a client with a count, and with a register that was chosen, or none
+abbrev pub prefixed : ℕ → Option ℕ → ℕ → Flat → Flat
+prefixed count register who flat = with_own who (λ o. record o { count = count; register = register }) flat
 
 -- a key of a client waits for the next one, with a count
 abbrev pub waiting : Key → ℕ → ℕ → Flat → Flat
 waiting key count who flat = with_own who (λ o. record o { count = count; pending = Some key }) flat
-
--- insert mode before each selection
-abbrev pub insert_before : ℕ → Flat → Flat
-insert_before who flat = with_own who (λ o. record o { mode = Insert }) (each_changed (each.Reshaped shape.AtStart) who flat)
 
 -- an empty prompt
 abbrev pub open_prompt : ℕ → Flat → Flat
@@ -53,18 +57,21 @@ go_to_line key reach count who flat =
     if count == 0 then waiting key 0 who flat
     else moved (To (place.Line (count - 1))) reach who flat
 
--- what a key does, by its action, with a count, in a world that has none any more
-abbrev pub acted : Key → Action → ℕ → ℕ → Flat → RowEnd
-acted key action.Nothing count who flat = does flat
-acted key (action.Digit digit) count who flat = does (counted (with_digit count digit) who flat)
-acted key (action.Repeats what) count who flat = runs count (once what who) flat
-acted key (action.MovesOnce motion reach) count who flat = does (moved motion reach who flat)
-acted key (action.Seeks search reach) count who flat = does (waiting key count who flat)
-acted key (action.Goes reach) count who flat = does (go_to_line key reach count who flat)
-acted key (action.Shapes shape) count who flat = does (each_changed (each.Reshaped shape) who flat)
-acted key (action.Lists change) count who flat = list_changed change who flat
-acted key action.Inserts count who flat = does (insert_before who flat)
-acted key action.Prompts count who flat = does (open_prompt who flat)
+-- what a key does, by its action, with what stands before it, in a world that has that no more
+abbrev pub acted : Key → Action → Prefix → ℕ → Flat → RowEnd
+acted key action.Nothing prefix who flat = does flat
+acted key (action.Digit digit) prefix who flat = does (prefixed (with_digit prefix.count digit) prefix.register who flat)
+acted key action.ChoosesRegister prefix who flat = does (waiting key prefix.count who flat)
+acted key (action.Repeats what) prefix who flat = runs prefix.count (once what prefix.register who) flat
+acted key (action.MovesOnce motion reach) prefix who flat = does (moved motion reach who flat)
+acted key (action.Seeks search reach) prefix who flat = does (waiting key prefix.count who flat)
+acted key (action.Goes reach) prefix who flat = does (go_to_line key reach prefix.count who flat)
+acted key (action.Shapes shape) prefix who flat = does (each_changed (each.Reshaped shape) who flat)
+acted key (action.Lists change) prefix who flat = list_changed change who flat
+acted key (action.Edits edit) prefix who flat = edit_done edit prefix.register who flat
+acted key action.Fills prefix who flat = does (waiting key prefix.count who flat)
+acted key (action.Inserts entry) prefix who flat = enter_row entry prefix.register who flat
+acted key action.Prompts prefix who flat = does (open_prompt who flat)
 
 -- the character that a key without modifiers stands for
 abbrev pub base_character : Base → Option ℕ
@@ -102,24 +109,35 @@ place_of key = option_and_then place_named (character_of key)
 -- what is done with the next key, for which another one waited; one that doesn't fit does nothing
 abbrev pub sought_character : Search → Reach → ℕ → ℕ → Option ℕ → Flat → RowEnd
 sought_character search reach count who None flat = does flat
-sought_character search reach count who (Some c) flat = runs count (once (Moves (Character search c) reach) who) flat
+sought_character search reach count who (Some c) flat = runs count (once (Moves (Character search c) reach) None who) flat
+
+abbrev pub filled : ℕ → Option ℕ → Flat → RowEnd
+filled who None flat = does flat
+filled who (Some c) flat = fill_row c who flat
+
+-- the register that a key names is chosen for the next one
+abbrev pub chosen_register : ℕ → ℕ → Option ℕ → Flat → RowEnd
+chosen_register count who None flat = does flat
+chosen_register count who (Some c) flat = does (prefixed count (Some c) who flat)
 
 abbrev pub sought_place : Reach → ℕ → Option Place → Flat → RowEnd
 sought_place reach who None flat = does flat
 sought_place reach who (Some p) flat = does (moved (To p) reach who flat)
 
--- what a key does for which another one waited, by the action of that one; only those that look for a character or go to a
--- place wait
+-- what a key does for which another one waited, by the action of that one; only those that look for a character, go to a
+-- place, fill or choose a register wait
 abbrev pub answered : Action → Key → ℕ → ℕ → Flat → RowEnd
 answered (action.Seeks search reach) key count who flat = sought_character search reach count who (character_of key) flat
 answered (action.Goes reach) key count who flat = sought_place reach who (place_of key) flat
+answered action.Fills key count who flat = filled who (character_of key) flat
+answered action.ChoosesRegister key count who flat = chosen_register count who (register_named key) flat
 answered _ key count who flat = does flat
 
 -- a key, by the one that waits for it, if one does
-abbrev pub row_pending : Option Key → Key → ℕ → ℕ → Flat → RowEnd
-row_pending None key count who flat = acted key (action_of key) count who flat
-row_pending (Some waits) key count who flat = answered (action_of waits) key count who flat
+abbrev pub row_pending : Option Key → Key → Prefix → ℕ → Flat → RowEnd
+row_pending None key prefix who flat = acted key (action_of key) prefix who flat
+row_pending (Some waits) key prefix who flat = answered (action_of waits) key prefix.count who flat
 
--- the row of a key in normal mode: it uses up the count
+-- the row of a key in normal mode: it uses up what stands before it
 unfoldable pub row_normal : Key → ℕ → Flat → RowEnd
-row_normal key who flat = row_pending (pending_of who flat) key (count_of who flat) who (cleared who flat)
+row_normal key who flat = row_pending (pending_of who flat) key (prefix_of who flat) who (cleared who flat)

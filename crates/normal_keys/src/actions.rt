@@ -3,25 +3,12 @@
 ghost use Rattle.std.specs.Prelude.{◌≡◌};
 ghost use Rattle.normal_keys.specs.Actions.{moves, seeks, letter_action, alt_letter_action, sign_action, alt_sign_action, otherwise, reach_of, character_action, arrow_action, plain_action, control_action, alt_action, action_of};
 
+use edit_ops::{Indent, Put, Rotation, Side};
 use key_names::{Base, Key};
+use key_rows::{Edit, Entry, Shape};
 use list_keys::{Cut, ListChange, Split};
 use motion_keys::{Direction, LinePart, Motion, Reach, Search, Until, WordKind, WordMove};
 use undo_model::Travel;
-
-/// What becomes of each selection by itself, without a motion.
-#[derive(Clone, Copy, PartialEq, Eq, Debug)]
-pub enum Shape {
-    /// All of its lines.
-    Lines,
-    /// The character at its cursor.
-    Cursor,
-    /// Its cursor and its anchor change places.
-    Turned,
-    /// Its cursor is at its last character.
-    Straight,
-    /// Its cursor is at its first character; one of one character is straight.
-    AtStart,
-}
 
 /// What is done as often as the count says.
 #[derive(Clone, Copy, PartialEq, Eq, Debug)]
@@ -34,6 +21,8 @@ pub enum Repeated {
     Travels(Travel),
     /// A move to the node of the undo tree with the next lower or the next higher number.
     GoesToNode(Direction),
+    /// The n-th string of a register is put at the n-th selection.
+    Puts(Put),
 }
 
 /// What a key does.
@@ -43,6 +32,8 @@ pub enum Action {
     Nothing,
     /// It goes on with the count.
     Digit(u32),
+    /// It waits for the name of a register, which the next key uses.
+    ChoosesRegister,
     /// It does something as often as the count says.
     Repeats(Repeated),
     /// A motion of each selection, once.
@@ -55,8 +46,12 @@ pub enum Action {
     Shapes(Shape),
     /// It changes the list.
     Lists(ListChange),
-    /// Insert mode before each selection.
-    Inserts,
+    /// It does something to the texts of the selections.
+    Edits(Edit),
+    /// It waits for a character that takes the place of each one in the selections.
+    Fills,
+    /// Insert mode.
+    Inserts(Entry),
     /// An empty prompt for commands.
     Prompts,
 }
@@ -126,7 +121,23 @@ fn sign_action(c: char) -> Action
         ')' => Action::Repeats(Repeated::TurnsMain(Direction::Forward)),
         'u' => Action::Repeats(Repeated::Travels(Travel::Undo)),
         'U' => Action::Repeats(Repeated::Travels(Travel::Redo)),
-        'i' => Action::Inserts,
+        'd' => Action::Edits(Edit::Cut),
+        'y' => Action::Edits(Edit::Keep),
+        'R' => Action::Edits(Edit::Replace),
+        'r' => Action::Fills,
+        '>' => Action::Edits(Edit::Indent(Indent::More)),
+        '<' => Action::Edits(Edit::Indent(Indent::Less)),
+        '&' => Action::Edits(Edit::Align),
+        'p' => Action::Repeats(Repeated::Puts(Put::After)),
+        'P' => Action::Repeats(Repeated::Puts(Put::Before)),
+        'i' => Action::Inserts(Entry::Before),
+        'a' => Action::Inserts(Entry::Behind),
+        'I' => Action::Inserts(Entry::FirstLine),
+        'A' => Action::Inserts(Entry::LastNewline),
+        'o' => Action::Inserts(Entry::Open(Side::Below)),
+        'O' => Action::Inserts(Entry::Open(Side::Above)),
+        'c' => Action::Inserts(Entry::Cut),
+        '"' => Action::ChoosesRegister,
         ':' => Action::Prompts,
         _ => Action::Nothing,
     }
@@ -142,6 +153,11 @@ fn alt_sign_action(c: char) -> Action
         ':' => Action::Shapes(Shape::Straight),
         ',' => Action::Lists(ListChange::WithoutMain),
         'C' => Action::Lists(ListChange::Copied(Direction::Backward)),
+        'd' => Action::Edits(Edit::Erase),
+        'j' => Action::Edits(Edit::Join),
+        ')' => Action::Edits(Edit::Rotate(Rotation::Forward)),
+        '(' => Action::Edits(Edit::Rotate(Rotation::Backward)),
+        'c' => Action::Inserts(Entry::Erase),
         's' => Action::Lists(ListChange::Split(Split::AtLineEnds)),
         'S' => Action::Lists(ListChange::Split(Split::IntoEnds)),
         _ => Action::Nothing,

@@ -1,6 +1,7 @@
 //! Laws of the rows, and worked examples of the definitions: each is the contract of a function that does nothing.
 
 ghost use Rattle.normal_keys.specs.Examples.{Examples};
+ghost use Rattle.normal_keys.specs.EditExamples.{AllEditExamples};
 ghost use Rattle.normal_keys.specs.Laws.{RowsKeepClients};
 
 /// No key of normal mode makes a client come or go.
@@ -11,4 +12,9 @@ pub fn rows_keep_clients()
 /// Worked examples of the rows.
 pub fn worked_examples()
     ensures { Examples }
+{}
+
+/// Worked examples of the rows that change the text.
+pub fn edit_examples()
+    ensures { AllEditExamples }
 {}

@@ -3,11 +3,10 @@
 
 mod actions;
 mod awaited;
-mod each;
 pub mod keys;
 pub mod laws;
 mod lists;
+pub mod prefixes;
 mod runs;
-mod shapes;
 
 pub use keys::normal_key;

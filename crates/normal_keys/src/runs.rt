@@ -4,13 +4,14 @@
 ghost use Rattle.std.specs.Prelude.{◌≡◌, ◌≤◌, true, false, length, IsOk, IsErrOf};
 ghost use Rattle.kak_world.specs.Flat.{is_joined, sels_of};
 ghost use Rattle.kak_world.specs.Rows.{Answers, Gives};
-ghost use Rattle.normal_keys.specs.Moving.{runs};
+ghost use Rattle.normal_keys.specs.Running.{runs};
 ghost use Rattle.normal_keys.specs.Listing.{main_moved};
-ghost use Rattle.normal_keys.specs.Repeating.{node_row, once, repeated_adds};
+ghost use Rattle.normal_keys.specs.Repeating.{node_row, once, repeated_grows};
 
 use crate::actions::Repeated;
-use crate::each::{Each, change_each};
+use crate::prefixes::Prefix;
 use kak_world::{Ask, EditError, World};
+use key_rows::{Each, change_each, put};
 use list_keys::main_beside;
 use motion_keys::Direction;
 use std::alloc::Global;
@@ -49,10 +50,16 @@ fn go_to_node(
 }
 
 // Runs a key once.
-fn run_once(alloc: Global, world: &mut World, who: u32, what: Repeated) -> Result<(), EditError>
+fn run_once(
+    alloc: Global,
+    world: &mut World,
+    who: u32,
+    register: Option<char>,
+    what: Repeated,
+) -> Result<(), EditError>
     requires { is_joined who world.old.flat ≡ true }
-    ensures row { Answers result world.new.flat (once what who world.old.flat) }
-    ensures few { repeated_adds what ≡ false → length (sels_of who world.old.flat).list ≤ 4 → IsOk result }
+    ensures row { Answers result world.new.flat (once what register who world.old.flat) }
+    ensures few { repeated_grows what ≡ false → length (sels_of who world.old.flat).list ≤ 4 → IsOk result }
 {
     match what {
         Repeated::Moves(motion, reach) => {
@@ -65,29 +72,30 @@ fn run_once(alloc: Global, world: &mut World, who: u32, what: Repeated) -> Resul
         }
         Repeated::Travels(travel) => world.travel(alloc, who, travel),
         Repeated::GoesToNode(direction) => go_to_node(alloc, world, who, direction),
+        Repeated::Puts(how) => put(alloc, world, who, register, how),
     }
 }
 
 /// Runs a key of a client as often as a count says, and once without one, up to the first run that fails. Each further run
-/// takes a unit. `BudgetSpent` comes where none is left for the next one. What can't add selections takes no memory for
-/// at most four.
+/// takes a unit. `BudgetSpent` comes where none is left for the next one. What can't change the text or add selections takes no
+/// memory for at most four.
 pub(crate) fn run_often(
     alloc: Global,
     world: &mut World,
     who: u32,
-    count: u32,
+    prefix: Prefix,
     what: Repeated,
 ) -> Result<Ask, EditError>
     requires { is_joined who world.old.flat ≡ true }
-    ensures row { Gives result world.new.flat (runs count (once what who) world.old.flat) }
-    ensures few { repeated_adds what ≡ false → length (sels_of who world.old.flat).list ≤ 4 → ¬ IsErrOf result EditError.NoMemory }
+    ensures row { Gives result world.new.flat (runs prefix.count (once what prefix.register who) world.old.flat) }
+    ensures few { repeated_grows what ≡ false → length (sels_of who world.old.flat).list ≤ 4 → ¬ IsErrOf result EditError.NoMemory }
 {
-    run_once(alloc, world, who, what)?;
-    for _ in 1..count {
+    run_once(alloc, world, who, prefix.register, what)?;
+    for _ in 1..prefix.count {
         if !world.take_unit() {
             return Err(EditError::BudgetSpent);
         }
-        run_once(alloc, world, who, what)?;
+        run_once(alloc, world, who, prefix.register, what)?;
     }
     Ok(Ask::Nothing)
 }

@@ -1,21 +1,20 @@
-use Rattle.std.proofs.Common.{◌-◌, ap, refl}
+use Rattle.std.proofs.Common.{refl}
 use Rattle.std.proofs.lemmas.Result.{err_from_is_err_and}
-use Rattle.normal_keys.specs.Moving.{further_runs}
 use Rattle.normal_keys.specs.Repeating.{once}
-use Rattle.normal_keys.proofs.RunLemmas.{run-first, run-more, run-spent, first-fails, more-fails}
+use Rattle.normal_keys.proofs.RunLemmas.{run-first, run-more, run-spent, more-fails}
 use Rattle.normal_keys.proofs.FewLemmas.{run-few, run-stays, unit-few, unit-stays}
 use Rattle.normal_keys.proofs.runs.run_often.Goals as goal
 
 pub loop-init : goal.loop-init
 loop-init c = record {
-  left = run-first (once c.args.what c.args.who) c.args.world.now.flat _ c.args.count c.in_ok-run_once.ensures.row;
-  stays = run-stays c.args.what c.args.who c.args.world.now.flat _ c.requires c.in_ok-run_once.ensures.row;
-  few = λ a h. run-few c.args.what c.args.who c.args.world.now.flat _ a c.requires c.in_ok-run_once.ensures.row h;
+  left = run-first (once c.args.what c.args.prefix.register c.args.who) c.args.world.now.flat _ c.args.prefix.count c.in_ok-run_once.ensures.row;
+  stays = run-stays c.args.what c.args.prefix.register c.args.who c.args.world.now.flat _ c.requires c.in_ok-run_once.ensures.row;
+  few = λ a h. run-few c.args.what c.args.prefix.register c.args.who c.args.world.now.flat _ a c.requires c.in_ok-run_once.ensures.row h;
 }
 
 pub returns-then-not-take_unit-clause-row : goal.returns-then-not-take_unit-clause-row
 returns-then-not-take_unit-clause-row c =
-    run-spent (once c.args.what c.args.who) c.loop.world.flat c.take_unit.new.self.flat c.loop.counter c.args.count _ c.loop-test.true (c.if-not-take_unit.ensures.none refl).0 (c.if-not-take_unit.ensures.none refl).1 c.loop.invariant.left
+    run-spent (once c.args.what c.args.prefix.register c.args.who) c.loop.world.flat c.take_unit.new.self.flat c.loop.counter c.args.prefix.count _ c.loop-test.true (c.if-not-take_unit.ensures.none refl).0 (c.if-not-take_unit.ensures.none refl).1 c.loop.invariant.left
 
 pub run_once-requires-in-loop : goal.run_once-requires-in-loop
 run_once-requires-in-loop c = unit-stays c.args.who c.loop.world.flat c.take_unit.new.self.flat (c.if-not-take_unit.ensures.taken refl).1 c.loop.invariant.stays
@@ -23,15 +22,15 @@ run_once-requires-in-loop c = unit-stays c.args.who c.loop.world.flat c.take_uni
 pub loop-preserved : goal.loop-preserved
 loop-preserved c = record {
   left =
-      run-more (once c.args.what c.args.who) c.loop.world.flat c.take_unit.new.self.flat c.run_once-in-loop.new.world.flat c.loop.counter c.args.count _ c.loop-test.true
+      run-more (once c.args.what c.args.prefix.register c.args.who) c.loop.world.flat c.take_unit.new.self.flat c.run_once-in-loop.new.world.flat c.loop.counter c.args.prefix.count _ c.loop-test.true
       (c.if-not-take_unit.ensures.taken refl).0 (c.if-not-take_unit.ensures.taken refl).1 c.in_ok-run_once-2.ensures.row c.loop.invariant.left;
-  stays = run-stays c.args.what c.args.who c.take_unit.new.self.flat _ (unit-stays c.args.who c.loop.world.flat c.take_unit.new.self.flat (c.if-not-take_unit.ensures.taken refl).1 c.loop.invariant.stays) c.in_ok-run_once-2.ensures.row;
-  few = λ a h. run-few c.args.what c.args.who c.take_unit.new.self.flat _ a (unit-stays c.args.who c.loop.world.flat c.take_unit.new.self.flat (c.if-not-take_unit.ensures.taken refl).1 c.loop.invariant.stays) c.in_ok-run_once-2.ensures.row (unit-few c.args.who c.loop.world.flat c.take_unit.new.self.flat (c.if-not-take_unit.ensures.taken refl).1 (c.loop.invariant.few a h));
+  stays = run-stays c.args.what c.args.prefix.register c.args.who c.take_unit.new.self.flat _ (unit-stays c.args.who c.loop.world.flat c.take_unit.new.self.flat (c.if-not-take_unit.ensures.taken refl).1 c.loop.invariant.stays) c.in_ok-run_once-2.ensures.row;
+  few = λ a h. run-few c.args.what c.args.prefix.register c.args.who c.take_unit.new.self.flat _ a (unit-stays c.args.who c.loop.world.flat c.take_unit.new.self.flat (c.if-not-take_unit.ensures.taken refl).1 c.loop.invariant.stays) c.in_ok-run_once-2.ensures.row (unit-few c.args.who c.loop.world.flat c.take_unit.new.self.flat (c.if-not-take_unit.ensures.taken refl).1 (c.loop.invariant.few a h));
 }
 
 pub returns-in_err-run_once-2-clause-row : goal.returns-in_err-run_once-2-clause-row
 returns-in_err-run_once-2-clause-row c =
     let p = err_from_is_err_and c.from_residual-in_err-run_once-2.result c.from_residual-in_err-run_once-2.ensures.1 in
     rw (p.1, p.2)
-    (more-fails (once c.args.what c.args.who) c.in_err-run_once-2.field-0.0 c.loop.world.flat c.take_unit.new.self.flat c.run_once-in-loop.new.world.flat c.loop.counter c.args.count _ c.loop-test.true
+    (more-fails (once c.args.what c.args.prefix.register c.args.who) c.in_err-run_once-2.field-0.0 c.loop.world.flat c.take_unit.new.self.flat c.run_once-in-loop.new.world.flat c.loop.counter c.args.prefix.count _ c.loop-test.true
     (c.if-not-take_unit.ensures.taken refl).0 (c.if-not-take_unit.ensures.taken refl).1 c.loop.invariant.left c.in_err-run_once-2.ensures.row)

@@ -1,0 +1,11 @@
+pub mod TurnedLemmas
+pub mod ListLemmas
+pub mod EachLemmas
+pub mod ShapeLemmas
+pub mod PlaceLemmas
+pub mod BackLemmas
+pub mod LeavingLemmas
+pub mod NumberLemmas
+pub mod RegisterLemmas
+pub mod KeepingLaws
+pub mod EndLemmas

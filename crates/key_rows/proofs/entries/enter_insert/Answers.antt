@@ -1,0 +1,6 @@
+use Rattle.key_rows.specs.Entering.{place_row}
+use Rattle.key_rows.proofs.KeepingLaws.{keeps_place, stays}
+use Rattle.key_rows.proofs.entries.enter_insert.Goals as goal
+
+pub own_mut-own-requires : goal.own_mut-own-requires
+own_mut-own-requires c = stays (place_row c.args.entry c.args.register c.args.who) c.args.who c.args.world.now.flat c.place.new.world.flat (keeps_place c.args.entry c.args.register c.args.who) c.in_ok-place.ensures.row c.requires

@@ -1,0 +1,8 @@
+pub mod Sequence
+pub mod Each
+pub mod Naming
+pub mod Reading
+pub mod Edits
+pub mod Entering
+pub mod Handing
+pub mod Laws

@@ -1,0 +1,141 @@
+//! How insert mode is entered.
+#![tactic(auto, using(kak_world::proofs::WorldLaws::world_laws))]
+
+ghost use Rattle.std.specs.Prelude.{◌≡◌, ◌≤◌, true, false, [], ◌∷◌, length, IfOk, IsOk, OnOk};
+ghost use Rattle.selection_set.specs.Listing.{AreInside, ranges_of};
+ghost use Rattle.buffer_store.specs.Buffers.{flat_splice, IsSpliceOf};
+ghost use Rattle.edit_ops.specs.Putting.{put_in_at};
+ghost use Rattle.kak_world.specs.Flat.{is_joined, sels_of};
+ghost use Rattle.kak_world.specs.Rows.{Answers};
+ghost use Rattle.key_rows.specs.Entering.{reaches_end, room_row, place_row, edits_first, appends, enter_row};
+
+use crate::each::{Each, change_each};
+use crate::edits::{cut, erase, open};
+use crate::shapes::Shape;
+use buffer_store::Splice;
+use edit_ops::Side;
+use kak_text::Chars;
+use kak_world::{EditError, Mode, World};
+use line_buffer::Lines;
+use selection_set::Sel;
+use std::alloc::{AllocError, Global};
+
+/// How insert mode is entered.
+#[derive(Clone, Copy, PartialEq, Eq, Debug)]
+pub enum Entry {
+    /// Before each selection.
+    Before,
+    /// Behind each selection; where one ends the text, a newline goes in there first.
+    Behind,
+    /// At the first character of the first line of each that is no blank.
+    FirstLine,
+    /// At the newline of the last line of each.
+    LastNewline,
+    /// In the place of their texts, which a register keeps.
+    Cut,
+    /// In the place of their texts.
+    Erase,
+    /// On a new line below or above each.
+    Open(Side),
+}
+
+// Whether some selection reaches the text's last character.
+fn reaches_end(lines: &Lines, sels: &[Sel]) -> bool
+    requires { AreInside lines.now sels.now }
+    ensures { result ≡ reaches_end lines.now (ranges_of lines.now sels.now) }
+{
+    let last = lines.last_place();
+    for sel in sels {
+        if last.is_at_most(sel.high) {
+            return true;
+        }
+    }
+    false
+}
+
+// A newline that goes in at the end of a text.
+fn newline_at_end(alloc: Global, lines: &Lines) -> Result<Splice, AllocError>
+    ensures puts { IfOk result (λ splice. flat_splice lines.now splice ≡ put_in_at (length lines.now) (10 ∷ [])) }
+    ensures ends { IfOk result (λ splice. IsSpliceOf lines.now splice) }
+{
+    let at = lines.coord_of(lines.len());
+    let text = Chars::from_slice(alloc, &['\n'])?;
+    Ok(Splice {
+        from: at,
+        to: at,
+        text,
+    })
+}
+
+// Puts a newline in at the end of the text, where a client's selection reaches its last character.
+fn make_room(alloc: Global, world: &mut World, who: u32) -> Result<(), EditError>
+    requires { is_joined who world.old.flat ≡ true }
+    ensures row { Answers result world.new.flat (room_row who world.old.flat) }
+    ensures joined { OnOk result (is_joined who world.new.flat ≡ true) }
+{
+    if !reaches_end(world.lines(who), world.sels(who).as_slice()) {
+        return Ok(());
+    }
+    let splices = [newline_at_end(alloc, world.lines(who))?];
+    world.edit(alloc, who, splices.as_slice())?;
+    Ok(())
+}
+
+// Takes a client's selections to where insert mode is entered.
+fn place(
+    alloc: Global,
+    world: &mut World,
+    who: u32,
+    entry: Entry,
+    register: Option<char>,
+) -> Result<(), EditError>
+    requires { is_joined who world.old.flat ≡ true }
+    ensures row { Answers result world.new.flat (place_row entry register who world.old.flat) }
+    ensures few { length (sels_of who world.old.flat).list ≤ 4 → edits_first entry ≡ false → IsOk result }
+{
+    match entry {
+        Entry::Before => change_each(alloc, world, who, Each::Reshaped(Shape::AtStart))?,
+        Entry::Behind => {
+            make_room(alloc, world, who)?;
+            change_each(alloc, world, who, Each::Reshaped(Shape::OneFurther))?
+        }
+        Entry::FirstLine => change_each(alloc, world, who, Each::AtFirstLine)?,
+        Entry::LastNewline => {
+            change_each(alloc, world, who, Each::Reshaped(Shape::LastNewline))?
+        }
+        Entry::Cut => cut(alloc, world, who, register)?,
+        Entry::Erase => erase(alloc, world, who)?,
+        Entry::Open(side) => open(alloc, world, who, side)?,
+    }
+    Ok(())
+}
+
+// Whether leaving insert mode takes cursors back.
+fn appends(entry: Entry) -> bool
+    ensures { result ≡ appends entry }
+{
+    match entry {
+        Entry::Behind => true,
+        _ => false,
+    }
+}
+
+/// Enters insert mode. It is refused as the edits are that go before it, and then the mode stays. Where no edit goes before,
+/// it takes no memory for at most four selections.
+pub fn enter_insert(
+    alloc: Global,
+    world: &mut World,
+    who: u32,
+    entry: Entry,
+    register: Option<char>,
+) -> Result<(), EditError>
+    requires { is_joined who world.old.flat ≡ true }
+    ensures row { Answers result world.new.flat (enter_row entry register who world.old.flat) }
+    ensures few { length (sels_of who world.old.flat).list ≤ 4 → edits_first entry ≡ false → IsOk result }
+{
+    place(alloc, world, who, entry, register)?;
+    let own = world.own_mut(who);
+    own.mode = Mode::Insert;
+    own.appending = appends(entry);
+    Ok(())
+}

@@ -1,0 +1,19 @@
+//! What the keys of several modes do, as rows of the world: to each selection by itself, with registers, and to the text.
+#![tactic(auto)]
+
+pub mod each;
+pub mod edits;
+pub mod entries;
+pub mod laws;
+pub mod leaving;
+pub mod naming;
+pub mod reading;
+pub mod shapes;
+
+pub use each::{Each, change_each};
+pub use edits::{Edit, edit_texts, fill, put};
+pub use entries::{Entry, enter_insert};
+pub use leaving::edit_leaving;
+pub use naming::register_named;
+pub use reading::{keep, register_puts, string_of};
+pub use shapes::Shape;

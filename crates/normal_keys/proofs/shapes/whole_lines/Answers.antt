@@ -1,5 +1,0 @@
-use Rattle.normal_keys.proofs.ShapeLemmas.{whole_lines-range}
-use Rattle.normal_keys.proofs.shapes.whole_lines.Goals as goal
-
-pub returns-clause-lines : goal.returns-clause-lines
-returns-clause-lines c = whole_lines-range c.args.lines.now c.args.sel c.line.result.now c.requires c.line.ensures.value
