@@ -4,8 +4,8 @@ import pathlib
 from processes import run_whole
 
 HERE = pathlib.Path(__file__).resolve().parent
-# letters and lines in and out; motions, counts and lists of selections, on any text; undo and redo
-TOPICS = ["first_path", "lists_motions", "undo"]
+# letters and lines in and out; motions, counts and lists of selections, on any text; undo and redo; keys that edit
+TOPICS = ["first_path", "lists_motions", "undo", "edits"]
 
 
 def run(program, report):
