@@ -159,5 +159,5 @@ fn spaced(
 fn spaces(alloc: Global, count: usize) -> Result<Chars, AllocError>
     ensures { IfOk result (λ s. s ≡ spaces count) }
 {
-    Ok(Chars::of_vec(vec![in alloc; ' '; count]?))
+    Chars::repeated(alloc, ' ', count)
 }

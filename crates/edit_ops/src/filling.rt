@@ -25,16 +25,8 @@ pub fn fill(alloc: Global, lines: &Lines, sels: &Sels, c: char) -> Result<Vec<Sp
     let mut splices = Vec::with_capacity(alloc, sels.len())?;
     for sel in sels.as_slice() {
         let text = text_of(alloc, lines, *sel)?;
-        splices.push_reserved(put_over(lines, filled(text, c), *sel));
+        let filled = Chars::repeated(alloc, c, text.len())?;
+        splices.push_reserved(put_over(lines, filled, *sel));
     }
     Ok(splices)
-}
-
-// As many times a character as a text has characters.
-fn filled(text: Chars, c: char) -> Chars
-    ensures { result ≡ replicate (length text) c }
-{
-    let mut chars = text.into_vec();
-    chars.fill(c);
-    Chars::of_vec(chars)
 }

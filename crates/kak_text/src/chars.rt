@@ -1,14 +1,15 @@
 //! Characters in memory: status texts, prompt texts, names and drawn contents.
 
-ghost use Rattle.std.specs.Prelude.{◌≡◌, ℕ, ◌+◌, ◌<◌, ◌↔◌, [], ◌∷◌, ◌++◌, length, chars, IfOk, OnOk, OnErr, IfSome, IfNone, IsSome, IsTrue, encode_utf8_all};
+ghost use Rattle.std.specs.Prelude.{◌≡◌, ℕ, ◌+◌, ◌<◌, ◌≤◌, ◌↔◌, [], ◌∷◌, ◌++◌, length, replicate, chars, IfOk, IsOk, OnOk, OnErr, IfSome, IfNone, IsSome, IsTrue, encode_utf8_all};
 
+use smallvec::SmallVec;
 use std::alloc::{AllocError, Global};
 use std::marker::Model;
 
-/// A list of characters.
+/// A list of characters. Up to four of them take no memory of their own.
 #[derive(Drop, Debug)]
 pub struct Chars {
-    items: Vec<char>,
+    items: SmallVec<char, 4>,
 }
 
 impl Model for Chars {
@@ -25,7 +26,7 @@ impl Chars {
         ensures { result ≡ [] }
     {
         Chars {
-            items: Vec::new(alloc),
+            items: SmallVec::new(alloc),
         }
     }
 
@@ -33,15 +34,27 @@ impl Chars {
     pub fn of_vec(items: Vec<char>) -> Chars
         ensures { result ≡ items.items }
     {
-        Chars { items }
+        Chars {
+            items: SmallVec::from_vec(items),
+        }
     }
 
-    /// A copy of these characters.
+    /// A copy of these characters. At most four take no memory.
     pub fn from_slice(alloc: Global, chars: &[char]) -> Result<Chars, AllocError>
-        ensures { IfOk result (λ new. new ≡ chars.now) }
+        ensures copies { IfOk result (λ new. new ≡ chars.now) }
+        ensures few { length chars.now ≤ 4 → IsOk result }
     {
         Ok(Chars {
-            items: Vec::from_slice(alloc, chars)?,
+            items: SmallVec::from_slice(alloc, chars)?,
+        })
+    }
+
+    /// So many times one character. At most four take no memory.
+    pub fn repeated(alloc: Global, c: char, count: usize) -> Result<Chars, AllocError>
+        ensures { IfOk result (λ new. new ≡ replicate count c) }
+    {
+        Ok(Chars {
+            items: SmallVec::from_elem(alloc, c, count)?,
         })
     }
 
@@ -49,16 +62,7 @@ impl Chars {
     pub fn from_str(alloc: Global, text: &str) -> Result<Chars, AllocError>
         ensures { IfOk result (λ new. new ≡ chars text.now) }
     {
-        Ok(Chars {
-            items: text.chars().collect(alloc)?,
-        })
-    }
-
-    /// The characters as a vector; takes no memory.
-    pub fn into_vec(self) -> Vec<char>
-        ensures { result.items ≡ self }
-    {
-        self.items
+        Ok(Chars::of_vec(text.chars().collect(alloc)?))
     }
 
     /// The characters.

@@ -34,13 +34,14 @@ fn characters_are_added_and_taken(rt: HostRuntime) -> Result<(), Fail> {
 }
 
 #[test]
-fn characters_go_in_and_out_of_vectors(rt: HostRuntime) -> Result<(), Fail> {
+fn few_and_many_characters_are_held(rt: HostRuntime) -> Result<(), Fail> {
     let chars = Chars::of_vec(vec![in rt.alloc(); 'a', 'b']?);
-    let items = chars.into_vec();
-    assert_eq!(rt; items.as_slice(), ['a', 'b'].as_slice());
+    assert_eq!(rt; chars.as_slice(), ['a', 'b'].as_slice());
     let none = Chars::new(rt.alloc());
     assert!(rt; none.is_empty());
-    let some = Chars::from_slice(rt.alloc(), items.as_slice())?;
-    assert_eq!(rt; some.as_slice(), ['a', 'b'].as_slice());
+    let many = Chars::of_vec(vec![in rt.alloc(); 'a', 'b', 'c', 'd', 'e']?);
+    assert_eq!(rt; many.len(), 5);
+    let again = Chars::repeated(rt.alloc(), 'z', 5)?;
+    assert_eq!(rt; again.as_slice(), ['z', 'z', 'z', 'z', 'z'].as_slice());
     Ok(())
 }

@@ -25,7 +25,7 @@ loop-sel-preserved c =
     let pushed = c.push_reserved.ensures.items in
     record {
       so_far = ap (flat_splices text) pushed ∙ each-more (λ n r. filling_at c.args.c r) text c.args.sels.now.list c.loop-sel.splices.items c.put_over.result sel no_sel i here
-          at c.loop-sel.invariant.so_far (c.put_over.ensures.puts ∙ ap (λ s. put_over s (range_of text sel)) (c.filled.ensures ∙ ap (λ n. replicate n c.args.c) count));
+          at c.loop-sel.invariant.so_far (c.put_over.ensures.puts ∙ ap (λ s. put_over s (range_of text sel)) (c.in_ok-filled.ensures ∙ ap (λ n. replicate n c.args.c) (c.len-in-loop-sel.ensures ∙ count)));
       ends = subst (AllByRecursion (IsSpliceOf text)) (sym pushed) (ends-more text c.loop-sel.splices.items c.put_over.result c.loop-sel.invariant.ends c.put_over.ensures.ends);
       count = ap length pushed ∙ length_push c.loop-sel.splices.items c.put_over.result ∙ ap (λ n. n + 1) c.loop-sel.invariant.count;
       reserved = omega (arith, c.push_reserved.ensures.capacity, c.loop-sel.invariant.reserved);

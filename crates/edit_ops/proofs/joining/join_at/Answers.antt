@@ -12,7 +12,7 @@ pub returns-clause-joins : goal.returns-clause-joins
 returns-clause-joins c =
     let next : c.next_line-next.result.line ≡ c.args.n + 1 = ap (λ (at : Coord). at.line) c.next_line-next.ensures.value in
     join-flat c.args.lines.now c.args.n c.next_line-next.result.line (length c.line.result.now - 1) c.blanks-behind.result c.in_ok-from_slice.field-0
-    (omega (arith, c.requires)) next (omega (arith, ap length c.line.ensures.value, c.line.ensures.line.some)) (c.blanks-behind.ensures ∙ ap blanks c.line-2.ensures.value) c.in_ok-from_slice.ensures
+    (omega (arith, c.requires)) next (omega (arith, ap length c.line.ensures.value, c.line.ensures.line.some)) (c.blanks-behind.ensures ∙ ap blanks c.line-2.ensures.value) c.in_ok-from_slice.ensures.copies
 
 pub returns-clause-ends : goal.returns-clause-ends
 returns-clause-ends c =
