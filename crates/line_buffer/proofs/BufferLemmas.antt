@@ -1,13 +1,13 @@
 -- Lemmas on the lines of a buffer and the flat text.
 use Rattle.std.proofs.Common.{◌≡◌, ◌≢◌, ℕ, zero, suc, ◌+◌, ◌-◌, ◌<◌, ◌≤◌, List, [], ◌∷◌, ◌++◌, length, take, drop, get_or, set, All, refl, sym, ap, subst, ◌∙◌, arith, ap₂, append_assoc, append-nil, length-append, length-take-le, length-drop, get_or-take, get_or-drop, drop_at, inl, inr, ◌⊎◌}
 use Rattle.std.proofs.Math.Seq.{take-append-add}
-use Rattle.std.proofs.lemmas.List.{get_or_append_left, get_or-append_right, set_split, take-append-le, drop-append-le, drop-drop}
+use Rattle.std.proofs.lemmas.List.{get_or_append_left, get_or-append_right, set_split, take-append-le, drop-append-le, drop-drop, drop_all}
 use Rattle.std.proofs.lemmas.List.Elements.{All-head, All-tail, All-append, All-take, All-drop, All-cons, All-nil}
 use Rattle.text_model.specs.declared.TheConstants.{MAX_CHARS}
 use Rattle.text_model.specs.Texts.{IsText, IsStored, IsLine, IsPlace, lines_of, joined, offset}
 use Rattle.text_model.specs.declared.coords.Coord.{Coord}
-use Rattle.text_model.proofs.PlaceLemmas.{All-lines_of, joined-split, offset-below, three_ways}
-use Rattle.text_model.proofs.LineLemmas.{joined-append, joined-lines_of, lines_of-joined}
+use Rattle.text_model.proofs.PlaceLemmas.{All-lines_of, joined-split, offset-below, some_lines, three_ways}
+use Rattle.text_model.proofs.LineLemmas.{joined-append, joined-lines_of, lines_of-joined, lines_of-line}
 use Rattle.text_model.proofs.ChangeLemmas.{IsText-append, IsText-drop, length-changed_insertion}
 use Rattle.line_buffer.specs.Buffer.{IsBuffer}
 
@@ -160,3 +160,54 @@ one_line line h = All-cons IsLine line [] h (All-nil IsLine)
 -- a line with any characters put in is a text
 pub longer_text : (l : List ℕ) (c : ℕ) (s : List ℕ) → IsLine l → c < length l → IsText (take c l ++ (s ++ drop c l))
 longer_text l c s h lt = IsText-append (take c l) (s ++ drop c l) (IsText-append s (drop c l) (IsText-drop l c (record { some = h.some; ended = h.ended }) lt))
+
+-- the begin of a line before the end of another
+pub joined_is_line : (l m : List ℕ) (a b : ℕ) → IsLine l → IsLine m → a < length l → b < length m → IsLine (take a l ++ drop b m)
+joined_is_line l m a b h k la lb =
+    let front : length (take a l) ≡ a = length-take-le a l (omega arith) in
+    let long : length (take a l ++ drop b m) ≡ a + (length m - b) = omega (arith, length-append (take a l) (drop b m), length-drop b m) in
+    let text : IsText (take a l ++ drop b m) = IsText-append (take a l) (drop b m) (IsText-drop m b (record { some = k.some; ended = k.ended }) lb) in
+    record {
+      some = text.some;
+      ended = text.ended;
+      only = λ i lt e. other i (omega arith) (three_ways i a) e;
+    }
+  where
+    other : (i : ℕ) → i + 1 < a + (length m - b) → (i < a) ⊎ ((i ≡ a) ⊎ (a < i)) → get_or (take a l ++ drop b m) i 0 ≢ 10
+    other i lt (inl before) e =
+        let front : length (take a l) ≡ a = length-take-le a l (omega arith) in
+        let inside : i < length (take a l) = omega arith in
+        h.only i (omega arith) (sym (get_or-take a l i 0 before) ∙ sym (get_or_append_left (take a l) (drop b m) 0 i inside) ∙ e)
+    other i lt (inr w) e =
+        let front : length (take a l) ≡ a = length-take-le a l (omega arith) in
+        let from : a ≤ i = elim w [ inl same ↦ omega arith | inr more ↦ omega arith ] in
+        k.only (b + (i - a)) (omega arith) (sym (get_or-drop b m (i - a) 0) ∙ sym (get_or-append_right (take a l) (drop b m) a i 0 front from) ∙ e)
+
+-- the end of a line is a line
+pub end_is_line : (l : List ℕ) (c : ℕ) → IsLine l → c < length l → IsLine (drop c l)
+end_is_line l c h lt = joined_is_line l l 0 c h h h.some lt
+
+-- a line's begin before a text makes one line with the first of its lines
+pub lines_of-longer : (l t f : List ℕ) (rest : List (List ℕ)) (c : ℕ) → IsLine l → c < length l → IsText t → lines_of t ≡ f ∷ rest → lines_of (take c l ++ t) ≡ (take c l ++ f) ∷ rest
+lines_of-longer l t f rest c h lt k e =
+    let P : List (List ℕ) → Type 0 = All IsLine in
+    let all : All IsLine (f ∷ rest) = subst P e (All-lines_of t k) in
+    let first : IsLine f = All-head IsLine f rest all in
+    let text : t ≡ f ++ joined rest = sym (joined-lines_of t) ∙ ap joined e in
+    ap (λ x. lines_of (take c l ++ x)) text ∙ ap lines_of (sym (append_assoc (take c l) f (joined rest))) ∙ lines_of-line (take c l ++ f) (joined rest) (joined_is_line l f c 0 h first lt first.some) ∙ ap (λ x. (take c l ++ f) ∷ x) (lines_of-joined rest (All-tail IsLine f rest all))
+
+-- a list of its first item and the others
+pub first_and_rest : {X : Type 0} (xs rest : List X) (x : X) → 0 < length xs → x ≡ get_or xs 0 x → rest ≡ take 0 xs ++ drop 1 xs → xs ≡ x ∷ rest
+first_and_rest [] rest x h e r = absurd (omega arith)
+first_and_rest (y ∷ ys) rest x h e r = ap₂ (λ v w. v ∷ w) (sym e) (sym r)
+
+-- the last line with characters put in: it gets the first of the new lines, and the others go behind it
+pub split_last : (front mid new fresh rest : List (List ℕ)) (n c : ℕ) (s first : List ℕ) → n + 1 ≡ length front → IsLine (get_or front n []) → c < length (get_or front n []) → fresh ≡ lines_of (s ++ drop c (get_or front n [])) → first ≡ get_or fresh 0 first → rest ≡ take 0 fresh ++ drop 1 fresh → mid ≡ set front n (take c (get_or front n []) ++ first) → new ≡ mid ++ rest → new ≡ take n front ++ lines_of (take c (get_or front n []) ++ (s ++ drop c (get_or front n [])))
+split_last front mid new fresh rest n c s first l h lt f e r m w =
+    let line : List ℕ = get_or front n [] in
+    let text : IsText (s ++ drop c line) = IsText-append s (drop c line) (IsText-drop line c (record { some = h.some; ended = h.ended }) lt) in
+    let some : 0 < length fresh = omega (arith, ap length f, some_lines (s ++ drop c line) text) in
+    let parts : fresh ≡ first ∷ rest = first_and_rest fresh rest first some e r in
+    let lines : lines_of (take c line ++ (s ++ drop c line)) ≡ (take c line ++ first) ∷ rest = lines_of-longer line (s ++ drop c line) first rest c h lt text (sym f ∙ parts) in
+    let none : drop (suc n) front ≡ [] = drop_all (suc n) front (omega arith) in
+    w ∙ ap (λ t. t ++ rest) (m ∙ set_split front n (take c line ++ first) (omega arith) ∙ ap (λ t. take n front ++ ((take c line ++ first) ∷ t)) none) ∙ append_assoc (take n front) ((take c line ++ first) ∷ []) rest ∙ ap (λ t. take n front ++ t) (sym lines)

@@ -11,31 +11,9 @@ use Rattle.text_model.proofs.LineLemmas.{joined-append}
 use Rattle.text_model.proofs.PlaceLemmas.{take-offset, drop-offset, offset-le, offset-below, char-at, nth_line_is_line, three_ways, coord_at-offset, coord_at-offset_or_end}
 use Rattle.text_model.proofs.ChangeLemmas.{IsText-append, IsText-drop, length-changed_erasure, move_of-change, taken_end_cases}
 use Rattle.line_buffer.specs.Buffer.{IsBuffer}
-use Rattle.line_buffer.proofs.BufferLemmas.{buffer_lines, seen_lines, is_buffer, set_is_replaced}
+use Rattle.line_buffer.proofs.BufferLemmas.{buffer_lines, seen_lines, is_buffer, set_is_replaced, joined_is_line}
 use Rattle.line_buffer.proofs.FlatLemmas.{line-le-count, place_by_column}
 use Rattle.line_buffer.proofs.StepLemmas.{offset-line_before}
-
--- the begin of a line before the end of another
-pub joined_is_line : (l m : List ℕ) (a b : ℕ) → IsLine l → IsLine m → a < length l → b < length m → IsLine (take a l ++ drop b m)
-joined_is_line l m a b h k la lb =
-    let front : length (take a l) ≡ a = length-take-le a l (omega arith) in
-    let long : length (take a l ++ drop b m) ≡ a + (length m - b) = omega (arith, length-append (take a l) (drop b m), length-drop b m) in
-    let text : IsText (take a l ++ drop b m) = IsText-append (take a l) (drop b m) (IsText-drop m b (record { some = k.some; ended = k.ended }) lb) in
-    record {
-      some = text.some;
-      ended = text.ended;
-      only = λ i lt e. other i (omega arith) (three_ways i a) e;
-    }
-  where
-    other : (i : ℕ) → i + 1 < a + (length m - b) → (i < a) ⊎ ((i ≡ a) ⊎ (a < i)) → get_or (take a l ++ drop b m) i 0 ≢ 10
-    other i lt (inl before) e =
-        let front : length (take a l) ≡ a = length-take-le a l (omega arith) in
-        let inside : i < length (take a l) = omega arith in
-        h.only i (omega arith) (sym (get_or-take a l i 0 before) ∙ sym (get_or_append_left (take a l) (drop b m) 0 i inside) ∙ e)
-    other i lt (inr w) e =
-        let front : length (take a l) ≡ a = length-take-le a l (omega arith) in
-        let from : a ≤ i = elim w [ inl same ↦ omega arith | inr more ↦ omega arith ] in
-        k.only (b + (i - a)) (omega arith) (sym (get_or-drop b m (i - a) 0) ∙ sym (get_or-append_right (take a l) (drop b m) a i 0 front from) ∙ e)
 
 -- lines whose text is a buffer's with a range taken out
 less_buffer : (text : List ℕ) (ls new : List (List ℕ)) (count gone p q : ℕ) → IsBuffer ls count → joined ls ≡ text → All IsLine new → 0 < length new → joined new ≡ changed text (Erasure p q) → p + gone ≡ q → q ≤ length text → IsBuffer new (count - gone)

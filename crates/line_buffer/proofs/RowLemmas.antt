@@ -1,6 +1,6 @@
 -- Lemmas on a list in two rows, the second one with its last item first.
-use Rattle.std.proofs.Common.{◌≡◌, ℕ, suc, ◌+◌, ◌-◌, ◌<◌, ◌≤◌, List, [], ◌∷◌, ◌++◌, reverse, length, take, drop, get_or, set, refl, sym, ap, ap₂, ◌∙◌, arith, append_assoc, length-append, length-drop, take_at, drop_at, take-append-drop, append-nil}
-use Rattle.std.proofs.lemmas.List.{reverse-append, reverse-reverse, length-reverse, get_or-append_right, get_or-reverse, set-append_right, set_split, set_at, set-get_or, set-append_left, get_or_read, get_or_append_left, drop-drop, take_all, drop_all}
+use Rattle.std.proofs.Common.{◌≡◌, ℕ, suc, ◌+◌, ◌-◌, ◌<◌, ◌≤◌, List, [], ◌∷◌, ◌++◌, reverse, length, take, drop, get_or, set, refl, sym, ap, ap₂, ◌∙◌, arith, append_assoc, length-append, length-take-le, length-drop, take_at, drop_at, take-append-drop, append-nil}
+use Rattle.std.proofs.lemmas.List.{reverse-append, reverse-reverse, length-reverse, get_or-append_right, get_or-reverse, set-append_right, set_split, set_at, set-get_or, set-append_left, get_or_read, get_or_append_left, drop-drop, take-append-le, take_all, drop_all}
 
 -- a list turned round, at an item
 reverse_at : {X : Type 0} (p : List X) (y : X) (q : List X) → reverse (p ++ (y ∷ q)) ≡ reverse q ++ (y ∷ reverse p)
@@ -38,17 +38,57 @@ reverse-take xs k h =
 pub both : {X : Type 0} (front back old : List X) → front ++ reverse back ≡ old → length old ≡ length front + length back
 both front back old v = ap length (sym v) ∙ length-append front (reverse back) ∙ ap (λ n. length front + n) (length-reverse back)
 
--- items put at the end of the first row, and some taken from the end of the second
-pub replaced : {X : Type 0} (old front back fresh : List X) (from to : ℕ) → front ++ reverse back ≡ old → length front ≡ from → from ≤ to → to ≤ length old → (front ++ fresh) ++ reverse (take (length back - (to - from)) back) ≡ take from old ++ (fresh ++ drop to old)
-replaced old front back fresh from to v l h k =
+-- what is behind the gap, with some taken from its begin
+pub behind_gap : {X : Type 0} (old front back : List X) (from to : ℕ) → front ++ reverse back ≡ old → length front ≡ from → from ≤ to → to ≤ length old → reverse (take (length back - (to - from)) back) ≡ drop to old
+behind_gap old front back from to v l h k =
     let whole : length old ≡ length front + length back = both front back old v in
-    let before : take from old ≡ front = ap (take from) (sym v) ∙ take_at front (reverse back) from l in
     let all : drop from old ≡ reverse back = ap (drop from) (sym v) ∙ drop_at front (reverse back) from l in
     let sum : from + (to - from) ≡ to = omega arith in
     let back_by : length back - (length back - (to - from)) ≡ to - from = omega arith in
-    let behind : drop to old ≡ reverse (take (length back - (to - from)) back) =
-    ap (λ n. drop n old) (sym sum) ∙ sym (drop-drop (to - from) from old) ∙ ap (drop (to - from)) all ∙ ap (λ n. drop n (reverse back)) (sym back_by) ∙ sym (reverse-take back (length back - (to - from)) (omega arith)) in
-    append_assoc front fresh (reverse (take (length back - (to - from)) back)) ∙ sym (ap₂ (λ x y. x ++ (fresh ++ y)) before behind)
+    sym (ap (λ n. drop n old) (sym sum) ∙ sym (drop-drop (to - from) from old) ∙ ap (drop (to - from)) all ∙ ap (λ n. drop n (reverse back)) (sym back_by) ∙ sym (reverse-take back (length back - (to - from)) (omega arith)))
+
+-- items put at the end of the first row, and some taken from the end of the second
+pub replaced : {X : Type 0} (old front back fresh : List X) (from to : ℕ) → front ++ reverse back ≡ old → length front ≡ from → from ≤ to → to ≤ length old → (front ++ fresh) ++ reverse (take (length back - (to - from)) back) ≡ take from old ++ (fresh ++ drop to old)
+replaced old front back fresh from to v l h k =
+    let before : take from old ≡ front = ap (take from) (sym v) ∙ take_at front (reverse back) from l in
+    append_assoc front fresh (reverse (take (length back - (to - from)) back)) ∙ ap₂ (λ x y. x ++ (fresh ++ y)) (sym before) (behind_gap old front back from to v l h k)
+
+-- the last item of the first row and those up to one of the second become one item
+pub joined_rows : {X : Type 0} (old front new back less : List X) (m n : ℕ) (x : X) → front ++ reverse back ≡ old → length front ≡ m + 1 → m < n → n < length old → new ≡ set front m x → less ≡ take (length back - (n - m)) back → new ++ reverse less ≡ take m old ++ (x ∷ drop (n + 1) old)
+joined_rows old front new back less m n x v l h k e t =
+    let gone : n - m ≡ n + 1 - (m + 1) = omega arith in
+    let before : take m front ≡ take m old = sym (take-append-le m front (reverse back) (omega arith)) ∙ ap (take m) v in
+    let none : drop (suc m) front ≡ [] = drop_all (suc m) front (omega arith) in
+    let behind : reverse less ≡ drop (n + 1) old = ap reverse (t ∙ ap (λ d. take (length back - d) back) gone) ∙ behind_gap old front back (m + 1) (n + 1) v l (omega arith) (omega arith) in
+    ap₂ (λ a b. a ++ b) (e ∙ set_split front m x (omega arith) ∙ ap₂ (λ a b. a ++ (x ∷ b)) before none) behind ∙ append_assoc (take m old) (x ∷ []) (drop (n + 1) old)
+
+-- the last item of the first row becomes some
+pub split_rows : {X : Type 0} (old front new back some : List X) (n : ℕ) → front ++ reverse back ≡ old → length front ≡ n + 1 → new ≡ take n front ++ some → new ++ reverse back ≡ take n old ++ (some ++ drop (n + 1) old)
+split_rows old front new back some n v l e =
+    let before : take n front ≡ take n old = sym (take-append-le n front (reverse back) (omega arith)) ∙ ap (take n) v in
+    let behind : reverse back ≡ drop (n + 1) old = sym (drop_at front (reverse back) (n + 1) l) ∙ ap (drop (n + 1)) v in
+    ap₂ (λ a b. a ++ b) (e ∙ ap (λ a. a ++ some) before) behind ∙ append_assoc (take n old) some (drop (n + 1) old)
+
+-- an item before the gap
+pub last-front : {X : Type 0} (front back old : List X) (n : ℕ) (d : X) → front ++ reverse back ≡ old → length front ≡ n + 1 → get_or front n d ≡ get_or old n d
+last-front front back old n d v l = sym (get_or_append_left front (reverse back) d n (omega arith)) ∙ ap (λ t. get_or t n d) v
+
+-- items turned to the end of a row, and cut off there
+pub turned_off : (row turned new : List ℕ) (from to left : ℕ) → from ≤ to → to ≤ length row → left ≡ length row - (to - from) → turned ≡ take from row ++ (drop (to - from) (drop from row) ++ take (to - from) (drop from row)) → new ≡ take left (take (length row) (turned ++ drop (length turned) row)) → new ≡ take from row ++ drop to row
+turned_off row turned new from to left h k l t n =
+    let gone : List ℕ = take (to - from) (drop from row) in
+    let sum : from + (to - from) ≡ to = omega arith in
+    let back : drop (to - from) (drop from row) ≡ drop to row = drop-drop (to - from) from row ∙ ap (λ m. drop m row) sum in
+    let parts : turned ≡ (take from row ++ drop to row) ++ gone = t ∙ ap (λ x. take from row ++ (x ++ gone)) back ∙ sym (append_assoc (take from row) (drop to row) gone) in
+    let short : length (take from row ++ drop to row) ≡ left = omega (arith, length-append (take from row) (drop to row), length-take-le from row (omega arith), length-drop to row) in
+    let some : length gone ≡ to - from = length-take-le (to - from) (drop from row) (omega (arith, length-drop from row)) in
+    let long : length turned ≡ length row = omega (arith, ap length parts, length-append (take from row ++ drop to row) gone, short, some) in
+    n ∙ ap (take left) (take_at turned (drop (length turned) row) (length row) long ∙ parts) ∙ take_at (take from row ++ drop to row) gone left short
+
+-- items put behind a row, and those between a place and its end cut out
+pub ended_as : {X : Type 0} (row end mid new : List X) (from to : ℕ) → from ≤ to → to ≡ length row → mid ≡ row ++ end → new ≡ take from mid ++ drop to mid → new ≡ take from row ++ end
+ended_as row end mid new from to h l m n =
+    n ∙ ap₂ (λ a b. a ++ b) (ap (take from) m ∙ take-append-le from row end (omega arith)) (ap (drop to) m ∙ drop_at row end to (sym l))
 
 -- the last item of one row moved to the end of the other
 pub one_poured : {X : Type 0} (from less onto more : List X) (x : X) → from ≡ less ++ (x ∷ []) → more ≡ onto ++ (x ∷ []) → less ++ reverse more ≡ from ++ reverse onto

@@ -1,25 +1,17 @@
 //! Characters put together, and cut into lines.
 
-ghost use Rattle.std.specs.Prelude.{◌≡◌, ◌+◌, ◌<◌, ◌≤◌, ◌++◌, ◌^◌, ◌∷◌, [], length, IfOk, if◌then◌else◌};
+ghost use Rattle.std.specs.Prelude.{◌≡◌, ◌++◌, IfOk};
 ghost use Rattle.text_model.specs.Texts.{IsText, lines_of};
-ghost use Rattle.text_model.specs.Changes.{ended};
 
 use crate::line::Line;
 use std::alloc::{AllocError, Global};
 
-/// A slice between two others.
-pub fn gathered(
-    alloc: Global,
-    front: &[char],
-    middle: &[char],
-    back: &[char],
-) -> Result<Vec<char>, AllocError>
-    requires { length front.now + length middle.now + length back.now < 2 ^ 63 }
-    ensures { IfOk result (λ all. all.items ≡ front.now ++ (middle.now ++ back.now)) }
+/// A slice with another behind it.
+pub fn gathered(alloc: Global, front: &[char], back: &[char]) -> Result<Vec<char>, AllocError>
+    ensures { IfOk result (λ all. all.items ≡ front.now ++ back.now) }
 {
-    let mut all = Vec::with_capacity(alloc, front.len() + middle.len() + back.len())?;
+    let mut all = Vec::with_capacity(alloc, front.len() + back.len())?;
     all.extend_from_slice(front)?;
-    all.extend_from_slice(middle)?;
     all.extend_from_slice(back)?;
     Ok(all)
 }

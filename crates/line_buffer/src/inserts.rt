@@ -84,7 +84,7 @@ impl Lines {
         if chars.len() >= MAX_CHARS - self.len() {
             return Err(LinesError::TextFull);
         }
-        let lines = gathered(alloc, chars, &['\n'], &[])?;
+        let lines = gathered(alloc, chars, &['\n'])?;
         self.put_whole(alloc, lines.as_slice())
     }
 

@@ -3,14 +3,15 @@
 ghost use Rattle.std.specs.Prelude.{◌≡◌, ◌≢◌, ◌<◌, ◌≤◌, ◌++◌, length, take, drop, All, IfOk, OnOk, OnErr};
 ghost use Rattle.text_model.specs.Texts.{IsLine};
 
-use crate::turns::{cut_out, put_at};
+use crate::turns::{SHORT, cut_out};
+use smallvec::SmallVec;
 use std::alloc::{AllocError, Global};
 use std::marker::Model;
 
-/// A line: its last character is a newline, and no other is.
+/// A line: its last character is a newline, and no other is. With at most `SHORT` characters it takes no memory of its own.
 #[derive(Drop, Debug)]
 pub struct Line {
-    chars: Vec<char>,
+    chars: SmallVec<char, SHORT>,
 }
 
 impl Model for Line {
@@ -25,21 +26,13 @@ impl Model for Line {
 }
 
 impl Line {
-    /// The line of these characters; takes no memory.
-    pub fn of_vec(chars: Vec<char>) -> Line
-        requires { IsLine chars.items }
-        ensures { result ≡ chars.items }
-    {
-        Line { chars }
-    }
-
     /// A line that holds a copy of these characters.
     pub fn of_slice(alloc: Global, chars: &[char]) -> Result<Line, AllocError>
         requires { IsLine chars.now }
         ensures { IfOk result (λ line. line ≡ chars.now) }
     {
         Ok(Line {
-            chars: Vec::from_slice(alloc, chars)?,
+            chars: SmallVec::from_slice(alloc, chars)?,
         })
     }
 
@@ -50,7 +43,7 @@ impl Line {
         ensures ok { OnOk result (self.new ≡ take column self.old ++ (chars.now ++ drop column self.old)) }
         ensures err { OnErr result (self.new ≡ self.old) }
     {
-        put_at(&mut self.chars, column, chars)?;
+        self.chars.insert_from_slice(column, chars)?;
         Ok(())
     }
 
@@ -61,6 +54,30 @@ impl Line {
         ensures { self.new ≡ take from self.old ++ drop to self.old }
     {
         cut_out(&mut self.chars, from, to);
+    }
+
+    /// Ends the line at a column as another does. It costs the new end and the old one, and not what stands before the
+    /// column.
+    pub fn end_as(&mut self, column: usize, end: &[char]) -> Result<(), AllocError>
+        requires inside { column < length self.old }
+        requires line { IsLine end.now }
+        ensures ok { OnOk result (self.new ≡ take column self.old ++ end.now) }
+        ensures err { OnErr result (self.new ≡ self.old) }
+    {
+        let len = self.chars.len();
+        self.chars.extend_from_slice(end)?;
+        cut_out(&mut self.chars, column, len);
+        Ok(())
+    }
+
+    /// What stands from a column on, which is a line too.
+    pub fn rest(&self, column: usize) -> &[char]
+        requires { column < length self.now }
+        ensures value { result.now ≡ drop column self.now }
+        ensures line { IsLine result.now }
+        ensures valid { IsLine self.now }
+    {
+        &self.chars.as_slice()[column..]
     }
 
     /// The characters.

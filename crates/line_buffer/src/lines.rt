@@ -5,8 +5,7 @@ ghost use Rattle.text_model.specs.Texts.{IsStored, IsText, IsLine, IsPlace, join
 ghost use Rattle.text_model.specs.Changes.{changed, Insertion, Erasure};
 ghost use Rattle.line_buffer.specs.declared.lines.LinesError.TheVariants.{NoMemory};
 
-use crate::cuts::{cut, gathered};
-use crate::line::Line;
+use crate::cuts::cut;
 use crate::rows::Rows;
 use kak_text::{Coord, MAX_CHARS, Text};
 use std::alloc::{AllocError, Global};
@@ -103,7 +102,8 @@ impl Lines {
         Ok(())
     }
 
-    // Puts characters in at a place.
+    // Puts characters in at a place. It costs them, what stands behind on the line, and the lines between here and the
+    // change before.
     pub(crate) fn put_lines(
         &mut self,
         alloc: Global,
@@ -115,14 +115,8 @@ impl Lines {
         ensures ok { OnOk result (self.new ≡ changed self.old (Insertion (offset self.old at) chars.now)) }
         ensures err { OnErr result (self.new ≡ self.old) }
     {
-        let fresh = split_line(
-            alloc,
-            self.line(at.line as usize),
-            at.column as usize,
-            chars,
-        )?;
-        let line = at.line as usize;
-        self.lines.replace(line, line + 1, fresh)?;
+        self.lines
+            .split(alloc, at.line as usize, at.column as usize, chars)?;
         self.count += chars.len();
         Ok(())
     }
@@ -153,10 +147,10 @@ impl Lines {
         self.count -= (to.column - from.column) as usize;
     }
 
-    // Takes so many characters out, from a place to before one on a later line.
+    // Takes so many characters out, from a place to before one on a later line. It costs what stands behind both on their
+    // lines, the lines that go, and the lines between here and the change before.
     pub(crate) fn join_lines(
         &mut self,
-        alloc: Global,
         from: Coord,
         to: Coord,
         gone: usize,
@@ -168,15 +162,12 @@ impl Lines {
         ensures ok { OnOk result (self.new ≡ changed self.old (Erasure (offset self.old from) (offset self.old to))) }
         ensures err { OnErr result (self.new ≡ self.old) }
     {
-        let fresh = joined_line(
-            alloc,
-            self.line(from.line as usize),
+        self.lines.join(
+            from.line as usize,
             from.column as usize,
-            self.line(to.line as usize),
+            to.line as usize,
             to.column as usize,
         )?;
-        self.lines
-            .replace(from.line as usize, to.line as usize + 1, fresh)?;
         self.count -= gone;
         Ok(())
     }
@@ -201,44 +192,4 @@ impl Lines {
         self.count -= gone;
         Ok(())
     }
-}
-
-// The begin of a line before the end of another, as the only line.
-fn joined_line(
-    alloc: Global,
-    first: &[char],
-    from: usize,
-    last: &[char],
-    to: usize,
-) -> Result<Vec<Line>, AllocError>
-    requires first { IsLine first.now }
-    requires last { IsLine last.now }
-    requires from { from < length first.now }
-    requires to { to < length last.now }
-    requires small { length first.now + length last.now ≤ 2 * MAX_CHARS }
-    ensures { IfOk result (λ lines. lines.items ≡ (take from first.now ++ drop to last.now) ∷ []) }
-{
-    let line = Line::of_vec(gathered(alloc, &first[..from], &last[to..], &[])?);
-    let mut lines = Vec::new(alloc);
-    lines.push(line)?;
-    Ok(lines)
-}
-
-// The lines that a line becomes when characters are put in.
-fn split_line(
-    alloc: Global,
-    line: &[char],
-    column: usize,
-    chars: &[char],
-) -> Result<Vec<Line>, AllocError>
-    requires line { IsLine line.now }
-    requires inside { column < length line.now }
-    requires small { length line.now + length chars.now ≤ 2 * MAX_CHARS }
-    ensures text { IfOk result (λ lines. joined lines.items ≡ take column line.now ++ (chars.now ++ drop column line.now)) }
-    ensures lines { IfOk result (λ lines. All IsLine lines.items) }
-    ensures some { IfOk result (λ lines. 0 < length lines.items) }
-{
-    let (front, back) = line.split_at(column);
-    let text = gathered(alloc, front, chars, back)?;
-    cut(alloc, text.as_slice())
 }

@@ -1,10 +1,12 @@
 //! The lines of a text as two rows, with a gap between them where the last change was. They are seen as one list, so
 //! nobody can tell where the gap is. Reading a line moves nothing, and nor does a change within one. Lines that are put
-//! in or taken out move the gap to their place, one step for each line between: changes whose places rise, or fall,
-//! move each line over once.
+//! in, taken out, joined or split move the gap to their place, one step for each line between: changes whose places
+//! rise, or fall, move each line over once. A line that is joined with a later one, or split, keeps its begin where it is.
 
-ghost use Rattle.std.specs.Prelude.{◌≡◌, ◌≢◌, ◌+◌, ◌<◌, ◌≤◌, ◌^◌, ◌++◌, [], length, take, drop, reverse, slice_index_or, slice_set, All, OnOk, OnErr};
+ghost use Rattle.std.specs.Prelude.{◌≡◌, ◌≢◌, ◌+◌, ◌<◌, ◌≤◌, ◌^◌, ◌++◌, ◌∷◌, [], length, take, drop, reverse, slice_index_or, slice_set, vec_capacity, All, IfOk, OnOk, OnErr};
+ghost use Rattle.text_model.specs.Texts.{IsLine, IsText, lines_of};
 
+use crate::cuts::{cut, gathered};
 use crate::line::Line;
 use std::alloc::{AllocError, Global};
 use std::marker::Model;
@@ -88,6 +90,50 @@ impl Rows {
         line.cut(from, to);
     }
 
+    /// Ends a line at a column as a later one does from a column on, and takes those behind it up to the later one out. It
+    /// costs the two ends, the lines that go, and the lines between here and the change before, and not what stands
+    /// before the first column. After an error the lines are as they were.
+    pub fn join(
+        &mut self,
+        first: usize,
+        column: usize,
+        last: usize,
+        from: usize,
+    ) -> Result<(), AllocError>
+        requires ordered { first < last }
+        requires inside { last < length self.old }
+        requires column { column < length (slice_index_or self.old first []) }
+        requires from { from < length (slice_index_or self.old last []) }
+        ensures ok { OnOk result (self.new ≡ take first self.old ++ ((take column (slice_index_or self.old first []) ++ drop from (slice_index_or self.old last [])) ∷ drop (last + 1) self.old)) }
+        ensures err { OnErr result (self.new ≡ self.old) }
+    {
+        move_gap(&mut self.front, &mut self.back, first + 1)?;
+        let place = self.back.len() - (last - first);
+        let line = &self.back[place];
+        end_line(&mut self.front, first, column, line.rest(from))?;
+        self.back.truncate(place);
+        Ok(())
+    }
+
+    /// Puts characters into a line at a column, which makes lines of it. It costs them, what stands behind the column, and
+    /// the lines between here and the change before, and not what stands before the column. After an error the lines
+    /// are as they were.
+    pub fn split(
+        &mut self,
+        alloc: Global,
+        n: usize,
+        column: usize,
+        chars: &[char],
+    ) -> Result<(), AllocError>
+        requires inside { n < length self.old }
+        requires column { column < length (slice_index_or self.old n []) }
+        ensures ok { OnOk result (self.new ≡ take n self.old ++ (lines_of (take column (slice_index_or self.old n []) ++ (chars.now ++ drop column (slice_index_or self.old n []))) ++ drop (n + 1) self.old)) }
+        ensures err { OnErr result (self.new ≡ self.old) }
+    {
+        move_gap(&mut self.front, &mut self.back, n + 1)?;
+        split_last(alloc, &mut self.front, n, column, chars)
+    }
+
     /// Puts lines in the place of those from one to before another. It costs these, and the lines between their place and
     /// that of the change before. After an error the lines are as they were.
     pub fn replace(
@@ -107,6 +153,56 @@ impl Rows {
         self.back.truncate(left);
         Ok(())
     }
+}
+
+// Ends the n-th line at a column as another does.
+fn end_line(front: &mut Vec<Line>, n: usize, column: usize, end: &[char]) -> Result<(), AllocError>
+    requires inside { n < length front.old.items }
+    requires column { column < length (slice_index_or front.old.items n []) }
+    requires line { IsLine end.now }
+    ensures ok { OnOk result (front.new.items ≡ slice_set front.old.items n (take column (slice_index_or front.old.items n []) ++ end.now)) }
+    ensures err { OnErr result (front.new.items ≡ front.old.items) }
+    ensures room { vec_capacity front.new ≡ vec_capacity front.old }
+{
+    let line = &mut front[n];
+    line.end_as(column, end)
+}
+
+// Puts characters into the last line at a column, which makes lines of it. Room for them is made before.
+fn split_last(
+    alloc: Global,
+    front: &mut Vec<Line>,
+    n: usize,
+    column: usize,
+    chars: &[char],
+) -> Result<(), AllocError>
+    requires last { n + 1 ≡ length front.old.items }
+    requires column { column < length (slice_index_or front.old.items n []) }
+    ensures ok { OnOk result (front.new.items ≡ take n front.old.items ++ lines_of (take column (slice_index_or front.old.items n []) ++ (chars.now ++ drop column (slice_index_or front.old.items n [])))) }
+    ensures err { OnErr result (front.new.items ≡ front.old.items) }
+{
+    let mut fresh = split_off(alloc, &front[n], column, chars)?;
+    front.reserve(fresh.len())?;
+    let first = fresh.remove(0);
+    end_line(front, n, column, first.as_slice())?;
+    front.append(&mut fresh)?;
+    Ok(())
+}
+
+// The lines of characters with the end of a line behind them.
+fn split_off(
+    alloc: Global,
+    line: &Line,
+    column: usize,
+    chars: &[char],
+) -> Result<Vec<Line>, AllocError>
+    requires { column < length line.now }
+    ensures lines { IfOk result (λ lines. lines.items ≡ lines_of (chars.now ++ drop column line.now)) }
+    ensures text { IsText (chars.now ++ drop column line.now) }
+    ensures valid { IsLine line.now }
+{
+    let text = gathered(alloc, chars, line.rest(column))?;
+    cut(alloc, text.as_slice())
 }
 
 // Moves the gap to before a line, which nobody sees.

@@ -23,6 +23,18 @@ fn whole(alloc: Global, lines: &Lines) -> Result<String, Fail> {
     Ok(out)
 }
 
+// The lines as a string, with a bar behind each.
+fn barred(alloc: Global, lines: &Lines) -> Result<String, Fail> {
+    let mut out = String::new(alloc);
+    for n in 0..lines.line_count() {
+        for c in lines.line(n) {
+            out.push(*c)?;
+        }
+        out.push_str("|")?;
+    }
+    Ok(out)
+}
+
 // A row of an insertion: the text before, the offset, what is put in, and the text after with the shift's end.
 #[derive(Drop)]
 struct Row {
@@ -255,6 +267,35 @@ fn newlines_go_in_and_out_at_places_that_rise_and_fall(rt: HostRuntime) -> Resul
             text.erase(alloc, from, to)?;
         }
         assert_eq!(rt; whole(alloc, &text)?.as_str(), *after);
+    }
+    Ok(())
+}
+
+#[test]
+fn lines_are_joined_and_split_in_place(rt: HostRuntime) -> Result<(), Fail> {
+    let alloc = rt.alloc();
+    let mut text = lines(alloc, "abcdef\ngh\nij\nkl\n")?;
+    let steps = [
+        (6, 7, "", "abcdefgh\n|ij\n|kl\n|"),
+        (2, 10, "", "abj\n|kl\n|"),
+        (1, 1, "x\nyz\n", "ax\n|yz\n|bj\n|kl\n|"),
+        (10, 10, "\n", "ax\n|yz\n|bj\n|k\n|l\n|"),
+        (5, 11, "", "ax\n|yzl\n|"),
+        (0, 0, "\n\n", "\n|\n|ax\n|yzl\n|"),
+        (0, 2, "", "ax\n|yzl\n|"),
+    ];
+    for (from, to, put, after) in &steps {
+        assert!(rt; *from <= *to);
+        assert!(rt; *to < text.len());
+        let from = text.coord_of(*from);
+        let to = text.coord_of(*to);
+        if put.is_empty() {
+            text.erase(alloc, from, to)?;
+        } else {
+            let chars = Chars::from_str(alloc, put)?;
+            text.insert(alloc, from, chars.as_slice())?;
+        }
+        assert_eq!(rt; barred(alloc, &text)?.as_str(), *after);
     }
     Ok(())
 }
