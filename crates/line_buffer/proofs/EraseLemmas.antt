@@ -1,15 +1,15 @@
 -- Lemmas on erasures at coordinates.
-use Rattle.std.proofs.Common.{◌≡◌, ◌≢◌, ℕ, suc, ◌+◌, ◌-◌, ◌<◌, ◌≤◌, set, slice_range, drop_at, Bool, true, false, cond, not, ◌&&◌, eqb, ltb, inl, inr, ◌⊎◌, List, [], ◌∷◌, ◌++◌, length, take, drop, get_or, All, refl, sym, ap, ap₂, subst, ◌∙◌, arith, append_assoc, append-nil, length-append, length-take-le, length-drop, take_at, take-append-drop, get_or-take, get_or-drop, eq-eqb, ne_eqb, eqb-true, lt-ltb, ltb-true, ltb-false}
+use Rattle.std.proofs.Common.{◌≡◌, ◌≢◌, ℕ, suc, ◌+◌, ◌-◌, ◌<◌, ◌≤◌, set, slice_range, drop_at, Bool, true, false, cond, not, ◌&&◌, eqb, ltb, inl, inr, List, [], ◌∷◌, ◌++◌, length, take, drop, get_or, All, refl, sym, ap, ap₂, subst, ◌∙◌, arith, append_assoc, append-nil, length-append, length-take-le, length-drop, take_at, take-append-drop, eq-eqb, ne_eqb, eqb-true, lt-ltb, ltb-true, ltb-false}
 use Rattle.std.proofs.lemmas.Bool.{eqb-false}
-use Rattle.std.proofs.lemmas.List.{drop_all, get_or_append_left, get_or-append_right, set_split, take-append-le, take-take}
+use Rattle.std.proofs.lemmas.List.{drop_all, set_split, take-append-le, take-take}
 use Rattle.std.proofs.lemmas.List.Elements.{All-append, All-take, All-drop, All-cons}
 use Rattle.text_model.specs.declared.coords.Coord.{Coord}
 use Rattle.text_model.specs.Texts.{IsText, IsStored, IsLine, IsPlace, IsPlaceOrEnd, lines_of, joined, offset, coord_at, last_place}
 use Rattle.text_model.specs.Changes.{begins_line, taken_end, changed, Erasure, move_of, IsCut, IsShift}
 use Rattle.text_model.proofs.CoordLemmas.{test_cases}
 use Rattle.text_model.proofs.LineLemmas.{joined-append}
-use Rattle.text_model.proofs.PlaceLemmas.{take-offset, drop-offset, offset-le, offset-below, char-at, nth_line_is_line, three_ways, coord_at-offset, coord_at-offset_or_end}
-use Rattle.text_model.proofs.ChangeLemmas.{IsText-append, IsText-drop, length-changed_erasure, move_of-change, taken_end_cases}
+use Rattle.text_model.proofs.PlaceLemmas.{take-offset, drop-offset, offset-le, offset-below, char-at, nth_line_is_line, coord_at-offset, coord_at-offset_or_end}
+use Rattle.text_model.proofs.ChangeLemmas.{length-changed_erasure, move_of-change, taken_end_cases}
 use Rattle.line_buffer.specs.Buffer.{IsBuffer}
 use Rattle.line_buffer.proofs.BufferLemmas.{buffer_lines, seen_lines, is_buffer, set_is_replaced, joined_is_line}
 use Rattle.line_buffer.proofs.FlatLemmas.{line-le-count, place_by_column}
