@@ -19,14 +19,15 @@ IsOpen own other xs depth = times other xs + depth ≡ times own xs
 abbrev pub depth_by : ℕ → ℕ → ℕ → ℕ → ℕ
 depth_by depth c own other = if c == own then depth + 1 else (if c == other then depth - 1 else depth)
 
-one : ℕ → ℕ → ℕ
+-- how many times it is there as one character
+pub one : ℕ → ℕ → ℕ
 one a c = cond (eqb c a) 1 0
 
-one-same : (a c : ℕ) → eqb c a ≡ true → one a c ≡ 1
+pub one-same : (a c : ℕ) → eqb c a ≡ true → one a c ≡ 1
 unfolding one
 one-same a c e = ap (λ b. cond b 1 0) e
 
-one-other : (a c : ℕ) → eqb c a ≡ false → one a c ≡ 0
+pub one-other : (a c : ℕ) → eqb c a ≡ false → one a c ≡ 0
 unfolding one
 one-other a c e = ap (λ b. cond b 1 0) e
 
@@ -34,7 +35,7 @@ times-behind : (a c : ℕ) (xs : List ℕ) → times a (xs ++ c ∷ []) ≡ time
 unfolding one
 times-behind a c xs = sum_by-append (λ x. cond (eqb x a) 1 0) xs (c ∷ []) ∙ omega arith
 
-times-before : (a c : ℕ) (xs : List ℕ) → times a (c ∷ xs) ≡ times a xs + one a c
+pub times-before : (a c : ℕ) (xs : List ℕ) → times a (c ∷ xs) ≡ times a xs + one a c
 unfolding one
 times-before a c xs = sum_by-append (λ x. cond (eqb x a) 1 0) (c ∷ []) xs ∙ omega arith
 

@@ -48,8 +48,8 @@ fn find_bracket(lines: &Lines, from: Coord) -> Option<Coord>
     None
 }
 
-// How many brackets stand open after a character.
-fn depth_after(depth: usize, c: char, own: char, other: char) -> usize
+/// How many brackets stand open after a character, by how many do before it: `own` opens one more, and `other` closes one.
+pub fn depth_after(depth: usize, c: char, own: char, other: char) -> usize
     requires some { 0 < depth }
     requires small { depth ≤ MAX_CHARS }
     ensures { result ≡ (if c == own then depth + 1 else (if c == other then depth - 1 else depth)) }
@@ -63,8 +63,9 @@ fn depth_after(depth: usize, c: char, own: char, other: char) -> usize
     depth
 }
 
-// The first place behind a bracket up to which as many of its kind close as open.
-fn match_ahead(lines: &Lines, from: Coord, own: char, other: char) -> Option<Coord>
+/// The first place behind a bracket up to which as many of its kind close as open; none where there is no such place. It
+/// costs the text up to there.
+pub fn match_ahead(lines: &Lines, from: Coord, own: char, other: char) -> Option<Coord>
     requires place { IsPlace lines.now from }
     requires small { length lines.now ≤ MAX_CHARS }
     requires own { slice_index lines.now (offset lines.now from) ≡ own }

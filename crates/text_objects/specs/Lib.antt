@@ -4,7 +4,9 @@ pub mod LineObjects
 pub mod CharKinds
 pub mod LineKinds
 pub mod Sentences
+pub mod SentenceSteps
 pub mod Pairs
+pub mod Unclosed
 pub mod Objects
 pub mod RunExamples
 pub mod LineExamples
