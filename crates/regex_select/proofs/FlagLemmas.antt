@@ -1,12 +1,11 @@
 -- Selections by flags.
-use Rattle.std.proofs.Common.{◌≡◌, ℕ, zero, suc, ◌+◌, ◌-◌, ◌<◌, ◌≤◌, Bool, true, false, cond, List, [], ◌∷◌, ◌++◌, length, take, get_or, map, filter, refl, sym, ap, subst, ◌∙◌, arith, append_assoc, add-one}
+use Rattle.std.proofs.Common.{◌≡◌, ℕ, zero, suc, ◌+◌, ◌-◌, ◌<◌, ◌≤◌, Bool, true, false, cond, List, [], ◌∷◌, ◌++◌, length, take, get_or, map, filter, refl, sym, ap, ◌∙◌, arith, add-one}
 use Rattle.std.specs.Prelude.{if◌then◌else◌}
-use Rattle.std.specs.List.{AllByRecursion}
 use Rattle.std.proofs.lemmas.Bool.{false≢true}
 use Rattle.std.proofs.lemmas.List.{take-map, get_or-map, length-map}
 use Rattle.list_model.specs.Ranges.{Range, Selected, only}
 use Rattle.selection_set.specs.declared.sel.Sel.{Sel}
-use Rattle.selection_set.specs.Inside.{range_of, IsInside}
+use Rattle.selection_set.specs.Inside.{range_of}
 use Rattle.selection_set.specs.Listing.{AreInside, ranges_of}
 use Rattle.selection_set.specs.Held.{main_of}
 use Rattle.regex_select.specs.Flags.{flagged, count_set, place_set}

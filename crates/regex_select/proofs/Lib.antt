@@ -1,3 +1,5 @@
 pub mod MatchLemmas
 pub mod EachLemmas
 pub mod FlagLemmas
+pub mod WalkLemmas
+pub mod MatchedLemmas

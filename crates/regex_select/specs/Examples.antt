@@ -3,6 +3,7 @@ use Rattle.std.specs.Prelude.{◌≡◌, ℕ, true, false, None, Some, List, [],
 use Rattle.list_model.specs.Ranges.{Range, Selected, only}
 use Rattle.regex_ports.specs.declared.pattern.Span.{Span}
 use Rattle.regex_select.specs.Rows.{chars_of, is_some_span, kept_each}
+use Rattle.regex_select.specs.Selecting.{chars_before, selected_by, selected_by_all, matched_each}
 
 -- a turned selection with a target
 abbrev pub aimed : ℕ → ℕ → Range
@@ -24,3 +25,22 @@ pub record KeptExamples : Type 0 where
   pub main_stays : kept_each (λ r. nat_lt r.low 5) (listed (only 0 ∷ aimed 2 4 ∷ only 6 ∷ []) 1) ≡ listed (only 0 ∷ aimed 2 4 ∷ []) 1
   pub one_before_it_goes : kept_each (λ r. nat_lt 1 r.low) (listed (only 0 ∷ aimed 2 4 ∷ only 6 ∷ []) 1) ≡ listed (aimed 2 4 ∷ only 6 ∷ []) 0
   pub last_becomes_main : kept_each (λ r. nat_lt 1 r.low) (listed (only 0 ∷ aimed 2 4 ∷ only 6 ∷ []) 0) ≡ listed (aimed 2 4 ∷ only 6 ∷ []) 1
+
+-- a match by its first byte and the one behind its last
+abbrev pub match : ℕ → ℕ → Span
+match a b = record { start = a; end = b }
+
+-- a straight selection without a target
+abbrev pub straight : ℕ → ℕ → Range
+straight a b = record { low = a; high = b; turned = false; target = None }
+
+-- 0xe9 has two bytes. The matches of `a*` in `ab` with its newline are those of `empty_ones`
+pub record MatchedExamples : Type 0 where
+  pub bytes_of_one : chars_before (0xe9 ∷ codes "b") 2 ≡ 1
+  pub bytes_of_two : chars_before (0xe9 ∷ codes "b") 3 ≡ 2
+  pub range : selected_by (codes "abc\n") 4 (match 1 3) ≡ straight 5 6 ∷ []
+  pub range_of_wide_ones : selected_by (0xe9 ∷ codes "bc\n") 4 (match 0 3) ≡ straight 4 5 ∷ []
+  pub empty_one : selected_by (codes "ab\n") 4 (match 1 1) ≡ only 5 ∷ []
+  pub empty_at_the_end : selected_by (codes "ab") 4 (match 2 2) ≡ []
+  pub empty_ones : selected_by_all (codes "ab\n") 0 (match 0 1 ∷ match 2 2 ∷ match 3 3 ∷ []) ≡ only 0 ∷ only 2 ∷ []
+  pub last_is_main : matched_each (λ r. only r.low ∷ only r.high ∷ []) (listed (only 0 ∷ aimed 2 4 ∷ []) 0) ≡ listed (only 0 ∷ only 2 ∷ only 4 ∷ []) 2

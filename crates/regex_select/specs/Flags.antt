@@ -1,5 +1,5 @@
 -- Lists with a flag for each element.
-use Rattle.std.specs.Prelude.{ℕ, ◌-◌, Bool, true, false, if◌then◌else◌, List, [], ◌∷◌, length, take, filter, slice_index_or}
+use Rattle.std.specs.Prelude.{ℕ, ◌-◌, Bool, false, if◌then◌else◌, List, [], ◌∷◌, length, take, filter, slice_index_or}
 
 -- the elements whose flags are set
 abbrev pub flagged : {X : Type 0} → List Bool → List X → List X

@@ -1,4 +1,6 @@
 pub mod Rows
+pub mod Selecting
+pub mod Walks
 pub mod Causes
 pub mod Flags
 pub mod Examples

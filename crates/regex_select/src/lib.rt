@@ -1,11 +1,14 @@
-//! Selecting by patterns: the selections that have a match, or have none.
+//! Selecting by patterns: what their matches select, and the selections that have a match, or have none.
 #![tactic(auto)]
 
 pub mod error;
 pub mod keeping;
 pub mod laws;
+pub mod matching;
 mod searching;
 mod settling;
+mod walking;
 
 pub use error::SelectError;
 pub use keeping::keep;
+pub use matching::matches_in;

@@ -11,8 +11,8 @@ use regex_ports::{Pattern, Span};
 use selection_set::Sel;
 use std::alloc::{AllocError, Global};
 
-// The place behind a place, or the end.
-fn behind(lines: &Lines, at: Coord) -> Coord
+/// The place behind a place, or the end.
+pub(crate) fn behind(lines: &Lines, at: Coord) -> Coord
     requires { IsPlace lines.now at }
     ensures place { IsPlaceOrEnd lines.now result }
     ensures offset { offset lines.now result ≡ offset lines.now at + 1 }
@@ -26,8 +26,8 @@ fn behind(lines: &Lines, at: Coord) -> Coord
     }
 }
 
-// The matches of a pattern in a selection, which is searched by itself, in bytes of its characters.
-fn spans<P: Pattern>(
+/// The matches of a pattern in a selection, which is searched by itself, in bytes of its characters.
+pub(crate) fn spans<P: Pattern>(
     alloc: Global,
     lines: &Lines,
     sel: Sel,

@@ -65,8 +65,7 @@ pub(crate) fn between(lines: &Lines, pair: Pair) -> Option<Pair>
 
 /// The innermost pair of brackets that holds the cursor, which may stand on one of them, from the one that opens to the
 /// one that closes. Brackets of other kinds don't count. None where no pair holds the cursor. It costs the text from the
-/// pair's begin to its end; without a pair, that back to the last bracket which stands open, or to the text's begin, and
-/// from there on to the text's end.
+/// pair's begin to its end; where there is no pair, up to the whole text.
 pub fn around_brackets(lines: &Lines, sel: &Sel, opening: char, closing: char) -> Option<Pair>
     requires inside { IsInside lines.now sel.now }
     requires apart { opening ≢ closing }

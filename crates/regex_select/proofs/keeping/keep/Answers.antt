@@ -1,12 +1,12 @@
-use Rattle.std.proofs.Common.{◌≡◌, ℕ, ◌<◌, Bool, List, [], length, map, filter, refl, sym, ap, ap₂, subst, ◌∙◌, arith}
+use Rattle.std.proofs.Common.{Bool, length, filter, sym, ap, ap₂, subst, ◌∙◌, arith}
 use Rattle.std.proofs.lemmas.Bool.{eqb-true}
 use Rattle.std.proofs.lemmas.List.{length-map, nil_from_length}
-use Rattle.list_model.specs.Ranges.{Range, Selected}
+use Rattle.list_model.specs.Ranges.{Range}
 use Rattle.selection_set.specs.Inside.{range_of}
 use Rattle.selection_set.specs.Listing.{AreInside, ranges_of}
 use Rattle.selection_set.specs.Held.{selected}
 use Rattle.regex_select.specs.Rows.{is_kept, main_kept}
-use Rattle.regex_select.specs.Flags.{flagged, count_set, place_set}
+use Rattle.regex_select.specs.Flags.{count_set, place_set}
 use Rattle.regex_select.proofs.EachLemmas.{given-held, given-selected}
 use Rattle.regex_select.proofs.FlagLemmas.{kept-ranges, kept-count, flagged-few, flagged-inside, place-kept}
 use Rattle.regex_select.proofs.keeping.keep.Goals as goal

@@ -1,0 +1,36 @@
+-- What matches select. A match is a range of the bytes of what was searched.
+use Rattle.std.specs.Prelude.{ℕ, suc, ◌+◌, ◌-◌, ◌==◌, min, nat_lt, false, if◌then◌else◌, None, List, [], ◌∷◌, length, flat_map, encode_utf8}
+use Rattle.list_model.specs.Ranges.{Range, Selected}
+use Rattle.list_model.specs.Settling.{settled}
+use Rattle.regex_ports.specs.declared.pattern.Span.{Span}
+use Rattle.regex_select.specs.Rows.{chars_of, spans_in}
+
+-- how many of some characters begin before a byte of theirs
+abbrev pub chars_before : List ℕ → ℕ → ℕ
+chars_before [] b = 0
+chars_before (c ∷ cs) b = if b == 0 then 0 else suc (chars_before cs (b - length (encode_utf8 c)))
+
+-- what lies from an offset on and before another, as a straight selection without a target; nothing is none
+abbrev pub part_between : ℕ → ℕ → List Range
+part_between from to = if nat_lt from to then (record { low = from; high = to - 1; turned = false; target = None }) ∷ [] else []
+
+-- behind what a match selects that lies from one of some characters on and before another: an empty one selects the
+-- character at its place, and nothing at their end
+abbrev pub match_end : List ℕ → ℕ → ℕ → ℕ
+match_end chars from to = if nat_lt from to then to else min (from + 1) (length chars)
+
+-- what a match selects in characters that begin at an offset
+abbrev pub selected_by : List ℕ → ℕ → Span → List Range
+selected_by chars low s = part_between (low + chars_before chars s.start) (low + match_end chars (chars_before chars s.start) (chars_before chars s.end))
+
+-- what some matches select
+abbrev pub selected_by_all : List ℕ → ℕ → List Span → List Range
+selected_by_all chars low spans = flat_map (selected_by chars low) spans
+
+-- what the matches in a selection select
+abbrev pub matched_in : List ℕ → List ℕ → Range → List Range
+matched_in source text r = selected_by_all (chars_of text r) r.low (spans_in source (chars_of text r))
+
+-- what is selected in all selections, as a settled list; the last one is the main one
+abbrev pub matched_each : (Range → List Range) → Selected → Selected
+matched_each matched s = settled (record { list = flat_map matched s.list; main = length (flat_map matched s.list) - 1 })
