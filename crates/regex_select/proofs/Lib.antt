@@ -3,3 +3,4 @@ pub mod EachLemmas
 pub mod FlagLemmas
 pub mod WalkLemmas
 pub mod MatchedLemmas
+pub mod PartLemmas

@@ -1,7 +1,6 @@
 -- What matches select, as selections.
-use Rattle.std.proofs.Common.{◌≡◌, ℕ, zero, suc, ◌+◌, ◌-◌, ◌<◌, ◌≤◌, Bool, true, false, cond, eqb, List, [], ◌∷◌, ◌++◌, length, get_or, take, flat_map, Option, None, Some, option_to_list, IfSome, refl, sym, ap, ap₂, subst, ◌∙◌, arith, inl, inr, ◌⊎◌, append_assoc, append-nil, length-append, take_all, eq-eqb, lt-ltb, le-ltb, leb-true}
+use Rattle.std.proofs.Common.{◌≡◌, ℕ, zero, suc, ◌+◌, ◌-◌, ◌<◌, ◌≤◌, Bool, true, false, cond, eqb, List, [], ◌∷◌, ◌++◌, length, get_or, take, flat_map, Option, None, option_to_list, refl, sym, ap, ap₂, ◌∙◌, arith, inl, inr, ◌⊎◌, append-nil, length-append, take_all, eq-eqb, lt-ltb, le-ltb, leb-true}
 use Rattle.std.specs.Prelude.{min}
-use Rattle.std.specs.List.{AllByRecursion}
 use Rattle.std.proofs.lemmas.Bool.{false≢true}
 use Rattle.std.proofs.lemmas.List.{take_more, map-append, length-map, take-map, get_or-map}
 use Rattle.std.proofs.lemmas.List.Concat.{flat_map-append}
@@ -14,7 +13,7 @@ use Rattle.line_buffer.proofs.StepLemmas.{offset-line_before}
 use Rattle.list_model.specs.Ranges.{Range}
 use Rattle.selection_set.specs.declared.sel.Sel.{Sel}
 use Rattle.selection_set.specs.Inside.{range_of, IsInside}
-use Rattle.selection_set.specs.Listing.{AreInside, ranges_of}
+use Rattle.selection_set.specs.Listing.{ranges_of}
 use Rattle.regex_ports.specs.declared.pattern.Span.{Span}
 use Rattle.regex_select.specs.declared.error.SelectError.{SelectError}
 use Rattle.regex_select.specs.declared.error.SelectError.TheVariants.{NoMatch, TooMany, NoMemory}
@@ -26,30 +25,17 @@ use Rattle.regex_select.proofs.WalkLemmas.{own-length, walk-place}
 
 -- ---- what a match selects
 
-abbrev straight : ℕ → ℕ → Range
+abbrev pub straight : ℕ → ℕ → Range
 straight low high = record { low = low; high = high; turned = false; target = None }
 
-part-some : (a b : ℕ) → a < b → part_between a b ≡ straight a (b - 1) ∷ []
+pub part-some : (a b : ℕ) → a < b → part_between a b ≡ straight a (b - 1) ∷ []
 part-some a b h = ap (λ t. cond t (straight a (b - 1) ∷ []) []) (lt-ltb a b h)
 
-part-none : (a b : ℕ) → b ≤ a → part_between a b ≡ []
+pub part-none : (a b : ℕ) → b ≤ a → part_between a b ≡ []
 part-none a b h = ap (λ t. cond t (straight a (b - 1) ∷ []) []) (le-ltb a b h)
-
-end-there : (chars : List ℕ) (from to : ℕ) → from < to → match_end chars from to ≡ to
-end-there chars from to h = ap (λ t. cond t to (min (from + 1) (length chars))) (lt-ltb from to h)
 
 end-empty : (chars : List ℕ) (from to : ℕ) → to ≤ from → match_end chars from to ≡ min (from + 1) (length chars)
 end-empty chars from to h = ap (λ t. cond t to (min (from + 1) (length chars))) (le-ltb from to h)
-
--- what lies between two walks
-pub between-range : (text : List ℕ) (sel : Sel) (first end : Walk) (high : Coord) → IsWalk text sel first → IsWalk text sel end → first.passed < end.passed → offset text high + 1 ≡ offset text end.at
-    → straight (offset text first.at) (offset text high) ∷ [] ≡ part_between (offset text sel.low + first.passed) (offset text sel.low + match_end (own_chars text sel) first.passed end.passed)
-between-range text sel first end high f e h l =
-    let low : offset text sel.low + first.passed ≡ offset text first.at = sym f.reached in
-    let last : offset text sel.low + end.passed - 1 ≡ offset text high = omega (arith, l, e.reached) in
-    sym (ap (λ m. part_between (offset text sel.low + first.passed) (offset text sel.low + m)) (end-there (own_chars text sel) first.passed end.passed h)
-    ∙ part-some (offset text sel.low + first.passed) (offset text sel.low + end.passed) (omega (arith, h))
-    ∙ ap₂ (λ a b. straight a b ∷ []) low last)
 
 pub between-inside : (text : List ℕ) (sel : Sel) (first end : Walk) (high : Coord) → IsInside text sel → IsWalk text sel first → IsWalk text sel end → first.passed < end.passed → IsPlace text high → offset text high + 1 ≡ offset text end.at
     → IsInside text (record { low = first.at; high = high; turned = false; target = None })
@@ -88,37 +74,12 @@ empty-range text sel first end f h l =
     ∙ part-some (offset text sel.low + first.passed) (offset text sel.low + (first.passed + 1)) (omega arith)
     ∙ ap₂ (λ a b. straight a b ∷ []) low last)
 
-pub empty-inside : (text : List ℕ) (sel : Sel) (first : Walk) → IsInside text sel → IsWalk text sel first → first.passed < length (own_chars text sel) → IsInside text (record { low = first.at; high = first.at; turned = false; target = None })
-empty-inside text sel first i f l = record { low = walk-place text sel first i f l; high = walk-place text sel first i f l; ordered = omega arith }
-
 -- and nothing at the end
 pub nothing-range : (text : List ℕ) (sel : Sel) (first end : Walk) → end.passed ≤ first.passed → length (own_chars text sel) ≤ first.passed
     → [] ≡ part_between (offset text sel.low + first.passed) (offset text sel.low + match_end (own_chars text sel) first.passed end.passed)
 nothing-range text sel first end h l =
     let most : match_end (own_chars text sel) first.passed end.passed ≤ first.passed = omega (arith, end-empty (own_chars text sel) first.passed end.passed h, l) in
     sym (part-none (offset text sel.low + first.passed) (offset text sel.low + match_end (own_chars text sel) first.passed end.passed) (omega (arith, most)))
-
--- ---- what is selected one after another
-
-all-append : {X : Type 0} (P : X → Type 0) (xs ys : List X) → AllByRecursion P xs → AllByRecursion P ys → AllByRecursion P (xs ++ ys)
-all-append P [] ys h k = k
-all-append P (x ∷ xs) ys h k = (h.0, all-append P xs ys h.1 k)
-
-listed-inside : (text : List ℕ) (found : Option Sel) → IfSome found (λ s. IsInside text s) → AreInside text (option_to_list found)
-listed-inside text None h = tt
-listed-inside text (Some s) h = (h, tt)
-
-pub pushed-inside : (text : List ℕ) (before after : List Sel) (found : Option Sel) → AreInside text before → IfSome found (λ s. IsInside text s) → after ≡ before ++ option_to_list found → AreInside text after
-pushed-inside text before after found h i e = subst (AreInside text) (sym e) (all-append (IsInside text) before (option_to_list found) h (listed-inside text found i))
-
--- what is made of the first ones, and of one more
-pub made-more : {X Y : Type 0} (f : X → List Y) (xs : List X) (n : ℕ) (d : X) → n < length xs → flat_map f (take (n + 1) xs) ≡ flat_map f (take n xs) ++ f (get_or xs n d)
-made-more f xs n d h = ap (flat_map f) (take_more xs n d h) ∙ flat_map-append f (take n xs) (get_or xs n d ∷ []) ∙ ap (λ l. flat_map f (take n xs) ++ l) (append-nil (f (get_or xs n d)))
-
-pub pushed-ranges : {X : Type 0} (text : List ℕ) (f : X → List Range) (xs : List X) (n : ℕ) (d : X) (found : Option Sel) (start before after : List Sel) → n < length xs → after ≡ before ++ option_to_list found → ranges_of text (option_to_list found) ≡ f (get_or xs n d)
-    → ranges_of text before ≡ ranges_of text start ++ flat_map f (take n xs) → ranges_of text after ≡ ranges_of text start ++ flat_map f (take (n + 1) xs)
-pushed-ranges text f xs n d found start before after l e r h =
-    ap (ranges_of text) e ∙ map-append (range_of text) before (option_to_list found) ∙ ap₂ (λ a b. a ++ b) h r ∙ append_assoc (ranges_of text start) (flat_map f (take n xs)) (f (get_or xs n d)) ∙ ap (λ m. ranges_of text start ++ m) (sym (made-more f xs n d l))
 
 -- ---- refusals
 

@@ -3,7 +3,7 @@ use Rattle.std.specs.Prelude.{◌≡◌, ℕ, true, false, None, Some, List, [],
 use Rattle.list_model.specs.Ranges.{Range, Selected, only}
 use Rattle.regex_ports.specs.declared.pattern.Span.{Span}
 use Rattle.regex_select.specs.Rows.{chars_of, is_some_span, kept_each}
-use Rattle.regex_select.specs.Selecting.{chars_before, selected_by, selected_by_all, matched_each}
+use Rattle.regex_select.specs.Selecting.{chars_before, selected_by, selected_by_all, parts_from, made_each}
 
 -- a turned selection with a target
 abbrev pub aimed : ℕ → ℕ → Range
@@ -43,4 +43,13 @@ pub record MatchedExamples : Type 0 where
   pub empty_one : selected_by (codes "ab\n") 4 (match 1 1) ≡ only 5 ∷ []
   pub empty_at_the_end : selected_by (codes "ab") 4 (match 2 2) ≡ []
   pub empty_ones : selected_by_all (codes "ab\n") 0 (match 0 1 ∷ match 2 2 ∷ match 3 3 ∷ []) ≡ only 0 ∷ only 2 ∷ []
-  pub last_is_main : matched_each (λ r. only r.low ∷ only r.high ∷ []) (listed (only 0 ∷ aimed 2 4 ∷ []) 0) ≡ listed (only 0 ∷ only 2 ∷ only 4 ∷ []) 2
+  pub last_is_main : made_each (λ r. only r.low ∷ only r.high ∷ []) (listed (only 0 ∷ aimed 2 4 ∷ []) 0) ≡ listed (only 0 ∷ only 2 ∷ only 4 ∷ []) 2
+
+-- the matches of `\b` in `ab cd` with its newline are those of `at_word_ends`
+pub record SplitExamples : Type 0 where
+  pub between : parts_from (codes "a,b\n") 4 0 (match 1 2 ∷ []) ≡ straight 4 4 ∷ straight 6 7 ∷ []
+  pub no_empty_ones : parts_from (codes ",,b\n") 0 0 (match 0 1 ∷ match 1 2 ∷ []) ≡ straight 2 3 ∷ []
+  pub without_a_match : parts_from (codes "ab\n") 0 0 [] ≡ straight 0 2 ∷ []
+  pub all_matched : parts_from (codes "ab") 0 0 (match 0 2 ∷ []) ≡ []
+  pub at_each_character : parts_from (codes "ab\n") 0 0 (match 0 0 ∷ match 1 1 ∷ match 2 2 ∷ match 3 3 ∷ []) ≡ only 0 ∷ only 1 ∷ only 2 ∷ []
+  pub at_word_ends : parts_from (codes "ab cd\n") 0 0 (match 0 0 ∷ match 2 2 ∷ match 3 3 ∷ match 5 5 ∷ []) ≡ straight 0 1 ∷ only 2 ∷ straight 3 4 ∷ only 5 ∷ []

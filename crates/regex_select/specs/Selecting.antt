@@ -1,5 +1,5 @@
 -- What matches select. A match is a range of the bytes of what was searched.
-use Rattle.std.specs.Prelude.{ℕ, suc, ◌+◌, ◌-◌, ◌==◌, min, nat_lt, false, if◌then◌else◌, None, List, [], ◌∷◌, length, flat_map, encode_utf8}
+use Rattle.std.specs.Prelude.{ℕ, suc, ◌+◌, ◌-◌, ◌==◌, min, nat_lt, false, if◌then◌else◌, None, List, [], ◌∷◌, ◌++◌, length, flat_map, encode_utf8}
 use Rattle.list_model.specs.Ranges.{Range, Selected}
 use Rattle.list_model.specs.Settling.{settled}
 use Rattle.regex_ports.specs.declared.pattern.Span.{Span}
@@ -27,10 +27,20 @@ selected_by chars low s = part_between (low + chars_before chars s.start) (low +
 abbrev pub selected_by_all : List ℕ → ℕ → List Span → List Range
 selected_by_all chars low spans = flat_map (selected_by chars low) spans
 
+-- what stands in characters that begin at an offset, from one of them on, before, between and behind some matches, where
+-- that isn't empty
+abbrev pub parts_from : List ℕ → ℕ → ℕ → List Span → List Range
+parts_from chars low from [] = part_between (low + from) (low + length chars)
+parts_from chars low from (s ∷ ss) = part_between (low + from) (low + chars_before chars s.start) ++ parts_from chars low (chars_before chars s.end) ss
+
 -- what the matches in a selection select
 abbrev pub matched_in : List ℕ → List ℕ → Range → List Range
 matched_in source text r = selected_by_all (chars_of text r) r.low (spans_in source (chars_of text r))
 
--- what is selected in all selections, as a settled list; the last one is the main one
-abbrev pub matched_each : (Range → List Range) → Selected → Selected
-matched_each matched s = settled (record { list = flat_map matched s.list; main = length (flat_map matched s.list) - 1 })
+-- the parts that they leave of it
+abbrev pub split_in : List ℕ → List ℕ → Range → List Range
+split_in source text r = parts_from (chars_of text r) r.low 0 (spans_in source (chars_of text r))
+
+-- what is made of all selections, as a settled list; the last one is the main one
+abbrev pub made_each : (Range → List Range) → Selected → Selected
+made_each made s = settled (record { list = flat_map made s.list; main = length (flat_map made s.list) - 1 })

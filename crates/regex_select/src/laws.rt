@@ -1,6 +1,6 @@
 //! Worked examples of the definitions.
 
-ghost use Rattle.regex_select.specs.Examples.{KeptExamples, MatchedExamples};
+ghost use Rattle.regex_select.specs.Examples.{KeptExamples, MatchedExamples, SplitExamples};
 
 /// Worked examples of the selections that are kept.
 pub fn kept_examples()
@@ -10,4 +10,9 @@ pub fn kept_examples()
 /// Worked examples of what matches select.
 pub fn matched_examples()
     ensures { MatchedExamples }
+{}
+
+/// Worked examples of the parts that matches leave.
+pub fn split_examples()
+    ensures { SplitExamples }
 {}

@@ -1,4 +1,5 @@
-//! Selecting by patterns: what their matches select, and the selections that have a match, or have none.
+//! Selecting by patterns: what their matches select, the parts that these leave, and the selections that have a match, or
+//! have none.
 #![tactic(auto)]
 
 pub mod error;
@@ -7,8 +8,9 @@ pub mod laws;
 pub mod matching;
 mod searching;
 mod settling;
+mod taking;
 mod walking;
 
 pub use error::SelectError;
 pub use keeping::keep;
-pub use matching::matches_in;
+pub use matching::{matches_in, split_in};

@@ -4,7 +4,7 @@ use Rattle.text_model.specs.Texts.{offset}
 use Rattle.selection_set.specs.Listing.{AreInside, ranges_of}
 use Rattle.regex_select.specs.Selecting.{selected_by}
 use Rattle.regex_select.specs.Walks.{own_chars, IsWalk}
-use Rattle.regex_select.proofs.matching.push_matches.Given as goal
+use Rattle.regex_select.proofs.taking.push_matches.Given as goal
 
 abbrev pub invariant-loop-span : goal.invariant-loop-span
 invariant-loop-span l = record {

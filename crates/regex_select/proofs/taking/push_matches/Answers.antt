@@ -3,7 +3,7 @@ use Rattle.text_model.specs.Texts.{offset}
 use Rattle.regex_select.specs.Selecting.{selected_by}
 use Rattle.regex_select.specs.Walks.{own_chars}
 use Rattle.regex_select.proofs.MatchedLemmas.{found-is, found-within, room-more}
-use Rattle.regex_select.proofs.matching.push_matches.Goals as goal
+use Rattle.regex_select.proofs.taking.push_matches.Goals as goal
 
 pub returns-in_err-push_found-clause-refused : goal.returns-in_err-push_found-clause-refused
 returns-in_err-push_found-clause-refused c =
