@@ -86,6 +86,13 @@ impl EditLine {
         self.chars.as_slice()
     }
 
+    /// All its characters; takes no memory.
+    pub fn into_vec(self) -> Vec<char>
+        ensures { result.items ≡ whole self }
+    {
+        self.chars
+    }
+
     /// Puts characters in before the cursor. An `Err` leaves the line.
     pub fn put(&mut self, chars: &[char]) -> Result<(), AllocError>
         ensures ok { OnOk result (self.new ≡ put_in chars.now self.old) }

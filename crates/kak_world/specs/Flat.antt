@@ -7,6 +7,7 @@ use Rattle.tables.specs.Tables.{first_where, changed_where, with_row}
 use Rattle.key_names.specs.declared.key.Key.{Key}
 use Rattle.list_model.specs.Ranges.{Selected, only}
 use Rattle.window_view.specs.View.{View}
+use Rattle.edit_line.specs.Halves.{Halves, empty}
 use Rattle.undo_model.specs.Stories.{Story, opened, committed, committed_by}
 use Rattle.kak_registers.specs.declared.row.Register.{Register}
 use Rattle.kak_world.specs.declared.holder.Holder.{Holder}
@@ -63,15 +64,15 @@ scratch = made (codes "*scratch*") false (10 ∷ [])
 
 -- what a client that has just come has of its own
 abbrev pub first_own : Own
-first_own = record { mode = Normal; count = 0; register = None; pending = None; status = Quiet; appending = false; prompt = []; leaving = false; drawn = false }
+first_own = record { mode = Normal; count = 0; register = None; pending = None; status = Quiet; appending = false; prompt = empty; leaving = false; drawn = false }
 
 -- a client that has just come: its number in the history, the number in its name, and that of the buffer that it sees
 abbrev pub newcomer : ℕ → ℕ → ℕ → Client
 newcomer who number shown = record { who = who; number = number; shown = shown; own = first_own }
 
--- the world before anything happened: the one buffer, and no client
+-- the world before anything happened: the one buffer, no client, no register that was set, and tab stops at each eighth cell
 abbrev pub opening : Flat
-opening = record { buffers = Some scratch ∷ []; clients = []; rest = record { units = 0; registers = [] } }
+opening = record { buffers = Some scratch ∷ []; clients = []; rest = record { units = 0; registers = []; tabstop = 8 } }
 
 -- whether a client has that number in the history
 abbrev pub is_of : ℕ → Client → Bool
@@ -205,9 +206,9 @@ node_of who flat = (committed (story_of who flat)).current
 unfoldable pub view_of : ℕ → Flat → View
 view_of who flat = (list_of who flat).view
 
--- how many cells lie between tab stops where a client looks
+-- how many cells lie between tab stops where a client looks: as many as everywhere
 unfoldable pub tabstop_of : ℕ → Flat → ℕ
-tabstop_of who flat = 8
+tabstop_of who flat = flat.rest.tabstop
 
 -- how many keys and commands the step may still run
 unfoldable pub units_of : Flat → ℕ
@@ -235,7 +236,8 @@ status_of who flat = (own_of who flat).status
 abbrev pub is_appending : ℕ → Flat → Bool
 is_appending who flat = (own_of who flat).appending
 
-abbrev pub prompt_of : ℕ → Flat → List ℕ
+-- the line of its prompt, with the cursor there
+abbrev pub prompt_of : ℕ → Flat → Halves
 prompt_of who flat = (own_of who flat).prompt
 
 abbrev pub is_leaving : ℕ → Flat → Bool

@@ -10,7 +10,7 @@ ghost use Rattle.kak_world.specs.Showing.{seeing};
 ghost use Rattle.kak_world.specs.Dropping.{moved_on};
 
 use crate::own::{Mode, Own, Status};
-use kak_text::Chars;
+use edit_line::EditLine;
 use std::alloc::{AllocError, Global};
 use std::marker::Model;
 
@@ -167,7 +167,7 @@ impl Clients {
                 pending: None,
                 status: Status::Quiet,
                 appending: false,
-                prompt: Chars::new(alloc),
+                prompt: EditLine::new(alloc),
                 leaving: false,
                 drawn: false,
             },

@@ -16,6 +16,7 @@ pub mod reads;
 pub mod registers;
 pub mod showing;
 pub mod slots;
+pub mod tabs;
 pub mod world;
 
 pub use ask::{Ask, EditError};
@@ -24,4 +25,5 @@ pub use clients::Client;
 pub use holder::Holder;
 pub use own::{Mode, Own, Status};
 pub use slots::{MAX_BUFFERS, WorldError};
+pub use tabs::Tabstop;
 pub use world::{MAX_CLIENTS, Rest, World};

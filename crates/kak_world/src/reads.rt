@@ -105,7 +105,8 @@ impl World {
         ensures some { 1 ≤ result }
         ensures few { result ≤ MAX_TABSTOP }
     {
-        8
+        let tabstop = &self.rest.tabstop;
+        tabstop.cells()
     }
 
     /// The selections of a client: a settled list inside the text that it sees.

@@ -35,12 +35,4 @@ impl World {
         self.clients.set_shown(who, n);
         Ok(())
     }
-
-    /// Brings a client's list on the buffer that it sees up to date. No list is ever behind, since each change of a text
-    /// moves every list on it at once: so this leaves the world.
-    pub fn enter(&mut self, who: u32)
-        ensures { self.new.flat ≡ self.old.flat }
-    {
-        let _client = who;
-    }
 }
