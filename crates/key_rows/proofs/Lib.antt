@@ -7,5 +7,7 @@ pub mod BackLemmas
 pub mod LeavingLemmas
 pub mod NumberLemmas
 pub mod RegisterLemmas
+pub mod SpacedLemmas
+pub mod OwnLemmas
 pub mod KeepingLaws
 pub mod EndLemmas

@@ -1,7 +1,8 @@
 -- What registers give to a client.
-use Rattle.std.specs.Prelude.{ℕ, suc, zero, ◌+◌, ◌==◌, if◌then◌else◌, List, [], ◌∷◌, length, map, decimal, encode_utf8_all, unwrap_or}
+use Rattle.std.specs.Prelude.{ℕ, suc, zero, ◌+◌, ◌==◌, if◌then◌else◌, List, [], ◌∷◌, ◌++◌, length, map, decimal, encode_utf8_all, unwrap_or}
 use Rattle.std.specs.declared.option.Option.{Option}
 use Rattle.std.specs.Prelude.{Some, None}
+use Rattle.std.specs.Str.{chars}
 use Rattle.edit_ops.specs.Reading.{texts_of}
 use Rattle.kak_registers.specs.Names.{is_settable}
 use Rattle.kak_registers.specs.Contents.{strings_of}
@@ -33,3 +34,17 @@ strings_read name who flat =
     else (if name == 35 then Some (numbers_from 1 (length (sels_of who flat).list))
     else (if name == 37 then Some (encode_utf8_all (name_of who flat) ∷ [])
     else None)))
+
+-- texts one behind another, each with a space (32) before it
+abbrev pub more_spaced : List (List ℕ) → List ℕ
+more_spaced [] = []
+more_spaced (t ∷ ts) = 32 ∷ (t ++ more_spaced ts)
+
+-- texts one behind another, with a space between each two
+abbrev pub spaced : List (List ℕ) → List ℕ
+spaced [] = []
+spaced (t ∷ ts) = t ++ more_spaced ts
+
+-- strings as one text, joined by spaces
+abbrev pub joined_text : List (List ℕ) → List ℕ
+joined_text strings = spaced (map chars strings)

@@ -15,5 +15,5 @@ pub use edits::{Edit, edit_texts, fill, put};
 pub use entries::{Entry, enter_insert};
 pub use leaving::edit_leaving;
 pub use naming::register_named;
-pub use reading::{keep, register_puts, string_of};
+pub use reading::{keep, register_puts, register_text, string_of};
 pub use shapes::Shape;

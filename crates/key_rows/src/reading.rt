@@ -1,7 +1,7 @@
 //! What registers give to a client, and what it has them keep.
 #![tactic(auto, using(kak_world::proofs::WorldLaws::world_laws))]
 
-ghost use Rattle.std.specs.Prelude.{◌≡◌, true, false, string_bytes, encode_utf8_all, IfOk, IfErr, OnOk, IsErrOf};
+ghost use Rattle.std.specs.Prelude.{◌≡◌, true, false, string_bytes, encode_utf8_all, option_map, IfOk, IfErr, OnOk, IsErrOf};
 ghost use Rattle.text_model.specs.Texts.{IsStored};
 ghost use Rattle.buffer_store.specs.Buffers.{flat_splices, AreSplicesOf};
 ghost use Rattle.kak_registers.specs.Names.{is_settable};
@@ -9,13 +9,14 @@ ghost use Rattle.kak_world.specs.declared.ask.EditError.TheVariants.{NoMemory};
 ghost use Rattle.kak_world.specs.Flat.{is_joined, name_of, sels_of, text_of};
 ghost use Rattle.kak_world.specs.Registers.{with_register};
 ghost use Rattle.kak_world.specs.Rows.{Answers};
-ghost use Rattle.key_rows.specs.Reading.{used, own_strings, numbers_from, strings_read};
+ghost use Rattle.key_rows.specs.Reading.{used, own_strings, numbers_from, strings_read, joined_text};
 ghost use Rattle.key_rows.specs.Edits.{puts_of, keep_row};
 ghost use Rattle.key_rows.specs.Handing.{ArePuts, IsTooMuch, IsRefused};
 
 use buffer_store::Splice;
 use edit_ops::{Put, PutError, put, strings};
 use kak_ports::Words;
+use kak_text::Chars;
 use kak_world::{EditError, World};
 use line_buffer::Lines;
 use std::alloc::{AllocError, Global};
@@ -142,5 +143,41 @@ pub fn register_puts(
     match read_only(alloc, world, who, name)? {
         None => Err(EditError::NoSuchRegister(name)),
         Some(words) => strings_put(alloc, world, who, &words, how),
+    }
+}
+
+// Strings as one text, joined by spaces.
+fn joined_text(alloc: Global, strings: &Words) -> Result<Chars, AllocError>
+    ensures { IfOk result (λ text. text ≡ joined_text strings.now) }
+{
+    if strings.len() == 0 {
+        return Ok(Chars::new(alloc));
+    }
+    let mut text = Chars::from_str(alloc, strings.get(0))?;
+    for n in 1..strings.len() {
+        let string = Chars::from_str(alloc, strings.get(n))?;
+        text.push(' ')?;
+        text.extend_from_slice(string.as_slice())?;
+    }
+    Ok(text)
+}
+
+/// What a register gives a client as one text, its strings joined by spaces, or None where there is no such register. It costs
+/// the characters of these strings.
+pub fn register_text(
+    alloc: Global,
+    world: &World,
+    who: u32,
+    name: char,
+) -> Result<Option<Chars>, AllocError>
+    requires { is_joined who world.now.flat ≡ true }
+    ensures { IfOk result (λ text. text ≡ option_map joined_text (strings_read name who world.now.flat)) }
+{
+    if let Some(words) = world.registers().get(name) {
+        return Ok(Some(joined_text(alloc, words)?));
+    }
+    match read_only(alloc, world, who, name)? {
+        None => Ok(None),
+        Some(words) => Ok(Some(joined_text(alloc, &words)?)),
     }
 }

@@ -1,0 +1,12 @@
+use Rattle.std.proofs.Common.{ap, sym, ◌∙◌}
+use Rattle.std.proofs.lemmas.Bool.{false≢true}
+use Rattle.std.specs.Prelude.{Some, option_map}
+use Rattle.kak_registers.specs.Contents.{strings_of}
+use Rattle.key_rows.specs.Reading.{joined_text}
+use Rattle.key_rows.proofs.RegisterLemmas.{read-settable}
+use Rattle.key_rows.proofs.reading.register_text.Goals as goal
+
+pub returns-in-Some : goal.returns-in-Some
+returns-in-Some c =
+    let read = read-settable c.args.name c.args.who c.args.world.now.flat (λ e. false≢true (sym (c.in-Some.ensures.none.1 e))) ∙ ap Some (ap (strings_of c.args.name) (sym c.registers.ensures) ∙ sym c.in-Some.ensures.some) in
+    ap Some c.in_ok-joined_text.ensures ∙ ap (option_map joined_text) (sym read)
