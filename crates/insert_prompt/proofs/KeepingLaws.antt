@@ -6,6 +6,7 @@ use Rattle.key_names.specs.declared.key.Key.{Key}
 use Rattle.key_names.specs.declared.key.Base.{Base}
 use Rattle.key_names.specs.declared.key.Base.TheVariants.{Char, Ret, Tab, Backspace, Del, Left, Right, Up, Down, Home, End, Esc}
 use Rattle.key_names.specs.Modified.{is_modified}
+use Rattle.edit_line.specs.Halves.{whole}
 use Rattle.kak_world.specs.declared.own.Mode.TheVariants.{Normal}
 use Rattle.kak_world.specs.Flat.{Flat, pending_of, is_appending, prompt_of}
 use Rattle.kak_world.specs.Changing.{commits}
@@ -20,7 +21,7 @@ use Rattle.key_rows.specs.Naming.{register_named}
 use Rattle.key_rows.specs.Reading.{strings_read}
 use Rattle.key_rows.specs.Edits.{with_strings}
 use Rattle.key_rows.proofs.KeepingLaws.{keeps_behind}
-use Rattle.insert_prompt.specs.Rows.{typed, taken_back, leave_insert, insert_base, awaiting, insert_control, insert_first, put_named, insert_pending, row_insert, leave_prompt, accepted, prompt_base, row_prompt}
+use Rattle.insert_prompt.specs.Rows.{typed, taken_back, leave_insert, insert_base, awaiting, insert_control, insert_first, put_named, insert_pending, row_insert, leave_prompt, accepted, prompt_base, prompt_control, prompt_first, prompt_named, prompt_pending, row_prompt}
 
 keeps-chosen : (t : Bool) (flat : Flat) (a b : RowEnd) → KeepsClients flat a.world → KeepsClients flat b.world → KeepsClients flat (if t then a else b).world
 keeps-chosen true flat a b f g = f
@@ -82,16 +83,36 @@ keeps_insert key who flat = keeps-pending (pending_of who flat) key who flat
 
 keeps-accepted : (who : ℕ) (flat : Flat) → KeepsClients flat (accepted who flat).world
 keeps-accepted who flat =
-    keeps_behind (set_row 58 (encode_utf8_all (prompt_of who flat) ∷ []) (leave_prompt who flat)).row _ flat (set_row 58 (encode_utf8_all (prompt_of who flat) ∷ []) (leave_prompt who flat)).world
-    (keeps_after flat (leave_prompt who flat) (set_row 58 (encode_utf8_all (prompt_of who flat) ∷ []) (leave_prompt who flat)).world (keeps_own who _ flat) (keeps_set_row _ _ (leave_prompt who flat)))
+    let set : RowEnd = set_row 58 (encode_utf8_all (whole (prompt_of who flat)) ∷ []) (leave_prompt who flat) in
+    keeps_behind set.row _ flat set.world
+    (keeps_after flat (leave_prompt who flat) set.world (keeps_own who _ flat) (keeps_set_row _ _ (leave_prompt who flat)))
     (λ w. keeps_same w)
 
 keeps-prompt_base : (base : Base) (who : ℕ) (flat : Flat) → KeepsClients flat (prompt_base base who flat).world
-keeps-prompt_base (Char c) who flat = keeps_own who (λ o. record o { prompt = o.prompt ++ c ∷ [] }) flat
+keeps-prompt_base (Char c) who flat = keeps_own who _ flat
 keeps-prompt_base Ret who flat = keeps-accepted who flat
-keeps-prompt_base Esc who flat = keeps_own who (λ o. record o { mode = Normal; prompt = [] }) flat
-keeps-prompt_base _ who flat = keeps_same flat
+keeps-prompt_base Esc who flat = keeps_own who _ flat
+keeps-prompt_base _ who flat = keeps_own who _ flat
+
+keeps-prompt_control : (base : Base) (key : Key) (who : ℕ) (flat : Flat) → KeepsClients flat (prompt_control base key who flat).world
+keeps-prompt_control (Char c) key who flat = keeps-chosen (c == 114) flat (does (awaiting (Some key) who flat)) (does flat) (keeps_own who _ flat) (keeps_same flat)
+keeps-prompt_control _ key who flat = keeps_same flat
+
+keeps-prompt_first : (key : Key) (who : ℕ) (flat : Flat) → KeepsClients flat (prompt_first key who flat).world
+keeps-prompt_first key who flat =
+    keeps-chosen (key.control && not (key.alt || key.shift)) flat (prompt_control key.base key who flat) (if is_modified key then does flat else prompt_base key.base who flat)
+    (keeps-prompt_control key.base key who flat)
+    (keeps-chosen (is_modified key) flat (does flat) (prompt_base key.base who flat) (keeps_same flat) (keeps-prompt_base key.base who flat))
+
+keeps-prompt_named : (name : Option ℕ) (who : ℕ) (flat : Flat) → KeepsClients flat (prompt_named name who flat).world
+keeps-prompt_named None who flat = keeps_same flat
+keeps-prompt_named (Some name) who flat = keeps-with (strings_read name who flat) name _ flat (λ strings. keeps_own who _ flat)
+
+keeps-prompt_pending : (waits : Option Key) (key : Key) (who : ℕ) (flat : Flat) → KeepsClients flat (prompt_pending waits key who flat).world
+keeps-prompt_pending None key who flat = keeps-prompt_first key who flat
+keeps-prompt_pending (Some first) key who flat =
+    keeps_after flat (awaiting None who flat) (prompt_named (register_named key) who (awaiting None who flat)).world (keeps_own who _ flat) (keeps-prompt_named (register_named key) who (awaiting None who flat))
 
 pub keeps_prompt : (key : Key) (who : ℕ) (flat : Flat) → KeepsClients flat (row_prompt key who flat).world
 unfolding row_prompt
-keeps_prompt key who flat = keeps-chosen (is_modified key) flat (does flat) (prompt_base key.base who flat) (keeps_same flat) (keeps-prompt_base key.base who flat)
+keeps_prompt key who flat = keeps-prompt_pending (pending_of who flat) key who flat

@@ -1,2 +1,4 @@
 pub mod KeepingLaws
 pub mod TypedLemmas
+pub mod AcceptLemmas
+pub mod WaitingLemmas

@@ -1,16 +1,14 @@
--- Worked examples of the rows of insert mode and of prompts, which hold by computation.
+-- Worked examples of the rows of insert mode, which hold by computation.
 use Rattle.std.specs.Prelude.{◌≡◌, ℕ, true, false, None, Some, [], ◌∷◌, List, length, codes}
 use Rattle.key_names.specs.declared.key.Key.{Key}
 use Rattle.key_names.specs.declared.key.Base.TheVariants.{Char, Ret, Tab, Esc}
 use Rattle.list_model.specs.Ranges.{Range, Selected, only}
 use Rattle.undo_model.specs.Stories.{opened}
-use Rattle.kak_world.specs.declared.ask.Ask.TheVariants.{Commands, Nothing}
 use Rattle.kak_world.specs.declared.holder.Holder.TheVariants.{Of}
-use Rattle.kak_world.specs.declared.own.Mode.TheVariants.{Normal, Insert, Prompt}
+use Rattle.kak_world.specs.declared.own.Mode.TheVariants.{Normal, Insert}
 use Rattle.kak_world.specs.declared.own.Own.{Own}
-use Rattle.kak_world.specs.Flat.{Held, Flat, first_own, fresh, newcomer, only_at, mode_of, text_of, sels_of, story_of, prompt_of}
-use Rattle.kak_world.specs.Rows.{Asks}
-use Rattle.insert_prompt.specs.Rows.{insert_base, insert_control, prompt_base}
+use Rattle.kak_world.specs.Flat.{Held, Flat, first_own, fresh, newcomer, only_at, mode_of, text_of, sels_of, story_of}
+use Rattle.insert_prompt.specs.Rows.{insert_base, insert_control}
 
 -- a list of a client
 abbrev pub list_for : ℕ → Selected → Held
@@ -21,7 +19,7 @@ abbrev pub two_clients : List ℕ → Own → Selected → Selected → Flat
 two_clients text own first second = record {
   buffers = Some (record { name = codes "*scratch*"; is_file = false; story = opened text; lists = list_for 0 first ∷ list_for 1 second ∷ [] }) ∷ [];
   clients = record (newcomer 0 0 0) { own = own } ∷ newcomer 1 1 0 ∷ [];
-  rest = record { units = 0; registers = [] };
+  rest = record { units = 0; registers = []; tabstop = 8 };
 }
 
 -- client 0 in insert mode on a text, with these selections, and client 1 on the character at an offset
@@ -36,10 +34,6 @@ pub record Seen : Type 0 where
 
 abbrev pub seen : Flat → Seen
 seen flat = record { text = text_of 0 flat; first = sels_of 0 flat; second = sels_of 1 flat }
-
--- client 0 with a prompt
-abbrev pub prompting : List ℕ → Flat
-prompting typed = two_clients (10 ∷ []) (record first_own { mode = Prompt; prompt = typed }) (only_at 0) (only_at 0)
 
 abbrev pub turned : ℕ → ℕ → Range
 turned a b = record { low = a; high = b; turned = true; target = None }
@@ -63,8 +57,3 @@ pub record Examples : Type 0 where
   pub typing_is_pending : length (story_of 0 (insert_base (Char 120) 0 (selecting (codes "ab\n") (only 1 ∷ []) 0)).world).nodes ≡ 1
   pub control_u_commits : length (story_of 0 (insert_control (Char 117) control_u 0 (insert_base (Char 120) 0 (selecting (codes "ab\n") (only 1 ∷ []) 0)).world).world).nodes ≡ 2
   pub escape_leaves : mode_of 0 (insert_base Esc 0 (selecting (codes "ab\n") (only 1 ∷ []) 0)).world ≡ Normal
-  pub prompt_grows : (prompt_base (Char 113) 0 (prompting (codes "a"))).world ≡ prompting (codes "aq")
-  pub prompt_runs : (prompt_base Ret 0 (prompting (codes "quit"))).row ≡ Asks (Commands (codes "quit"))
-  pub prompt_is_left : mode_of 0 (prompt_base Ret 0 (prompting (codes "quit"))).world ≡ Normal
-  pub prompt_is_emptied : prompt_of 0 (prompt_base Esc 0 (prompting (codes "quit"))).world ≡ []
-  pub escape_runs_nothing : (prompt_base Esc 0 (prompting (codes "quit"))).row ≡ Asks Nothing

@@ -5,6 +5,8 @@ use Rattle.key_names.specs.declared.key.Key.{Key}
 use Rattle.key_names.specs.declared.key.Base.{Base}
 use Rattle.key_names.specs.declared.key.Base.TheVariants.{Char, Ret, Tab, Backspace, Del, Left, Right, Up, Down, Home, End, Esc}
 use Rattle.key_names.specs.Modified.{is_modified}
+use Rattle.edit_line.specs.Halves.{Halves, whole, empty}
+use Rattle.edit_line.specs.Edits.{put_in, erased_before, erased_at, gone_left, gone_right, gone_home, gone_to_end}
 use Rattle.kak_world.specs.declared.ask.Ask.TheVariants.{Commands}
 use Rattle.kak_world.specs.declared.own.Mode.TheVariants.{Normal}
 use Rattle.edit_ops.specs.declared.kinds.Erase.{Erase}
@@ -22,7 +24,7 @@ use Rattle.kak_world.specs.Registers.{set_row}
 use Rattle.key_rows.specs.Sequence.{then_row}
 use Rattle.key_rows.specs.Each.{each_changed, moved}
 use Rattle.key_rows.specs.Naming.{register_named}
-use Rattle.key_rows.specs.Reading.{strings_read}
+use Rattle.key_rows.specs.Reading.{strings_read, joined_text}
 use Rattle.key_rows.specs.Edits.{with_strings, puts_of}
 use Rattle.kak_world.specs.Flat.{Flat, sels_of, pending_of, is_appending, prompt_of, with_own}
 use Rattle.kak_world.specs.Changing.{commits}
@@ -98,26 +100,62 @@ insert_pending (Some waits) key who flat = put_named (register_named key) who (a
 unfoldable pub row_insert : Key → ℕ → Flat → RowEnd
 row_insert key who flat = insert_pending (pending_of who flat) key who flat
 
--- a character goes in at the end of the prompt
-abbrev pub prompt_character : ℕ → ℕ → Flat → RowEnd
-prompt_character c who flat = does (with_own who (λ o. record o { prompt = o.prompt ++ c ∷ [] }) flat)
+-- the line of the prompt is edited
+abbrev pub prompt_edited : (Halves → Halves) → ℕ → Flat → Flat
+prompt_edited f who flat = with_own who (λ o. record o { prompt = f o.prompt }) flat
+
+-- what a key without modifiers does to the line of a prompt at its cursor: it erases there, or moves the cursor; any other
+-- leaves the line
+abbrev pub line_edited : Base → Halves → Halves
+line_edited Backspace line = erased_before line
+line_edited Del line = erased_at line
+line_edited Left line = gone_left line
+line_edited Right line = gone_right line
+line_edited Home line = gone_home line
+line_edited End line = gone_to_end line
+line_edited _ line = line
 
 -- the prompt is left, and is empty
 abbrev pub leave_prompt : ℕ → Flat → Flat
-leave_prompt who flat = with_own who (λ o. record o { mode = Normal; prompt = [] }) flat
+leave_prompt who flat = with_own who (λ o. record o { mode = Normal; prompt = empty }) flat
 
 -- a prompt that is accepted: it is left, register `:` (58) holds what was typed, and that is run as commands
 abbrev pub accepted : ℕ → Flat → RowEnd
 accepted who flat =
-    then_row (set_row 58 (encode_utf8_all (prompt_of who flat) ∷ []) (leave_prompt who flat)) (λ w. record { world = w; row = Asks (Commands (prompt_of who flat)) })
+    then_row (set_row 58 (encode_utf8_all (whole (prompt_of who flat)) ∷ []) (leave_prompt who flat)) (λ w. record { world = w; row = Asks (Commands (whole (prompt_of who flat))) })
 
--- the row of a key without modifiers in a prompt: what was typed is run as commands, or left
+-- the row of a key without modifiers in a prompt: a character goes in before the cursor; what was typed is run as commands, or
+-- left; others edit the line, or leave it
 abbrev pub prompt_base : Base → ℕ → Flat → RowEnd
-prompt_base (Char c) who flat = prompt_character c who flat
+prompt_base (Char c) who flat = does (prompt_edited (put_in (c ∷ [])) who flat)
 prompt_base Ret who flat = accepted who flat
 prompt_base Esc who flat = does (leave_prompt who flat)
-prompt_base _ who flat = does flat
+prompt_base base who flat = does (prompt_edited (line_edited base) who flat)
 
--- the row of a key in a prompt; a key without a row does nothing
+-- the row of a key with control alone in a prompt: `<c-r>` (114) waits for the name of a register
+abbrev pub prompt_control : Base → Key → ℕ → Flat → RowEnd
+prompt_control (Char c) key who flat = if c == 114 then does (awaiting (Some key) who flat) else does flat
+prompt_control _ key who flat = does flat
+
+-- the strings of a register go in before the cursor of the prompt, joined by spaces
+abbrev pub prompt_register : ℕ → ℕ → Flat → RowEnd
+prompt_register name who flat = with_strings (strings_read name who flat) name (λ strings w. does (prompt_edited (put_in (joined_text strings)) who w)) flat
+
+abbrev pub prompt_named : Option ℕ → ℕ → Flat → RowEnd
+prompt_named None who flat = does flat
+prompt_named (Some name) who flat = prompt_register name who flat
+
+-- the row of a key in a prompt that no other key waits for; a key without a row does nothing
+abbrev pub prompt_first : Key → ℕ → Flat → RowEnd
+prompt_first key who flat =
+    if key.control && not (key.alt || key.shift) then prompt_control key.base key who flat
+    else (if is_modified key then does flat else prompt_base key.base who flat)
+
+-- by the key that waits for it, if one does
+abbrev pub prompt_pending : Option Key → Key → ℕ → Flat → RowEnd
+prompt_pending None key who flat = prompt_first key who flat
+prompt_pending (Some waits) key who flat = prompt_named (register_named key) who (awaiting None who flat)
+
+-- the row of a key in a prompt
 unfoldable pub row_prompt : Key → ℕ → Flat → RowEnd
-row_prompt key who flat = if is_modified key then does flat else prompt_base key.base who flat
+row_prompt key who flat = prompt_pending (pending_of who flat) key who flat

@@ -79,7 +79,7 @@ fn put_register(alloc: Global, world: &mut World, who: u32, name: char) -> Resul
 }
 
 // Lets a key wait for the next one, or none.
-fn set_pending(world: &mut World, who: u32, key: Option<Key>)
+pub(crate) fn set_pending(world: &mut World, who: u32, key: Option<Key>)
     requires { is_joined who world.old.flat ≡ true }
     ensures { world.new.flat ≡ awaiting key who world.old.flat }
 {

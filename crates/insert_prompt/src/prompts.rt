@@ -1,55 +1,116 @@
 //! The rows of prompts.
 #![tactic(auto, using(kak_world::proofs::WorldLaws::world_laws))]
 
-ghost use Rattle.std.specs.Prelude.{◌≡◌, true};
+ghost use Rattle.std.specs.Prelude.{◌≡◌, ◌∷◌, [], true, None, Err, IfSome, OnOk, OnErr, IsErrOf};
+ghost use Rattle.edit_line.specs.Edits.{put_in};
+ghost use Rattle.kak_world.specs.declared.ask.EditError.TheVariants.{NoMemory};
 ghost use Rattle.kak_world.specs.Flat.{is_joined, prompt_of};
-ghost use Rattle.kak_world.specs.Rows.{Gives};
-ghost use Rattle.insert_prompt.specs.Rows.{leave_prompt, accepted, row_prompt};
+ghost use Rattle.kak_world.specs.Rows.{Gives, does, row_of};
+ghost use Rattle.key_rows.specs.Naming.{register_named};
+ghost use Rattle.insert_prompt.specs.Rows.{awaiting, prompt_edited, line_edited, leave_prompt, accepted, prompt_base, prompt_control, prompt_register, prompt_named, prompt_first, row_prompt};
 
+use crate::inserts::set_pending;
+use edit_line::EditLine;
 use kak_ports::Words;
 use kak_text::Chars;
 use kak_world::{Ask, EditError, Mode, World};
 use key_names::{Base, Key};
-use key_rows::string_of;
-use std::alloc::Global;
+use key_rows::{register_named, register_text, string_of};
+use std::alloc::{AllocError, Global};
 
-// Leaves the prompt, and gives what was typed.
-fn leave(alloc: Global, world: &mut World, who: u32) -> Chars
+// Leaves the prompt, and gives its line.
+fn leave(alloc: Global, world: &mut World, who: u32) -> EditLine
     requires { is_joined who world.old.flat ≡ true }
     ensures typed { result ≡ prompt_of who world.old.flat }
     ensures left { world.new.flat ≡ leave_prompt who world.old.flat }
 {
     let own = world.own_mut(who);
     own.mode = Mode::Normal;
-    std::mem::replace(&mut own.prompt, Chars::new(alloc))
+    std::mem::replace(&mut own.prompt, EditLine::new(alloc))
 }
 
-// Leaves the prompt, has register `:` hold what was typed, and asks for that to be run.
+// Leaves the prompt, since register `:` can't hold what was typed; want of memory leaves the world.
+fn refuse(
+    alloc: Global,
+    world: &mut World,
+    who: u32,
+    error: EditError,
+) -> Result<Ask, EditError>
+    requires { is_joined who world.old.flat ≡ true }
+    ensures refused { result ≡ Err error }
+    ensures left { IfSome (row_of error) (λ row. world.new.flat ≡ leave_prompt who world.old.flat) }
+    ensures wanting { error ≡ NoMemory → world.new.flat ≡ world.old.flat }
+{
+    match error {
+        EditError::NoMemory => Err(EditError::NoMemory),
+        error => {
+            let _typed = leave(alloc, world, who);
+            Err(error)
+        }
+    }
+}
+
+// Has register `:` hold what was typed, leaves the prompt, and asks for what was typed to be run.
 fn accept(alloc: Global, world: &mut World, who: u32) -> Result<Ask, EditError>
     requires { is_joined who world.old.flat ≡ true }
     ensures row { Gives result world.new.flat (accepted who world.old.flat) }
+    ensures wanting { IsErrOf result NoMemory → world.new.flat ≡ world.old.flat }
 {
-    let typed = leave(alloc, world, who);
     let mut strings = Words::new(alloc);
-    strings.push(string_of(alloc, typed.as_slice())?)?;
-    world.set_register(alloc, ':', &strings)?;
-    Ok(Ask::Commands(typed))
+    strings.push(string_of(alloc, world.own(who).prompt.whole())?)?;
+    match world.set_register(alloc, ':', &strings) {
+        Ok(()) => {
+            let typed = leave(alloc, world, who);
+            Ok(Ask::Commands(Chars::of_vec(typed.into_vec())))
+        }
+        Err(error) => refuse(alloc, world, who, error),
+    }
 }
 
-/// Runs one key of a prompt. `RegisterFull` comes where more was typed than a register may hold; the prompt is left then, and
-/// nothing is run.
-#[tactic(auto, using(kak_world::proofs::WorldLaws::world_laws), unfolding(crate::specs::Rows::row_prompt))]
-pub fn prompt_key(alloc: Global, world: &mut World, who: u32, key: Key) -> Result<Ask, EditError>
+// Puts characters in before the cursor of the prompt. An `Err` leaves the world.
+fn put(world: &mut World, who: u32, chars: &[char]) -> Result<(), AllocError>
     requires { is_joined who world.old.flat ≡ true }
-    ensures row { Gives result world.new.flat (row_prompt key who world.old.flat) }
+    ensures ok { OnOk result (world.new.flat ≡ prompt_edited (put_in chars.now) who world.old.flat) }
+    ensures err { OnErr result (world.new.flat ≡ world.old.flat) }
 {
-    if key.is_modified() {
-        return Ok(Ask::Nothing);
+    let own = world.own_mut(who);
+    own.prompt.put(chars)?;
+    Ok(())
+}
+
+// Does what a key does to the line of a prompt at its cursor.
+fn edit(line: &mut EditLine, base: Base)
+    ensures { line.new ≡ line_edited base line.old }
+{
+    match base {
+        Base::Backspace => line.erase_before(),
+        Base::Del => line.erase_at(),
+        Base::Left => line.left(),
+        Base::Right => line.right(),
+        Base::Home => line.home(),
+        Base::End => line.end(),
+        _ => {}
     }
-    match key.base {
+}
+
+// The same, in the prompt of a client.
+fn edit_prompt(world: &mut World, who: u32, base: Base)
+    requires { is_joined who world.old.flat ≡ true }
+    ensures { world.new.flat ≡ prompt_edited (line_edited base) who world.old.flat }
+{
+    let own = world.own_mut(who);
+    edit(&mut own.prompt, base);
+}
+
+// Runs a key without modifiers.
+fn run_plain(alloc: Global, world: &mut World, who: u32, base: Base) -> Result<Ask, EditError>
+    requires { is_joined who world.old.flat ≡ true }
+    ensures row { Gives result world.new.flat (prompt_base base who world.old.flat) }
+    ensures wanting { IsErrOf result NoMemory → world.new.flat ≡ world.old.flat }
+{
+    match base {
         Base::Char(c) => {
-            let own = world.own_mut(who);
-            own.prompt.push(c)?;
+            put(world, who, &[c])?;
             Ok(Ask::Nothing)
         }
         Base::Ret => accept(alloc, world, who),
@@ -57,6 +118,91 @@ pub fn prompt_key(alloc: Global, world: &mut World, who: u32, key: Key) -> Resul
             let _typed = leave(alloc, world, who);
             Ok(Ask::Nothing)
         }
-        _ => Ok(Ask::Nothing),
+        base => {
+            edit_prompt(world, who, base);
+            Ok(Ask::Nothing)
+        }
+    }
+}
+
+// Runs a key with control alone.
+fn run_control(world: &mut World, who: u32, key: Key)
+    requires { is_joined who world.old.flat ≡ true }
+    ensures { does world.new.flat ≡ prompt_control key.base key who world.old.flat }
+{
+    match key.base {
+        Base::Char('r') => set_pending(world, who, Some(key)),
+        _ => {}
+    }
+}
+
+// Runs a key that no other key waits for.
+fn run_first(alloc: Global, world: &mut World, who: u32, key: Key) -> Result<Ask, EditError>
+    requires { is_joined who world.old.flat ≡ true }
+    ensures row { Gives result world.new.flat (prompt_first key who world.old.flat) }
+    ensures wanting { IsErrOf result NoMemory → world.new.flat ≡ world.old.flat }
+{
+    if key.control && !(key.alt || key.shift) {
+        run_control(world, who, key);
+        return Ok(Ask::Nothing);
+    }
+    if key.is_modified() {
+        return Ok(Ask::Nothing);
+    }
+    run_plain(alloc, world, who, key.base)
+}
+
+// Puts the strings of a register in before the cursor of the prompt, joined by spaces; no key waits then.
+fn put_register(
+    alloc: Global,
+    world: &mut World,
+    who: u32,
+    name: char,
+) -> Result<Ask, EditError>
+    requires { is_joined who world.old.flat ≡ true }
+    ensures row { Gives result world.new.flat (prompt_register name who (awaiting None who world.old.flat)) }
+    ensures wanting { IsErrOf result NoMemory → world.new.flat ≡ world.old.flat }
+{
+    match register_text(alloc, world, who, name)? {
+        None => {
+            set_pending(world, who, None);
+            Err(EditError::NoSuchRegister(name))
+        }
+        Some(text) => {
+            put(world, who, text.as_slice())?;
+            set_pending(world, who, None);
+            Ok(Ask::Nothing)
+        }
+    }
+}
+
+// Runs a key for which `<c-r>` waited: it names a register, or does nothing.
+fn run_named(alloc: Global, world: &mut World, who: u32, key: Key) -> Result<Ask, EditError>
+    requires { is_joined who world.old.flat ≡ true }
+    ensures row { Gives result world.new.flat (prompt_named (register_named key) who (awaiting None who world.old.flat)) }
+    ensures wanting { IsErrOf result NoMemory → world.new.flat ≡ world.old.flat }
+{
+    match register_named(key) {
+        Some(name) => put_register(alloc, world, who, name),
+        None => {
+            set_pending(world, who, None);
+            Ok(Ask::Nothing)
+        }
+    }
+}
+
+/// Runs one key of a prompt. `RegisterFull` comes where more was typed than a register may hold; the prompt is left then, and
+/// nothing is run. `NoSuchRegister` comes where a key names no register, and leaves the prompt as it is. Want of memory leaves
+/// the world. It costs the characters of the prompt from the cursor on, and of a register those of its strings; `<ret>` costs all
+/// that was typed.
+#[tactic(auto, using(kak_world::proofs::WorldLaws::world_laws), unfolding(crate::specs::Rows::row_prompt))]
+pub fn prompt_key(alloc: Global, world: &mut World, who: u32, key: Key) -> Result<Ask, EditError>
+    requires { is_joined who world.old.flat ≡ true }
+    ensures row { Gives result world.new.flat (row_prompt key who world.old.flat) }
+    ensures wanting { IsErrOf result NoMemory → world.new.flat ≡ world.old.flat }
+{
+    match world.own(who).pending {
+        None => run_first(alloc, world, who, key),
+        Some(_) => run_named(alloc, world, who, key),
     }
 }

@@ -1,0 +1,98 @@
+-- Worked examples of the rows of prompts, which hold by computation.
+use Rattle.std.specs.Prelude.{◌≡◌, ℕ, false, true, None, Some, [], ◌∷◌, List, codes}
+use Rattle.key_names.specs.declared.key.Key.{Key}
+use Rattle.key_names.specs.declared.key.Base.{Base}
+use Rattle.key_names.specs.declared.key.Base.TheVariants.{Char, Ret, Tab, Backspace, Del, Left, Right, Home, End, Esc}
+use Rattle.edit_line.specs.Halves.{empty}
+use Rattle.kak_registers.specs.declared.row.Register.{Register}
+use Rattle.kak_registers.specs.Contents.{strings_of}
+use Rattle.kak_world.specs.declared.ask.Ask.TheVariants.{Commands, Nothing}
+use Rattle.kak_world.specs.declared.ask.EditError.TheVariants.{NoSuchRegister}
+use Rattle.kak_world.specs.declared.own.Mode.TheVariants.{Normal, Prompt}
+use Rattle.kak_world.specs.Flat.{Flat, first_own, only_at, mode_of, pending_of, prompt_of, registers_of}
+use Rattle.kak_world.specs.Rows.{RowEnd, Asks, Fails, error_text}
+use Rattle.insert_prompt.specs.Rows.{awaiting, prompt_base, row_prompt}
+use Rattle.insert_prompt.specs.Examples.{two_clients}
+
+-- client 0 in a prompt, with this before its cursor and this from it on
+abbrev pub prompting : List ℕ → List ℕ → Flat
+prompting before behind =
+    two_clients (codes "ab\n") (record first_own { mode = Prompt; prompt = record { before = before; behind = behind } }) (only_at 0) (only_at 0)
+
+-- the world behind a key without modifiers there
+abbrev pub struck : Base → List ℕ → List ℕ → Flat
+struck base before behind = (prompt_base base 0 (prompting before behind)).world
+
+-- keys without modifiers, and with control alone
+abbrev pub plain : Base → Key
+plain base = record { control = false; alt = false; shift = false; base = base }
+
+abbrev pub control : Base → Key
+control base = record { control = true; alt = false; shift = false; base = base }
+
+-- the same, where register `a` (97) holds strings
+abbrev pub holding : List (List ℕ) → Flat → Flat
+holding strings flat = record flat { rest = record flat.rest { registers = record { name = 97; values = strings } ∷ [] } }
+
+-- what a key gives for which `<c-r>` waits
+abbrev pub behind_control_r : Base → List (List ℕ) → List ℕ → List ℕ → RowEnd
+behind_control_r base strings before behind = row_prompt (plain base) 0 (awaiting (Some (control (Char 114))) 0 (holding strings (prompting before behind)))
+
+-- characters, and what erases
+pub record ErasingExamples : Type 0 where
+  pub character_at_the_start : struck (Char 113) [] (codes "ab") ≡ prompting (codes "q") (codes "ab")
+  pub character_in_the_middle : struck (Char 113) (codes "a") (codes "b") ≡ prompting (codes "aq") (codes "b")
+  pub character_at_the_end : struck (Char 113) (codes "ab") [] ≡ prompting (codes "abq") []
+  pub any_character : struck (Char 0x6F22) (codes "a") (codes "b") ≡ prompting (97 ∷ 0x6F22 ∷ []) (codes "b")
+  pub backspace_at_the_start : struck Backspace [] (codes "ab") ≡ prompting [] (codes "ab")
+  pub backspace_in_the_middle : struck Backspace (codes "ab") (codes "cd") ≡ prompting (codes "a") (codes "cd")
+  pub backspace_at_the_end : struck Backspace (codes "ab") [] ≡ prompting (codes "a") []
+  pub backspace_in_an_empty_one : struck Backspace [] [] ≡ prompting [] []
+  pub del_at_the_start : struck Del [] (codes "ab") ≡ prompting [] (codes "b")
+  pub del_in_the_middle : struck Del (codes "ab") (codes "cd") ≡ prompting (codes "ab") (codes "d")
+  pub del_at_the_end : struck Del (codes "ab") [] ≡ prompting (codes "ab") []
+
+-- what moves the cursor
+pub record MovingExamples : Type 0 where
+  pub left_at_the_start : struck Left [] (codes "ab") ≡ prompting [] (codes "ab")
+  pub left_in_the_middle : struck Left (codes "ab") (codes "cd") ≡ prompting (codes "a") (codes "bcd")
+  pub left_at_the_end : struck Left (codes "ab") [] ≡ prompting (codes "a") (codes "b")
+  pub right_at_the_start : struck Right [] (codes "ab") ≡ prompting (codes "a") (codes "b")
+  pub right_in_the_middle : struck Right (codes "ab") (codes "cd") ≡ prompting (codes "abc") (codes "d")
+  pub right_at_the_end : struck Right (codes "ab") [] ≡ prompting (codes "ab") []
+  pub home_from_the_start : struck Home [] (codes "ab") ≡ prompting [] (codes "ab")
+  pub home_from_the_middle : struck Home (codes "ab") (codes "cd") ≡ prompting [] (codes "abcd")
+  pub home_from_the_end : struck Home (codes "ab") [] ≡ prompting [] (codes "ab")
+  pub end_from_the_start : struck End [] (codes "ab") ≡ prompting (codes "ab") []
+  pub end_from_the_middle : struck End (codes "ab") (codes "cd") ≡ prompting (codes "abcd") []
+  pub end_from_the_end : struck End (codes "ab") [] ≡ prompting (codes "ab") []
+  pub tab_does_nothing : struck Tab (codes "a") (codes "b") ≡ prompting (codes "a") (codes "b")
+
+-- what leaves
+pub record LeavingExamples : Type 0 where
+  pub all_is_run : (prompt_base Ret 0 (prompting (codes "qu") (codes "it"))).row ≡ Asks (Commands (codes "quit"))
+  pub all_is_kept : strings_of 58 (registers_of (struck Ret (codes "qu") (codes "it"))) ≡ codes "quit" ∷ []
+  pub prompt_is_left : mode_of 0 (struck Ret (codes "qu") (codes "it")) ≡ Normal
+  pub prompt_is_emptied : prompt_of 0 (struck Esc (codes "qu") (codes "it")) ≡ empty
+  pub escape_runs_nothing : (prompt_base Esc 0 (prompting (codes "qu") (codes "it"))).row ≡ Asks Nothing
+
+-- what puts registers in
+pub record RegisterExamples : Type 0 where
+  pub control_r_waits : pending_of 0 (row_prompt (control (Char 114)) 0 (prompting (codes "a") (codes "b"))).world ≡ Some (control (Char 114))
+  pub other_keys_with_control : (row_prompt (control (Char 117)) 0 (prompting (codes "a") (codes "b"))).world ≡ prompting (codes "a") (codes "b")
+  pub one_string_at_the_start : (behind_control_r (Char 97) (codes "xy" ∷ []) [] (codes "ab")).world ≡ holding (codes "xy" ∷ []) (prompting (codes "xy") (codes "ab"))
+  pub one_string_in_the_middle : (behind_control_r (Char 97) (codes "xy" ∷ []) (codes "a") (codes "b")).world ≡ holding (codes "xy" ∷ []) (prompting (codes "axy") (codes "b"))
+  pub two_strings_in_the_middle : (behind_control_r (Char 97) (codes "x" ∷ codes "yz" ∷ []) (codes "a") (codes "b")).world ≡ holding (codes "x" ∷ codes "yz" ∷ []) (prompting (codes "ax yz") (codes "b"))
+  pub two_strings_at_the_end : (behind_control_r (Char 97) (codes "x" ∷ codes "yz" ∷ []) (codes "ab") []).world ≡ holding (codes "x" ∷ codes "yz" ∷ []) (prompting (codes "abx yz") [])
+  pub empty_strings_too : (behind_control_r (Char 97) ([] ∷ codes "x" ∷ [] ∷ []) (codes "a") (codes "b")).world ≡ holding ([] ∷ codes "x" ∷ [] ∷ []) (prompting (codes "a x ") (codes "b"))
+  pub no_strings : (behind_control_r (Char 97) [] (codes "a") (codes "b")).world ≡ holding [] (prompting (codes "a") (codes "b"))
+  pub text_of_the_selection : (behind_control_r (Char 46) [] (codes "x") []).world ≡ holding [] (prompting (codes "xa") [])
+  pub no_such_register : (behind_control_r (Char 33) [] (codes "a") (codes "b")).row ≡ Fails (error_text (NoSuchRegister 33))
+  pub it_leaves_the_prompt : (behind_control_r (Char 33) [] (codes "a") (codes "b")).world ≡ holding [] (prompting (codes "a") (codes "b"))
+  pub escape_ends_the_waiting : (behind_control_r Esc [] (codes "a") (codes "b")).world ≡ holding [] (prompting (codes "a") (codes "b"))
+
+pub record PromptExamples : Type 0 where
+  pub erasing : ErasingExamples
+  pub moving : MovingExamples
+  pub leaving : LeavingExamples
+  pub registers : RegisterExamples
