@@ -1,9 +1,10 @@
 -- What a client is shown of the world.
-use Rattle.std.specs.Prelude.{◌≡◌, ℕ, ◌+◌, ◌-◌, true, false, not, List, [], ◌∷◌, ◌++◌, length, codes, decimal, slice_index}
+use Rattle.std.specs.Prelude.{◌≡◌, ℕ, ◌+◌, ◌-◌, true, false, not, List, [], ◌∷◌, ◌++◌, length, drop, codes, decimal, slice_index}
 use Rattle.text_model.specs.declared.coords.Coord.{Coord}
 use Rattle.text_model.specs.Texts.{nth_line, coord_at}
 use Rattle.list_model.specs.Ranges.{Selected, cursor}
 use Rattle.selection_set.specs.Held.{main_of}
+use Rattle.edit_line.specs.Halves.{Halves}
 use Rattle.kak_text.specs.Cells.{cells_of, column_behind, display_column}
 use Rattle.window_view.specs.View.{View, followed}
 use Rattle.kak_faces.specs.declared.standard.StandardFace.TheVariants as name
@@ -26,17 +27,23 @@ status_shown Quiet = []
 status_shown (Said text) = shown_in (standard_face name.StatusLine) text
 status_shown (Refused text) = shown_in (standard_face name.Error) text
 
--- a prompt: a colon (58), what was typed, and the cursor behind it on a space (32)
-abbrev pub prompt_shown : List ℕ → List Shown
-prompt_shown typed =
+-- the character under the cursor of a prompt, of what stands from there on; a space (32) where nothing does
+abbrev pub under_cursor : List ℕ → ℕ
+under_cursor [] = 32
+under_cursor (c ∷ cs) = c
+
+-- a prompt: a colon (58), what stands before the cursor, what stands under it, and the rest
+abbrev pub prompt_shown : Halves → List Shown
+prompt_shown prompt =
     shown_in (standard_face name.Prompt) (58 ∷ [])
-    ++ (shown_in (standard_face name.StatusLine) typed ++ shown_in (standard_face name.StatusCursor) (32 ∷ []))
+    ++ (shown_in (standard_face name.StatusLine) prompt.before
+    ++ (shown_in (standard_face name.StatusCursor) (under_cursor prompt.behind ∷ []) ++ shown_in (standard_face name.StatusLine) (drop 1 prompt.behind)))
 
 -- the status line
-abbrev pub status_line : Mode → Status → List ℕ → List Shown
-status_line Normal status typed = status_shown status
-status_line Insert status typed = status_shown status
-status_line Prompt status typed = prompt_shown typed
+abbrev pub status_line : Mode → Status → Halves → List Shown
+status_line Normal status prompt = status_shown status
+status_line Insert status prompt = status_shown status
+status_line Prompt status prompt = prompt_shown prompt
 
 -- the name of a mode
 abbrev pub mode_name : Mode → List ℕ
@@ -76,14 +83,14 @@ abbrev pub IsModeLine : List ℕ → Coord → Mode → ℕ → ℕ → ℕ → 
 IsModeLine buffer at mode main count number line =
     (sels : Selected) → sels.main ≡ main → length sels.list ≡ count → line ≡ record { atoms = atoms_of (mode_shown buffer at mode sels number) }
 
--- how many cells stand before the cursor of a prompt: those of its colon (58) and of what was typed
+-- how many cells the colon (58) of a prompt and the characters before its cursor have
 abbrev pub prompt_column : ℕ → List ℕ → ℕ
-prompt_column tabstop typed = column_behind tabstop 0 (58 ∷ typed)
+prompt_column tabstop before = column_behind tabstop 0 (58 ∷ before)
 
 -- where the cursor stands: in the window, by the line and the display column of the main one; or in the prompt
-abbrev pub cursor_drawn : ℕ → Mode → ℕ → ℕ → View → List ℕ → Cursor
-cursor_drawn tabstop Prompt line column view typed = record { prompt = true; line = 0; column = prompt_column tabstop typed }
-cursor_drawn tabstop _ line column view typed = record { prompt = false; line = line - view.top; column = column - view.left }
+abbrev pub cursor_drawn : ℕ → Mode → ℕ → ℕ → View → Halves → Cursor
+cursor_drawn tabstop Prompt line column view prompt = record { prompt = true; line = 0; column = prompt_column tabstop prompt.before }
+cursor_drawn tabstop _ line column view prompt = record { prompt = false; line = line - view.top; column = column - view.left }
 
 -- the world after a client's window has followed its main cursor
 abbrev pub after_following : ℕ → Flat → Flat

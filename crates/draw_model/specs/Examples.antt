@@ -1,6 +1,7 @@
 -- Worked examples of drawings, which hold by computation.
 use Rattle.std.specs.Prelude.{◌≡◌, ℕ, true, false, Some, List, [], ◌∷◌, codes}
 use Rattle.list_model.specs.Ranges.{only}
+use Rattle.edit_line.specs.Halves.{Halves, empty}
 use Rattle.kak_faces.specs.declared.colour.NamedColour.TheVariants as named
 use Rattle.kak_faces.specs.Standard.{plain_face, default_face}
 use Rattle.json_writing.specs.declared.drawing.Info.TheVariants.{Keep}
@@ -18,7 +19,11 @@ opened = joined_by 0 opening
 
 -- a world with a line of ASCII characters
 abbrev pub holding : List ℕ → Flat
-holding text = joined_by 0 (record { buffers = Some (made (codes "*scratch*") false text) ∷ []; clients = []; rest = record { units = 0; registers = [] } })
+holding text = joined_by 0 (record { buffers = Some (made (codes "*scratch*") false text) ∷ []; clients = []; rest = record { units = 0; registers = []; tabstop = 8 } })
+
+-- a prompt with this before its cursor, and this from it on
+abbrev pub halves : List ℕ → List ℕ → Halves
+halves before behind = record { before = before; behind = behind }
 
 -- of where the main cursor stands
 pub record PlaceExamples : Type 0 where
@@ -28,9 +33,9 @@ pub record PlaceExamples : Type 0 where
   pub cells_of_a_tab : main_cells 8 (codes "x\na\tb\n") (alone true (only 3)) ≡ 7
   pub cells_of_wide : main_cells 8 (0x6F22 ∷ 0x61 ∷ 10 ∷ []) (alone true (only 0)) ≡ 2
   pub cells_of_a_mark : main_cells 8 (0x65 ∷ 0x0301 ∷ 10 ∷ []) (alone true (only 1)) ≡ 0
-  pub prompt_with_a_tab : cursor_drawn 8 Prompt 0 1 whole (codes "a\tb") ≡ record { prompt = true; line = 0; column = 9 }
-  pub prompt_with_wide : cursor_drawn 8 Prompt 0 1 whole (0x6F22 ∷ []) ≡ record { prompt = true; line = 0; column = 3 }
-  pub prompt_with_a_mark : cursor_drawn 8 Prompt 0 1 whole (0x65 ∷ 0x0301 ∷ []) ≡ record { prompt = true; line = 0; column = 2 }
+  pub prompt_with_a_tab : cursor_drawn 8 Prompt 0 1 whole (halves (codes "a\tb") (codes "\tc")) ≡ record { prompt = true; line = 0; column = 9 }
+  pub prompt_with_wide : cursor_drawn 8 Prompt 0 1 whole (halves (0x6F22 ∷ []) []) ≡ record { prompt = true; line = 0; column = 3 }
+  pub prompt_with_a_mark : cursor_drawn 8 Prompt 0 1 whole (halves (0x65 ∷ 0x0301 ∷ []) []) ≡ record { prompt = true; line = 0; column = 2 }
   -- ten tabs fill the window; the cursor on the tenth is whole in it, and one on the eleventh brings in all its cells
   pub whole_tab_is_followed : view_of 0 (after_following 0 (with_sels 0 (alone true (only 9)) (holding (codes "\t\t\t\t\t\t\t\t\t\t\t\n")))) ≡ whole
   pub next_tab_is_followed : view_of 0 (after_following 0 (with_sels 0 (alone true (only 10)) (holding (codes "\t\t\t\t\t\t\t\t\t\t\t\n"))))
@@ -50,14 +55,21 @@ pub record Examples : Type 0 where
     info = Keep;
   }
   pub drawn_before : (drawing_of 0 (with_own 0 (λ o. record o { drawn = true }) opened)).first ≡ false
-  pub nothing_said : atoms_of (status_line Normal Quiet []) ≡ []
-  pub said : atoms_of (status_line Insert (Said (codes "hi")) []) ≡ atom (codes "hi") named.Cyan named.Default ∷ []
-  pub refused : atoms_of (status_line Normal (Refused (codes "no")) []) ≡ atom (codes "no") named.Black named.Red ∷ []
-  pub prompt : atoms_of (status_line Prompt Quiet (codes "w x"))
+  pub nothing_said : atoms_of (status_line Normal Quiet empty) ≡ []
+  pub said : atoms_of (status_line Insert (Said (codes "hi")) empty) ≡ atom (codes "hi") named.Cyan named.Default ∷ []
+  pub refused : atoms_of (status_line Normal (Refused (codes "no")) empty) ≡ atom (codes "no") named.Black named.Red ∷ []
+  pub prompt : atoms_of (status_line Prompt Quiet (halves (codes "w x") []))
       ≡ atom (codes ":") named.Yellow named.Default ∷ atom (codes "w x") named.Cyan named.Default ∷ atom (codes " ") named.Black named.Cyan ∷ []
-  pub empty_prompt : atoms_of (status_line Prompt Quiet []) ≡ atom (codes ":") named.Yellow named.Default ∷ atom (codes " ") named.Black named.Cyan ∷ []
-  pub cursor_of_prompt : cursor_drawn 8 Prompt 0 1 whole (codes "w x") ≡ record { prompt = true; line = 0; column = 4 }
-  pub cursor_in_window : cursor_drawn 8 Insert 1 3 (narrow 1 2) [] ≡ record { prompt = false; line = 0; column = 1 }
+  pub empty_prompt : atoms_of (status_line Prompt Quiet empty) ≡ atom (codes ":") named.Yellow named.Default ∷ atom (codes " ") named.Black named.Cyan ∷ []
+  pub cursor_inside_a_prompt : atoms_of (status_line Prompt Quiet (halves (codes "w") (codes " x")))
+      ≡ atom (codes ":") named.Yellow named.Default ∷ atom (codes "w") named.Cyan named.Default ∷ atom (codes " ") named.Black named.Cyan ∷ atom (codes "x") named.Cyan named.Default ∷ []
+  pub cursor_at_its_start : atoms_of (status_line Prompt Quiet (halves [] (codes "w x")))
+      ≡ atom (codes ":") named.Yellow named.Default ∷ atom (codes "w") named.Black named.Cyan ∷ atom (codes " x") named.Cyan named.Default ∷ []
+  pub cursor_on_the_last : atoms_of (status_line Prompt Quiet (halves (codes "w ") (codes "x")))
+      ≡ atom (codes ":") named.Yellow named.Default ∷ atom (codes "w ") named.Cyan named.Default ∷ atom (codes "x") named.Black named.Cyan ∷ []
+  pub cursor_of_prompt : cursor_drawn 8 Prompt 0 1 whole (halves (codes "w x") []) ≡ record { prompt = true; line = 0; column = 4 }
+  pub cursor_before_the_end : cursor_drawn 8 Prompt 0 1 whole (halves (codes "w") (codes " x")) ≡ record { prompt = true; line = 0; column = 2 }
+  pub cursor_in_window : cursor_drawn 8 Insert 1 3 (narrow 1 2) empty ≡ record { prompt = false; line = 0; column = 1 }
   pub mode_of_second : place_text (main_cursor (codes "a\nbc\n") (record { list = only 0 ∷ only 3 ∷ []; main = 1 })) Insert (record { list = only 0 ∷ only 3 ∷ []; main = 1 }) 2
       ≡ codes " 2:2 insert 2/2 - client2"
   pub followed_world : view_of 0 (after_following 0 (with_sels 0 (alone true (only 82)) (holding (codes "----------------------------------------------------------------------------------\n"))))

@@ -7,6 +7,7 @@ ghost use Rattle.kak_world.specs.Flat.{is_joined, text_of, sels_of, tabstop_of};
 ghost use Rattle.draw_model.specs.Drawings.{main_cursor, main_column, main_cells, prompt_column, cursor_drawn, drawing_of, after_following};
 
 use crate::status::{draw_mode, draw_status};
+use edit_line::EditLine;
 use json_writing::{Cursor, Drawing, Info};
 use kak_faces::StandardFace;
 use kak_text::{Coord, MAX_TABSTOP, cells};
@@ -52,14 +53,14 @@ fn find_cursor(world: &World, who: u32) -> MainCursor
     }
 }
 
-// How many cells stand before the cursor of a prompt. 2^31 and more count as want of memory.
-fn prompt_cursor(typed: &[char], tabstop: u32) -> Result<u32, AllocError>
+// How many cells stand before the cursor of a prompt, of the characters before it. 2^31 and more count as want of memory.
+fn prompt_cursor(before: &[char], tabstop: u32) -> Result<u32, AllocError>
     requires some { 1 ≤ tabstop }
     requires few { tabstop ≤ MAX_TABSTOP }
-    ensures { IfOk result (λ column. column ≡ prompt_column tabstop typed.now) }
+    ensures { IfOk result (λ column. column ≡ prompt_column tabstop before.now) }
 {
     let mut column = 1;
-    for c in typed {
+    for c in before {
         if column >= 1 << 31 {
             return Err(AllocError);
         }
@@ -73,18 +74,18 @@ fn cursor_of(
     mode: Mode,
     main: MainCursor,
     window: Window,
-    typed: &[char],
+    prompt: &EditLine,
     tabstop: u32,
 ) -> Result<Cursor, AllocError>
     requires some { 1 ≤ tabstop }
     requires few { tabstop ≤ MAX_TABSTOP }
-    ensures { IfOk result (λ cursor. cursor ≡ cursor_drawn tabstop mode main.at.line main.column (window_seen window) typed.now) }
+    ensures { IfOk result (λ cursor. cursor ≡ cursor_drawn tabstop mode main.at.line main.column (window_seen window) prompt.now) }
 {
     match mode {
         Mode::Prompt => Ok(Cursor {
             prompt: true,
             line: 0,
-            column: prompt_cursor(typed, tabstop)?,
+            column: prompt_cursor(prompt.before(), tabstop)?,
         }),
         Mode::Normal | Mode::Insert => Ok(Cursor {
             prompt: false,
@@ -95,8 +96,8 @@ fn cursor_of(
 }
 
 /// Draws what a client is shown, whose window has followed its main cursor. It costs the lines of the window up to its
-/// right side with the selections up to its end, and not the text. An `Err` says that memory ran out; a prompt of 2^31
-/// cells or more counts as that too.
+/// right side with the selections up to its end, and not the text, and a prompt whole. An `Err` says that memory ran out; a
+/// prompt with 2^31 cells or more before its cursor counts as that too.
 pub fn draw(alloc: Global, world: &World, who: u32) -> Result<Drawing, AllocError>
     requires { is_joined who world.now.flat ≡ true }
     ensures { IfOk result (λ drawing. drawing ≡ drawing_of who world.now.flat) }
@@ -106,13 +107,12 @@ pub fn draw(alloc: Global, world: &World, who: u32) -> Result<Drawing, AllocErro
     let window = world.window(who);
     let tabstop = world.tabstop(who);
     let own = world.own(who);
-    let typed = own.prompt.as_slice();
     Ok(Drawing {
         first: !own.drawn,
         lines: draw_lines(alloc, world.lines(who), window, tabstop, sels)?,
         default_face: StandardFace::Default.face(),
         padding_face: StandardFace::BufferPadding.face(),
-        status: draw_status(alloc, own.mode, &own.status, typed)?,
+        status: draw_status(alloc, own.mode, &own.status, &own.prompt)?,
         mode_line: draw_mode(
             alloc,
             world.buffer_name(who),
@@ -122,7 +122,7 @@ pub fn draw(alloc: Global, world: &World, who: u32) -> Result<Drawing, AllocErro
             world.number(who),
         )?,
         status_face: StandardFace::StatusLine.face(),
-        cursor: cursor_of(own.mode, main, window, typed, tabstop)?,
+        cursor: cursor_of(own.mode, main, window, &own.prompt, tabstop)?,
         info: Info::Keep,
     })
 }

@@ -1,10 +1,11 @@
 //! The status line and the mode line.
 
-ghost use Rattle.std.specs.Prelude.{◌≡◌, ℕ, ◌<◌, length, codes, IfOk};
+ghost use Rattle.std.specs.Prelude.{◌≡◌, ℕ, ◌<◌, length, drop, codes, IfOk};
 ghost use Rattle.list_model.specs.Ranges.{Selected};
 ghost use Rattle.line_painting.specs.Atoms.{shown_in, atoms_of};
-ghost use Rattle.draw_model.specs.Drawings.{status_shown, prompt_shown, status_line, mode_name, place_text, IsModeLine};
+ghost use Rattle.draw_model.specs.Drawings.{status_shown, under_cursor, prompt_shown, status_line, mode_name, place_text, IsModeLine};
 
+use edit_line::EditLine;
 use json_writing::{Atoms, DrawnLine};
 use kak_faces::{Face, StandardFace};
 use kak_text::{Chars, Coord};
@@ -24,14 +25,33 @@ fn run_line(alloc: Global, chars: &[char], face: Face) -> Result<DrawnLine, Allo
     })
 }
 
-// The line of a prompt.
-fn prompt_line(alloc: Global, typed: &[char]) -> Result<DrawnLine, AllocError>
-    ensures { IfOk result (λ line. line ≡ record { atoms = atoms_of (prompt_shown typed.now) }) }
+// The character under the cursor of a prompt, of what stands from there on; a space where nothing does.
+fn under_cursor(behind: &[char]) -> char
+    ensures { result ≡ under_cursor behind.now }
 {
+    match behind.first() {
+        None => ' ',
+        Some(c) => *c,
+    }
+}
+
+// What stands behind the character under the cursor.
+fn past_cursor(behind: &[char]) -> &[char]
+    ensures { result.now ≡ drop 1 behind.now }
+{
+    &behind[behind.len().min(1)..]
+}
+
+// The line of a prompt.
+fn prompt_line(alloc: Global, prompt: &EditLine) -> Result<DrawnLine, AllocError>
+    ensures { IfOk result (λ line. line ≡ record { atoms = atoms_of (prompt_shown prompt.now) }) }
+{
+    let behind = prompt.behind();
     let mut atoms = Vec::new(alloc);
     push_shown(alloc, &mut atoms, ':', StandardFace::Prompt.face())?;
-    push_run(alloc, &mut atoms, typed, StandardFace::StatusLine.face())?;
-    push_shown(alloc, &mut atoms, ' ', StandardFace::StatusCursor.face())?;
+    push_run(alloc, &mut atoms, prompt.before(), StandardFace::StatusLine.face())?;
+    push_shown(alloc, &mut atoms, under_cursor(behind), StandardFace::StatusCursor.face())?;
+    push_run(alloc, &mut atoms, past_cursor(behind), StandardFace::StatusLine.face())?;
     Ok(DrawnLine {
         atoms: Atoms::of_vec(atoms),
     })
@@ -55,12 +75,12 @@ pub fn draw_status(
     alloc: Global,
     mode: Mode,
     status: &Status,
-    typed: &[char],
+    prompt: &EditLine,
 ) -> Result<DrawnLine, AllocError>
-    ensures { IfOk result (λ line. line ≡ record { atoms = atoms_of (status_line mode status.now typed.now) }) }
+    ensures { IfOk result (λ line. line ≡ record { atoms = atoms_of (status_line mode status.now prompt.now) }) }
 {
     match mode {
-        Mode::Prompt => prompt_line(alloc, typed),
+        Mode::Prompt => prompt_line(alloc, prompt),
         Mode::Normal | Mode::Insert => said_line(alloc, status),
     }
 }

@@ -63,7 +63,7 @@ fn prompt_drawing<R: Abort>(rt: &R, alloc: Global, typed: &str) -> Result<Drawin
     world.join(alloc, 0)?;
     for c in typed.chars() {
         assert!(rt; world.is_joined(0));
-        world.own_mut(0).prompt.push(c)?;
+        world.own_mut(0).prompt.put(&[c])?;
     }
     assert!(rt; world.is_joined(0));
     world.own_mut(0).mode = Mode::Prompt;

@@ -8,7 +8,7 @@ pub loop-c-init : goal.loop-c-init
 loop-c-init c = sym (colon c.args.tabstop)
 
 pub loop-c-preserved : goal.loop-c-preserved
-loop-c-preserved c = prompt-more c.args.tabstop c.args.typed.now c.loop-c.c-index c.loop-c.column c.c-item.result c.cells-column.result c.loop-c-test.true c.c-item.is c.loop-c.invariant c.cells-column.ensures.value
+loop-c-preserved c = prompt-more c.args.tabstop c.args.before.now c.loop-c.c-index c.loop-c.column c.c-item.result c.cells-column.result c.loop-c-test.true c.c-item.is c.loop-c.invariant c.cells-column.ensures.value
 
 pub returns : goal.returns
-returns c = c.loop-c.invariant ∙ ap (prompt_column c.args.tabstop) (take_all c.loop-c.c-index c.args.typed.now c.loop-c-test.false)
+returns c = c.loop-c.invariant ∙ ap (prompt_column c.args.tabstop) (take_all c.loop-c.c-index c.args.before.now c.loop-c-test.false)
