@@ -11,7 +11,9 @@ use Rattle.kak_world.specs.Flat.{Flat, text_of, sels_of}
 use Rattle.kak_world.specs.Editing.{edit_row}
 use Rattle.insert_prompt.specs.Rows.{typed}
 
+-- as replacements of the definition
+pub typed-flat : (s : List ℕ) (who : ℕ) (flat : Flat) (list : Listed) (given : List CodeSplice) → sels_of who flat ≡ selected (text_of who flat) list → given ≡ map (splice_before s) list.list → flat_splices (text_of who flat) given ≡ map (typed_before s) (sels_of who flat).list
+typed-flat s who flat list given e g = ap (flat_splices (text_of who flat)) g ∙ by-offsets (text_of who flat) s list.list ∙ ap (λ (x : Selected). map (typed_before s) x.list) (sym e)
+
 pub typed-row : (s : List ℕ) (who : ℕ) (flat : Flat) (list : Listed) (given : List CodeSplice) → sels_of who flat ≡ selected (text_of who flat) list → given ≡ map (splice_before s) list.list → edit_row (flat_splices (text_of who flat) given) who flat ≡ typed s who flat
-typed-row s who flat list given e g =
-    ap (λ xs. edit_row xs who flat)
-    (ap (flat_splices (text_of who flat)) g ∙ by-offsets (text_of who flat) s list.list ∙ ap (λ (x : Selected). map (typed_before s) x.list) (sym e))
+typed-row s who flat list given e g = ap (λ xs. edit_row xs who flat) (typed-flat s who flat list given e g)

@@ -1,4 +1,5 @@
 pub mod Rows
+pub mod Wanting
 pub mod Laws
 pub mod Examples
 pub mod PromptExamples

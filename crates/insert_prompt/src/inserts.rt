@@ -1,12 +1,14 @@
 //! The rows of insert mode.
 #![tactic(auto, using(kak_world::proofs::WorldLaws::world_laws))]
 
-ghost use Rattle.std.specs.Prelude.{◌≡◌, true, None, ◌∷◌, []};
-ghost use Rattle.kak_world.specs.Flat.{is_joined};
+ghost use Rattle.std.specs.Prelude.{◌≡◌, true, None, Some, ◌∷◌, [], IsErrOf};
+ghost use Rattle.kak_world.specs.declared.ask.EditError.TheVariants.{NoMemory};
+ghost use Rattle.kak_world.specs.Flat.{is_joined, pending_of};
 ghost use Rattle.kak_world.specs.Rows.{Gives, does};
 ghost use Rattle.key_rows.specs.Each.{each_changed, moved};
 ghost use Rattle.key_rows.specs.Naming.{register_named};
 ghost use Rattle.insert_prompt.specs.Rows.{typed, erased, leave_insert, awaiting, insert_control, put_register, put_named, insert_base, insert_first, row_insert};
+ghost use Rattle.insert_prompt.specs.Wanting.{is_part_of_typing, is_part_of_erasing, is_part_of_putting, IsPartOfBase, IsPartOfInsert};
 
 use edit_ops::{Erase, Put, before_cursors, erase};
 use kak_world::{Ask, EditError, Mode, World};
@@ -19,6 +21,7 @@ use std::alloc::Global;
 fn put_in(alloc: Global, world: &mut World, who: u32, c: char) -> Result<Ask, EditError>
     requires { is_joined who world.old.flat ≡ true }
     ensures row { Gives result world.new.flat (typed (c ∷ []) who world.old.flat) }
+    ensures wanting { IsErrOf result NoMemory → is_part_of_typing c who world.old.flat world.new.flat }
 {
     let splices = before_cursors(alloc, world.sels(who).as_slice(), &[c])?;
     match world.edit(alloc, who, splices.as_slice()) {
@@ -31,6 +34,7 @@ fn put_in(alloc: Global, world: &mut World, who: u32, c: char) -> Result<Ask, Ed
 fn erase_at(alloc: Global, world: &mut World, who: u32, what: Erase) -> Result<Ask, EditError>
     requires { is_joined who world.old.flat ≡ true }
     ensures row { Gives result world.new.flat (erased what who world.old.flat) }
+    ensures wanting { IsErrOf result NoMemory → is_part_of_erasing what who world.old.flat world.new.flat }
 {
     let splices = erase(alloc, world.lines(who), world.sels(who), what)?;
     world.edit(alloc, who, splices.as_slice())?;
@@ -41,6 +45,7 @@ fn erase_at(alloc: Global, world: &mut World, who: u32, what: Erase) -> Result<A
 fn step(alloc: Global, world: &mut World, who: u32, motion: Motion) -> Result<Ask, EditError>
     requires { is_joined who world.old.flat ≡ true }
     ensures row { Gives result world.new.flat (does (moved motion Reach.Select who world.old.flat)) }
+    ensures wanting { IsErrOf result NoMemory → world.new.flat ≡ world.old.flat }
 {
     change(alloc, world, who, Each::Moved(motion, Reach::Select))
 }
@@ -49,6 +54,7 @@ fn step(alloc: Global, world: &mut World, who: u32, motion: Motion) -> Result<As
 fn change(alloc: Global, world: &mut World, who: u32, change: Each) -> Result<Ask, EditError>
     requires { is_joined who world.old.flat ≡ true }
     ensures row { Gives result world.new.flat (does (each_changed change who world.old.flat)) }
+    ensures wanting { IsErrOf result NoMemory → world.new.flat ≡ world.old.flat }
 {
     change_each(alloc, world, who, change)?;
     Ok(Ask::Nothing)
@@ -58,6 +64,7 @@ fn change(alloc: Global, world: &mut World, who: u32, change: Each) -> Result<As
 fn leave(alloc: Global, world: &mut World, who: u32) -> Result<Ask, EditError>
     requires { is_joined who world.old.flat ≡ true }
     ensures row { Gives result world.new.flat (does (leave_insert who world.old.flat)) }
+    ensures wanting { IsErrOf result NoMemory → world.new.flat ≡ world.old.flat }
 {
     if world.own(who).appending {
         change_each(alloc, world, who, Each::Reshaped(Shape::OneBack))?;
@@ -72,6 +79,7 @@ fn leave(alloc: Global, world: &mut World, who: u32) -> Result<Ask, EditError>
 fn put_register(alloc: Global, world: &mut World, who: u32, name: char) -> Result<Ask, EditError>
     requires { is_joined who world.old.flat ≡ true }
     ensures row { Gives result world.new.flat (put_register name who world.old.flat) }
+    ensures wanting { IsErrOf result NoMemory → is_part_of_putting (Some name) who world.old.flat world.new.flat }
 {
     let splices = register_puts(alloc, world, who, name, Put::BeforeCursor)?;
     world.edit(alloc, who, splices.as_slice())?;
@@ -102,6 +110,7 @@ fn run_control(world: &mut World, who: u32, key: Key)
 fn run_plain(alloc: Global, world: &mut World, who: u32, base: Base) -> Result<Ask, EditError>
     requires { is_joined who world.old.flat ≡ true }
     ensures row { Gives result world.new.flat (insert_base base who world.old.flat) }
+    ensures wanting { IsErrOf result NoMemory → IsPartOfBase base who world.old.flat world.new.flat }
 {
     match base {
         Base::Char(c) => put_in(alloc, world, who, c),
@@ -124,6 +133,7 @@ fn run_plain(alloc: Global, world: &mut World, who: u32, base: Base) -> Result<A
 fn run_first(alloc: Global, world: &mut World, who: u32, key: Key) -> Result<Ask, EditError>
     requires { is_joined who world.old.flat ≡ true }
     ensures row { Gives result world.new.flat (insert_first key who world.old.flat) }
+    ensures wanting { IsErrOf result NoMemory → IsPartOfBase key.base who world.old.flat world.new.flat }
 {
     if key.control && !(key.alt || key.shift) {
         run_control(world, who, key);
@@ -139,6 +149,7 @@ fn run_first(alloc: Global, world: &mut World, who: u32, key: Key) -> Result<Ask
 fn run_named(alloc: Global, world: &mut World, who: u32, key: Key) -> Result<Ask, EditError>
     requires { is_joined who world.old.flat ≡ true }
     ensures row { Gives result world.new.flat (put_named (register_named key) who (awaiting None who world.old.flat)) }
+    ensures wanting { IsErrOf result NoMemory → is_part_of_putting (register_named key) who (awaiting None who world.old.flat) world.new.flat }
 {
     set_pending(world, who, None);
     match register_named(key) {
@@ -153,6 +164,7 @@ fn run_named(alloc: Global, world: &mut World, who: u32, key: Key) -> Result<Ask
 pub fn insert_key(alloc: Global, world: &mut World, who: u32, key: Key) -> Result<Ask, EditError>
     requires { is_joined who world.old.flat ≡ true }
     ensures row { Gives result world.new.flat (row_insert key who world.old.flat) }
+    ensures wanting { IsErrOf result NoMemory → IsPartOfInsert (pending_of who world.old.flat) key who world.old.flat world.new.flat }
 {
     match world.own(who).pending {
         None => run_first(alloc, world, who, key),

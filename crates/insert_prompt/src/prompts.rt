@@ -30,12 +30,7 @@ fn leave(alloc: Global, world: &mut World, who: u32) -> EditLine
 }
 
 // Leaves the prompt, since register `:` can't hold what was typed; want of memory leaves the world.
-fn refuse(
-    alloc: Global,
-    world: &mut World,
-    who: u32,
-    error: EditError,
-) -> Result<Ask, EditError>
+fn refuse(alloc: Global, world: &mut World, who: u32, error: EditError) -> Result<Ask, EditError>
     requires { is_joined who world.old.flat ≡ true }
     ensures refused { result ≡ Err error }
     ensures left { IfSome (row_of error) (λ row. world.new.flat ≡ leave_prompt who world.old.flat) }
@@ -153,12 +148,7 @@ fn run_first(alloc: Global, world: &mut World, who: u32, key: Key) -> Result<Ask
 }
 
 // Puts the strings of a register in before the cursor of the prompt, joined by spaces; no key waits then.
-fn put_register(
-    alloc: Global,
-    world: &mut World,
-    who: u32,
-    name: char,
-) -> Result<Ask, EditError>
+fn put_register(alloc: Global, world: &mut World, who: u32, name: char) -> Result<Ask, EditError>
     requires { is_joined who world.old.flat ≡ true }
     ensures row { Gives result world.new.flat (prompt_register name who (awaiting None who world.old.flat)) }
     ensures wanting { IsErrOf result NoMemory → world.new.flat ≡ world.old.flat }

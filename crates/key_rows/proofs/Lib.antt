@@ -11,3 +11,4 @@ pub mod SpacedLemmas
 pub mod OwnLemmas
 pub mod KeepingLaws
 pub mod EndLemmas
+pub mod WantingLemmas

@@ -6,3 +6,4 @@ pub mod Edits
 pub mod Entering
 pub mod Handing
 pub mod Laws
+pub mod Wanting

@@ -1,11 +1,14 @@
 //! What keys do to the texts of a client's selections.
 #![tactic(auto, using(kak_world::proofs::WorldLaws::world_laws))]
 
-ghost use Rattle.std.specs.Prelude.{◌≡◌, true, IfOk, IfErr};
+ghost use Rattle.std.specs.Prelude.{◌≡◌, true, None, IfOk, IfErr, IsErrOf};
+ghost use Rattle.kak_world.specs.declared.ask.EditError.TheVariants.{NoMemory};
 ghost use Rattle.kak_world.specs.Flat.{is_joined};
 ghost use Rattle.kak_world.specs.Rows.{Answers};
 ghost use Rattle.key_rows.specs.Handing.{AreAlignments, IsUnaligned};
 ghost use Rattle.key_rows.specs.Edits.{erase_row, open_row, rotate_row, indentwidth, indent_row, join_row, align_row, fill_row, cut_row, put_row, edit_done};
+ghost use Rattle.key_rows.specs.declared.entries.Entry.TheVariants.{Open};
+ghost use Rattle.key_rows.specs.Wanting.{IsPartOfPut, IsPartOfFill, IsPartOfEdit, IsPartOfEntry};
 
 use crate::leaving::edit_leaving;
 use crate::reading::{is_stored, keep, register_puts, used};
@@ -39,6 +42,7 @@ pub enum Edit {
 pub fn erase(alloc: Global, world: &mut World, who: u32) -> Result<(), EditError>
     requires { is_joined who world.old.flat ≡ true }
     ensures row { Answers result world.new.flat (erase_row who world.old.flat) }
+    ensures wanting { IsErrOf result NoMemory → IsPartOfEdit Edit.Erase None who world.old.flat world.new.flat }
 {
     let splices = edit_ops::erase(alloc, world.lines(who), world.sels(who), Erase::Selection)?;
     edit_leaving(alloc, world, who, splices.as_slice())
@@ -48,6 +52,7 @@ pub fn erase(alloc: Global, world: &mut World, who: u32) -> Result<(), EditError
 pub(crate) fn open(alloc: Global, world: &mut World, who: u32, side: Side) -> Result<(), EditError>
     requires { is_joined who world.old.flat ≡ true }
     ensures row { Answers result world.new.flat (open_row side who world.old.flat) }
+    ensures wanting { IsErrOf result NoMemory → IsPartOfEntry (Open side) None who world.old.flat world.new.flat }
 {
     let splices = edit_ops::open(alloc, world.lines(who), world.sels(who), side)?;
     edit_leaving(alloc, world, who, splices.as_slice())
@@ -57,6 +62,7 @@ pub(crate) fn open(alloc: Global, world: &mut World, who: u32, side: Side) -> Re
 fn rotate(alloc: Global, world: &mut World, who: u32, way: Rotation) -> Result<(), EditError>
     requires { is_joined who world.old.flat ≡ true }
     ensures row { Answers result world.new.flat (rotate_row way who world.old.flat) }
+    ensures wanting { IsErrOf result NoMemory → IsPartOfEdit (Edit.Rotate way) None who world.old.flat world.new.flat }
 {
     let splices = edit_ops::rotate(alloc, world.lines(who), world.sels(who), way)?;
     edit_leaving(alloc, world, who, splices.as_slice())
@@ -66,6 +72,7 @@ fn rotate(alloc: Global, world: &mut World, who: u32, way: Rotation) -> Result<(
 pub fn fill(alloc: Global, world: &mut World, who: u32, c: char) -> Result<(), EditError>
     requires { is_joined who world.old.flat ≡ true }
     ensures row { Answers result world.new.flat (fill_row c who world.old.flat) }
+    ensures wanting { IsErrOf result NoMemory → IsPartOfFill c who world.old.flat world.new.flat }
 {
     let splices = edit_ops::fill(alloc, world.lines(who), world.sels(who), c)?;
     edit_leaving(alloc, world, who, splices.as_slice())
@@ -82,6 +89,7 @@ fn indentwidth() -> u32
 fn indent(alloc: Global, world: &mut World, who: u32, how: Indent) -> Result<(), EditError>
     requires { is_joined who world.old.flat ≡ true }
     ensures row { Answers result world.new.flat (indent_row how who world.old.flat) }
+    ensures wanting { IsErrOf result NoMemory → IsPartOfEdit (Edit.Indent how) None who world.old.flat world.new.flat }
 {
     let splices = edit_ops::indent(
         alloc,
@@ -99,6 +107,7 @@ fn indent(alloc: Global, world: &mut World, who: u32, how: Indent) -> Result<(),
 fn join(alloc: Global, world: &mut World, who: u32) -> Result<(), EditError>
     requires { is_joined who world.old.flat ≡ true }
     ensures row { Answers result world.new.flat (join_row who world.old.flat) }
+    ensures wanting { IsErrOf result NoMemory → IsPartOfEdit Edit.Join None who world.old.flat world.new.flat }
 {
     let splices = edit_ops::join(alloc, world.lines(who), world.sels(who))?;
     world.edit(alloc, who, splices.as_slice())?;
@@ -127,6 +136,7 @@ fn alignment(alloc: Global, world: &World, who: u32) -> Result<Vec<Splice>, Edit
 fn align(alloc: Global, world: &mut World, who: u32) -> Result<(), EditError>
     requires { is_joined who world.old.flat ≡ true }
     ensures row { Answers result world.new.flat (align_row who world.old.flat) }
+    ensures wanting { IsErrOf result NoMemory → IsPartOfEdit Edit.Align None who world.old.flat world.new.flat }
 {
     let splices = alignment(alloc, world, who)?;
     world.edit(alloc, who, splices.as_slice())?;
@@ -143,6 +153,7 @@ pub fn cut(
 ) -> Result<(), EditError>
     requires { is_joined who world.old.flat ≡ true }
     ensures row { Answers result world.new.flat (cut_row register who world.old.flat) }
+    ensures wanting { IsErrOf result NoMemory → IsPartOfEdit Edit.Cut register who world.old.flat world.new.flat }
 {
     keep(alloc, world, who, register)?;
     erase(alloc, world, who)
@@ -159,6 +170,7 @@ pub fn put(
 ) -> Result<(), EditError>
     requires { is_joined who world.old.flat ≡ true }
     ensures row { Answers result world.new.flat (put_row how register who world.old.flat) }
+    ensures wanting { IsErrOf result NoMemory → IsPartOfPut how register who world.old.flat world.new.flat }
 {
     let splices = register_puts(alloc, world, who, used(register), how)?;
     edit_leaving(alloc, world, who, splices.as_slice())
@@ -175,6 +187,7 @@ pub fn edit_texts(
 ) -> Result<(), EditError>
     requires { is_joined who world.old.flat ≡ true }
     ensures row { Answers result world.new.flat (edit_done edit register who world.old.flat) }
+    ensures wanting { IsErrOf result NoMemory → IsPartOfEdit edit register who world.old.flat world.new.flat }
 {
     match edit {
         Edit::Cut => cut(alloc, world, who, register),

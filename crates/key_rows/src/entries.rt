@@ -1,13 +1,15 @@
 //! How insert mode is entered.
 #![tactic(auto, using(kak_world::proofs::WorldLaws::world_laws))]
 
-ghost use Rattle.std.specs.Prelude.{◌≡◌, ◌≤◌, true, false, [], ◌∷◌, length, IfOk, IsOk, OnOk};
+ghost use Rattle.std.specs.Prelude.{◌≡◌, ◌≤◌, true, false, [], ◌∷◌, length, IfOk, IsOk, IsErrOf, OnOk};
 ghost use Rattle.selection_set.specs.Listing.{AreInside, ranges_of};
 ghost use Rattle.buffer_store.specs.Buffers.{flat_splice, IsSpliceOf};
 ghost use Rattle.edit_ops.specs.Putting.{put_in_at};
+ghost use Rattle.kak_world.specs.declared.ask.EditError.TheVariants.{NoMemory};
 ghost use Rattle.kak_world.specs.Flat.{is_joined, sels_of};
 ghost use Rattle.kak_world.specs.Rows.{Answers};
 ghost use Rattle.key_rows.specs.Entering.{reaches_end, room_row, place_row, edits_first, appends, enter_row};
+ghost use Rattle.key_rows.specs.Wanting.{IsPartOfEntry};
 
 use crate::each::{Each, change_each};
 use crate::edits::{cut, erase, open};
@@ -71,6 +73,8 @@ fn newline_at_end(alloc: Global, lines: &Lines) -> Result<Splice, AllocError>
 fn make_room(alloc: Global, world: &mut World, who: u32) -> Result<(), EditError>
     requires { is_joined who world.old.flat ≡ true }
     ensures row { Answers result world.new.flat (room_row who world.old.flat) }
+    ensures made { OnOk result (IsPartOfEntry Entry.Behind None who world.old.flat world.new.flat) }
+    ensures wanting { IsErrOf result NoMemory → IsPartOfEntry Entry.Behind None who world.old.flat world.new.flat }
     ensures joined { OnOk result (is_joined who world.new.flat ≡ true) }
 {
     if !reaches_end(world.lines(who), world.sels(who).as_slice()) {
@@ -91,6 +95,7 @@ fn place(
 ) -> Result<(), EditError>
     requires { is_joined who world.old.flat ≡ true }
     ensures row { Answers result world.new.flat (place_row entry register who world.old.flat) }
+    ensures wanting { IsErrOf result NoMemory → IsPartOfEntry entry register who world.old.flat world.new.flat }
     ensures few { length (sels_of who world.old.flat).list ≤ 4 → edits_first entry ≡ false → IsOk result }
 {
     match entry {
@@ -131,6 +136,7 @@ pub fn enter_insert(
 ) -> Result<(), EditError>
     requires { is_joined who world.old.flat ≡ true }
     ensures row { Answers result world.new.flat (enter_row entry register who world.old.flat) }
+    ensures wanting { IsErrOf result NoMemory → IsPartOfEntry entry register who world.old.flat world.new.flat }
     ensures few { length (sels_of who world.old.flat).list ≤ 4 → edits_first entry ≡ false → IsOk result }
 {
     place(alloc, world, who, entry, register)?;

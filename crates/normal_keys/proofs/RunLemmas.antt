@@ -1,5 +1,5 @@
 -- Runs of a key, one after another.
-use Rattle.std.proofs.Common.{◌≡◌, ℕ, suc, ◌+◌, ◌-◌, ◌<◌, refl, sym, ap, ◌∙◌, arith}
+use Rattle.std.proofs.Common.{◌≡◌, ℕ, zero, suc, ◌+◌, ◌-◌, ◌<◌, ◌≤◌, refl, sym, ap, subst, ◌∙◌, arith}
 use Rattle.std.specs.Prelude.{IfSome}
 use Rattle.kak_world.specs.declared.ask.EditError.{EditError}
 use Rattle.kak_world.specs.declared.ask.EditError.TheVariants.{TextFull, UndoFull, NothingToUndo, NothingToRedo, NoSuchNode, NoSuchRegister, ReadOnlyRegister, RegisterFull, SharedLine, NoSuchCommand, NothingSelected, TooManySelections, BudgetSpent, NoMemory}
@@ -7,6 +7,7 @@ use Rattle.kak_world.specs.Flat.{Flat, units_of, with_units}
 use Rattle.kak_world.specs.Rows.{RowEnd, GivesUp, does, row_of}
 use Rattle.key_rows.specs.Sequence.{then_row}
 use Rattle.normal_keys.specs.Running.{after_unit, further_runs, runs}
+use Rattle.normal_keys.specs.Wanting.{unit_taken, before_run, ArePartOfRuns}
 
 -- as many runs less one
 one_less : (k n : ℕ) → k < n → n - k ≡ suc (n - (k + 1))
@@ -63,3 +64,21 @@ run-spent run w u k n whole l e f h =
     ∙ ap (λ i. further_runs i run w) (one_less k n l)
     ∙ ap (λ i. after_unit i (λ v. then_row (run v) (further_runs m run)) w) e
     ∙ ap (λ (v : Flat). let r : RowEnd = record { world = v; row = GivesUp } in r) (sym f)
+
+-- a unit was taken behind so many runs
+pub next-begins : (run : Flat → RowEnd) (old w u : Flat) (k : ℕ) → 1 ≤ k → units_of w ≡ suc (units_of u) → u ≡ with_units (units_of u) w → w ≡ (run (before_run (k - 1) run old)).world → u ≡ before_run k run old
+next-begins run old w u zero l e f h = absurd (omega (arith, l))
+next-begins run old w u (suc k) l e f h =
+    let left : units_of w - 1 ≡ units_of u = omega (arith, e) in
+    let one : suc k - 1 ≡ k = omega arith in
+    f ∙ ap (λ n. with_units n w) (sym left) ∙ ap unit_taken (h ∙ ap (λ n. (run (before_run n run old)).world) one)
+
+-- one more run behind it
+pub reached-next : (run : Flat → RowEnd) (old u next : Flat) (k : ℕ) → u ≡ before_run k run old → run u ≡ does next → next ≡ (run (before_run (k + 1 - 1) run old)).world
+reached-next run old u next k b g =
+    let same : k ≡ k + 1 - 1 = omega arith in
+    sym (ap (λ (e : RowEnd). e.world) g) ∙ ap (λ w. (run w).world) (b ∙ ap (λ n. before_run n run old) same)
+
+-- a further run came part of the way
+pub further-part : (count k : ℕ) (run : Flat → RowEnd) (part : Flat → Flat → Type 0) (old u new : Flat) → k < count → u ≡ before_run k run old → part u new → ArePartOfRuns count run part old new
+further-part count k run part old u new l e h = record { made = k; few = omega (arith, l); is = subst (λ w. part w new) e h }

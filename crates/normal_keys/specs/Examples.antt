@@ -41,7 +41,7 @@ abbrev pub client_on : List ℕ → Selected → ℕ → Flat
 client_on text sels units = record {
   buffers = Some (record { name = codes "n"; is_file = true; story = opened text; lists = record (fresh (Of 0)) { sels = sels } ∷ [] }) ∷ [];
   clients = newcomer 0 0 0 ∷ [];
-  rest = record { units = units; registers = [] };
+  rest = record { units = units; registers = []; tabstop = 8 };
 }
 
 -- the client's list after keys, from one selection or from a list

@@ -4,6 +4,7 @@ pub mod Running
 pub mod Repeating
 pub mod Rows
 pub mod Growing
+pub mod Wanting
 pub mod Examples
 pub mod EditExamples
 pub mod Laws

@@ -10,6 +10,7 @@ use Rattle.motion_keys.specs.declared.landmarks.Place.TheVariants as place
 use Rattle.motion_keys.specs.declared.char_moves.Search.{Search}
 use Rattle.motion_keys.specs.declared.finding.Motion.TheVariants.{Character, To}
 use Rattle.motion_keys.specs.declared.finding.Reach.{Reach}
+use Rattle.edit_line.specs.Halves.{empty}
 use Rattle.kak_world.specs.declared.own.Mode.TheVariants.{Prompt}
 use Rattle.kak_world.specs.Flat.{Flat, count_of, register_of, pending_of, with_own}
 use Rattle.kak_world.specs.Rows.{RowEnd, does}
@@ -49,7 +50,7 @@ waiting key count who flat = with_own who (λ o. record o { count = count; pendi
 
 -- an empty prompt
 abbrev pub open_prompt : ℕ → Flat → Flat
-open_prompt who flat = with_own who (λ o. record o { mode = Prompt; prompt = [] }) flat
+open_prompt who flat = with_own who (λ o. record o { mode = Prompt; prompt = empty }) flat
 
 -- the first character of the line that the count says, or, without one, waiting for the name of a place
 abbrev pub go_to_line : Key → Reach → ℕ → ℕ → Flat → Flat

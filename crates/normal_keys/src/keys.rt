@@ -7,13 +7,14 @@ ghost use Rattle.kak_world.specs.Rows.{Gives, does};
 ghost use Rattle.key_rows.specs.Each.{each_changed};
 ghost use Rattle.normal_keys.specs.Rows.{open_prompt, go_to_line, acted, chosen_register, answered, row_pending, row_normal};
 ghost use Rattle.normal_keys.specs.Growing.{action_grows, answer_grows, key_grows};
+ghost use Rattle.normal_keys.specs.Wanting.{IsPartOfAction, IsPartOfAnswer, IsPartOfKey, IsPartOfNormal};
 
 use crate::actions::{Action, Repeated, action_of};
 use crate::awaited::{character_of, place_of};
 use crate::lists::change_list;
 use crate::prefixes::{Prefix, set_prefix, take_prefix, wait, with_digit};
 use crate::runs::run_often;
-use kak_text::Chars;
+use edit_line::EditLine;
 use kak_world::{Ask, EditError, Mode, World};
 use key_names::Key;
 use key_rows::{Each, change_each, edit_texts, enter_insert, fill, register_named};
@@ -24,6 +25,7 @@ use std::alloc::Global;
 fn change(alloc: Global, world: &mut World, who: u32, change: Each) -> Result<Ask, EditError>
     requires { is_joined who world.old.flat ≡ true }
     ensures row { Gives result world.new.flat (does (each_changed change who world.old.flat)) }
+    ensures wanting { IsErrOf result EditError.NoMemory → world.new.flat ≡ world.old.flat }
     ensures few { length (sels_of who world.old.flat).list ≤ 4 → ¬ IsErrOf result EditError.NoMemory }
 {
     change_each(alloc, world, who, change)?;
@@ -37,7 +39,7 @@ fn begin_prompt(alloc: Global, world: &mut World, who: u32)
 {
     let own = world.own_mut(who);
     own.mode = Mode::Prompt;
-    own.prompt = Chars::new(alloc);
+    own.prompt = EditLine::new(alloc);
 }
 
 // Goes to the line that a count says, or waits for the name of a place.
@@ -51,6 +53,7 @@ fn go(
 ) -> Result<Ask, EditError>
     requires { is_joined who world.old.flat ≡ true }
     ensures row { Gives result world.new.flat (does (go_to_line key reach count who world.old.flat)) }
+    ensures wanting { IsErrOf result EditError.NoMemory → world.new.flat ≡ world.old.flat }
     ensures few { length (sels_of who world.old.flat).list ≤ 4 → ¬ IsErrOf result EditError.NoMemory }
 {
     if count == 0 {
@@ -72,6 +75,7 @@ fn act(
 ) -> Result<Ask, EditError>
     requires { is_joined who world.old.flat ≡ true }
     ensures row { Gives result world.new.flat (acted key action prefix who world.old.flat) }
+    ensures wanting { IsErrOf result EditError.NoMemory → IsPartOfAction action prefix who world.old.flat world.new.flat }
     ensures few { length (sels_of who world.old.flat).list ≤ 4 → IsErrOf result EditError.NoMemory → action_grows action ≡ true }
 {
     let Prefix { count, register } = prefix;
@@ -128,6 +132,7 @@ fn answer(
 ) -> Result<Ask, EditError>
     requires { is_joined who world.old.flat ≡ true }
     ensures row { Gives result world.new.flat (answered waited key count who world.old.flat) }
+    ensures wanting { IsErrOf result EditError.NoMemory → IsPartOfAnswer waited key count who world.old.flat world.new.flat }
     ensures few { length (sels_of who world.old.flat).list ≤ 4 → IsErrOf result EditError.NoMemory → answer_grows waited ≡ true }
 {
     match waited {
@@ -171,6 +176,7 @@ fn run_pending(
 ) -> Result<Ask, EditError>
     requires { is_joined who world.old.flat ≡ true }
     ensures row { Gives result world.new.flat (row_pending pending key prefix who world.old.flat) }
+    ensures wanting { IsErrOf result EditError.NoMemory → IsPartOfKey pending key prefix who world.old.flat world.new.flat }
     ensures few { length (sels_of who world.old.flat).list ≤ 4 → IsErrOf result EditError.NoMemory → key_grows pending key ≡ true }
 {
     match pending {
@@ -186,6 +192,7 @@ fn run_pending(
 pub fn normal_key(alloc: Global, world: &mut World, who: u32, key: Key) -> Result<Ask, EditError>
     requires { is_joined who world.old.flat ≡ true }
     ensures row { Gives result world.new.flat (row_normal key who world.old.flat) }
+    ensures wanting { IsErrOf result EditError.NoMemory → IsPartOfNormal key who world.old.flat world.new.flat }
     ensures few { length (sels_of who world.old.flat).list ≤ 4 → IsErrOf result EditError.NoMemory → key_grows (pending_of who world.old.flat) key ≡ true }
 {
     let (prefix, pending) = take_prefix(world, who);

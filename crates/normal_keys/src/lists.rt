@@ -23,6 +23,7 @@ pub(crate) fn change_list(
 ) -> Result<Ask, EditError>
     requires { is_joined who world.old.flat ≡ true }
     ensures row { Gives result world.new.flat (list_changed change who world.old.flat) }
+    ensures wanting { IsErrOf result EditError.NoMemory → world.new.flat ≡ world.old.flat }
     ensures few { length (sels_of who world.old.flat).list ≤ 4 → IsErrOf result EditError.NoMemory → change_adds change ≡ true }
 {
     match changed(alloc, world.lines(who), world.sels(who), change) {

@@ -1,12 +1,14 @@
 //! Keys that are run as often as a count says.
 #![tactic(auto, using(kak_world::proofs::WorldLaws::world_laws))]
 
-ghost use Rattle.std.specs.Prelude.{◌≡◌, ◌≤◌, true, false, length, IsOk, IsErrOf};
+ghost use Rattle.std.specs.Prelude.{◌≡◌, ◌≤◌, true, false, None, length, IsOk, IsErrOf};
+ghost use Rattle.kak_world.specs.declared.ask.EditError.TheVariants.{NoMemory};
 ghost use Rattle.kak_world.specs.Flat.{is_joined, sels_of};
 ghost use Rattle.kak_world.specs.Rows.{Answers, Gives};
 ghost use Rattle.normal_keys.specs.Running.{runs};
 ghost use Rattle.normal_keys.specs.Listing.{main_moved};
 ghost use Rattle.normal_keys.specs.Repeating.{node_row, once, repeated_grows};
+ghost use Rattle.normal_keys.specs.Wanting.{is_part_of_once, ArePartOfKey};
 
 use crate::actions::Repeated;
 use crate::prefixes::Prefix;
@@ -35,6 +37,7 @@ fn go_to_node(
 ) -> Result<(), EditError>
     requires { is_joined who world.old.flat ≡ true }
     ensures row { Answers result world.new.flat (node_row direction who world.old.flat) }
+    ensures wanting { IsErrOf result NoMemory → is_part_of_once (Repeated.GoesToNode direction) None who world.old.flat world.new.flat }
 {
     let node = world.node(who);
     let to = match direction {
@@ -59,6 +62,7 @@ fn run_once(
 ) -> Result<(), EditError>
     requires { is_joined who world.old.flat ≡ true }
     ensures row { Answers result world.new.flat (once what register who world.old.flat) }
+    ensures wanting { IsErrOf result NoMemory → is_part_of_once what register who world.old.flat world.new.flat }
     ensures few { repeated_grows what ≡ false → length (sels_of who world.old.flat).list ≤ 4 → IsOk result }
 {
     match what {
@@ -88,6 +92,7 @@ pub(crate) fn run_often(
 ) -> Result<Ask, EditError>
     requires { is_joined who world.old.flat ≡ true }
     ensures row { Gives result world.new.flat (runs prefix.count (once what prefix.register who) world.old.flat) }
+    ensures wanting { IsErrOf result NoMemory → ArePartOfKey what prefix.count prefix.register who world.old.flat world.new.flat }
     ensures few { repeated_grows what ≡ false → length (sels_of who world.old.flat).list ≤ 4 → ¬ IsErrOf result EditError.NoMemory }
 {
     run_once(alloc, world, who, prefix.register, what)?;
