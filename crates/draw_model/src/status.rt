@@ -49,9 +49,24 @@ fn prompt_line(alloc: Global, prompt: &EditLine) -> Result<DrawnLine, AllocError
     let behind = prompt.behind();
     let mut atoms = Vec::new(alloc);
     push_shown(alloc, &mut atoms, ':', StandardFace::Prompt.face())?;
-    push_run(alloc, &mut atoms, prompt.before(), StandardFace::StatusLine.face())?;
-    push_shown(alloc, &mut atoms, under_cursor(behind), StandardFace::StatusCursor.face())?;
-    push_run(alloc, &mut atoms, past_cursor(behind), StandardFace::StatusLine.face())?;
+    push_run(
+        alloc,
+        &mut atoms,
+        prompt.before(),
+        StandardFace::StatusLine.face(),
+    )?;
+    push_shown(
+        alloc,
+        &mut atoms,
+        under_cursor(behind),
+        StandardFace::StatusCursor.face(),
+    )?;
+    push_run(
+        alloc,
+        &mut atoms,
+        past_cursor(behind),
+        StandardFace::StatusLine.face(),
+    )?;
     Ok(DrawnLine {
         atoms: Atoms::of_vec(atoms),
     })
