@@ -160,37 +160,6 @@ fn texts_are_those_of_selections(rt: HostRuntime) -> Result<(), Fail> {
     Ok(())
 }
 
-// A string of 4,194,304 characters, a fourth of what a text may have.
-fn quarter(alloc: Global) -> Result<String, Fail> {
-    let mut part = String::from_str(alloc, "é")?;
-    for _ in 0..22 {
-        let again = String::from_str(alloc, part.as_str())?;
-        part.push_str(again.as_str())?;
-    }
-    Ok(part)
-}
-
-#[test]
-fn strings_that_are_too_much_together_are_refused(rt: HostRuntime) -> Result<(), Fail> {
-    let alloc = rt.alloc();
-    let text = lines(alloc, "abc\n")?;
-    let pairs = [
-        pair(&rt, &text, 0, 0),
-        pair(&rt, &text, 1, 1),
-        pair(&rt, &text, 2, 2),
-        pair(&rt, &text, 3, 3),
-    ];
-    let sels = listed(&rt, alloc, &text, pairs.as_slice())?;
-    let mut string = quarter(alloc)?;
-    let most = words(alloc, [string.as_str()].as_slice())?;
-    assert!(rt; put(alloc, &text, &sels, &most, Put::Over).is_ok());
-    string.push('x')?;
-    let more = words(alloc, [string.as_str()].as_slice())?;
-    let refused = put(alloc, &text, &sels, &more, Put::BeforeCursor).err();
-    assert_eq!(rt; refused, Some(PutError::TooLong));
-    Ok(())
-}
-
 #[test]
 fn lines_are_opened(rt: HostRuntime) -> Result<(), Fail> {
     let alloc = rt.alloc();
