@@ -1,12 +1,12 @@
 //! What is made of one selection by the matches in it.
 
-ghost use Rattle.std.specs.Prelude.{◌≡◌, ◌+◌, ◌<◌, ◌≤◌, ◌++◌, Some, length, flat_map, option_to_list, IfErr, IfSome, OnOk};
+ghost use Rattle.std.specs.Prelude.{◌≡◌, ◌+◌, ◌<◌, ◌≤◌, ◌++◌, Some, length, option_to_list, IfErr, IfSome, OnOk};
 ghost use Rattle.text_model.specs.declared.TheConstants.{MAX_CHARS, MAX_SELECTIONS};
 ghost use Rattle.text_model.specs.Texts.{offset, IsPlace, IsPlaceOrEnd};
 ghost use Rattle.selection_set.specs.Inside.{IsInside};
 ghost use Rattle.selection_set.specs.Listing.{AreInside, ranges_of};
-ghost use Rattle.regex_select.specs.Selecting.{part_between, match_end, selected_by, parts_from};
-ghost use Rattle.regex_select.specs.Taking.{taken_by};
+ghost use Rattle.regex_select.specs.Selecting.{match_end};
+ghost use Rattle.regex_select.specs.Taking.{made_of, part_of, AreAdded};
 ghost use Rattle.regex_select.specs.Walks.{own_chars, IsWalk};
 ghost use Rattle.regex_select.specs.Causes.{IsForRoom};
 
@@ -51,7 +51,7 @@ fn part(lines: &Lines, sel: Sel, first: Walk, end: Walk) -> Option<Sel>
     requires first { IsWalk lines.now sel first }
     requires end { IsWalk lines.now sel end }
     ensures inside { IfSome result (λ s. IsInside lines.now s) }
-    ensures range { ranges_of lines.now (option_to_list result) ≡ part_between (offset lines.now sel.low + first.passed) (offset lines.now sel.low + end.passed) }
+    ensures range { ranges_of lines.now (option_to_list result) ≡ part_of lines.now sel first.passed end.passed }
 {
     if first.passed < end.passed {
         return Some(Sel {
@@ -69,7 +69,7 @@ fn rest(lines: &Lines, sel: Sel, first: Walk) -> Option<Sel>
     requires inside { IsInside lines.now sel }
     requires first { IsWalk lines.now sel first }
     ensures inside { IfSome result (λ s. IsInside lines.now s) }
-    ensures range { ranges_of lines.now (option_to_list result) ≡ part_between (offset lines.now sel.low + first.passed) (offset lines.now sel.low + length (own_chars lines.now sel)) }
+    ensures range { ranges_of lines.now (option_to_list result) ≡ part_of lines.now sel first.passed (length (own_chars lines.now sel)) }
 {
     if first.at.is_at_most(sel.high) {
         return Some(Sel {
@@ -88,7 +88,7 @@ fn found(lines: &Lines, sel: Sel, first: Walk, end: Walk) -> Option<Sel>
     requires first { IsWalk lines.now sel first }
     requires end { IsWalk lines.now sel end }
     ensures inside { IfSome result (λ s. IsInside lines.now s) }
-    ensures range { ranges_of lines.now (option_to_list result) ≡ part_between (offset lines.now sel.low + first.passed) (offset lines.now sel.low + match_end (own_chars lines.now sel) first.passed end.passed) }
+    ensures range { ranges_of lines.now (option_to_list result) ≡ part_of lines.now sel first.passed (match_end (own_chars lines.now sel) first.passed end.passed) }
 {
     if first.passed < end.passed {
         return part(lines, sel, first, end);
@@ -138,9 +138,9 @@ fn push_matches(
     requires few { length list.old.items ≤ MAX_SELECTIONS }
     requires small { length lines.now ≤ MAX_CHARS }
     ensures inside { OnOk result (AreInside lines.now list.new.items) }
-    ensures ranges { OnOk result (ranges_of lines.now list.new.items ≡ ranges_of lines.now list.old.items ++ flat_map (selected_by (own_chars lines.now sel) (offset lines.now sel.low)) spans.now) }
+    ensures ranges { OnOk result (AreAdded lines.now list.old.items list.new.items (made_of Take.Matches lines.now sel spans.now)) }
     ensures few { OnOk result (length list.new.items ≤ MAX_SELECTIONS) }
-    ensures refused { IfErr result (λ e. IsForRoom e (length list.old.items + length (flat_map (selected_by (own_chars lines.now sel) (offset lines.now sel.low)) spans.now))) }
+    ensures refused { IfErr result (λ e. IsForRoom e (length list.old.items + length (made_of Take.Matches lines.now sel spans.now))) }
 {
     let mut walk = start(sel);
     for span in spans {
@@ -164,9 +164,9 @@ fn push_parts(
     requires few { length list.old.items ≤ MAX_SELECTIONS }
     requires small { length lines.now ≤ MAX_CHARS }
     ensures inside { OnOk result (AreInside lines.now list.new.items) }
-    ensures ranges { OnOk result (ranges_of lines.now list.new.items ≡ ranges_of lines.now list.old.items ++ parts_from (own_chars lines.now sel) (offset lines.now sel.low) 0 spans.now) }
+    ensures ranges { OnOk result (AreAdded lines.now list.old.items list.new.items (made_of Take.Parts lines.now sel spans.now)) }
     ensures few { OnOk result (length list.new.items ≤ MAX_SELECTIONS) }
-    ensures refused { IfErr result (λ e. IsForRoom e (length list.old.items + length (parts_from (own_chars lines.now sel) (offset lines.now sel.low) 0 spans.now))) }
+    ensures refused { IfErr result (λ e. IsForRoom e (length list.old.items + length (made_of Take.Parts lines.now sel spans.now))) }
 {
     let mut from = start(sel);
     for span in spans {
@@ -191,9 +191,9 @@ pub(crate) fn push_taken(
     requires few { length list.old.items ≤ MAX_SELECTIONS }
     requires small { length lines.now ≤ MAX_CHARS }
     ensures inside { OnOk result (AreInside lines.now list.new.items) }
-    ensures ranges { OnOk result (ranges_of lines.now list.new.items ≡ ranges_of lines.now list.old.items ++ taken_by what (own_chars lines.now sel) (offset lines.now sel.low) spans.now) }
+    ensures ranges { OnOk result (AreAdded lines.now list.old.items list.new.items (made_of what lines.now sel spans.now)) }
     ensures few { OnOk result (length list.new.items ≤ MAX_SELECTIONS) }
-    ensures refused { IfErr result (λ e. IsForRoom e (length list.old.items + length (taken_by what (own_chars lines.now sel) (offset lines.now sel.low) spans.now))) }
+    ensures refused { IfErr result (λ e. IsForRoom e (length list.old.items + length (made_of what lines.now sel spans.now))) }
 {
     match what {
         Take::Matches => push_matches(lines, sel, spans, list),
