@@ -1,6 +1,7 @@
 pub mod TurnedLemmas
 pub mod ListLemmas
 pub mod EachLemmas
+pub mod ObjectLemmas
 pub mod ShapeLemmas
 pub mod PlaceLemmas
 pub mod BackLemmas

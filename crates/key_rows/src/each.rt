@@ -2,23 +2,35 @@
 #![tactic(auto, using(kak_world::proofs::WorldLaws::world_laws))]
 
 ghost use Rattle.std.specs.Prelude.{◌≡◌, ◌≤◌, true, length, map, IfOk, IsOk, OnOk, OnErr};
+ghost use Rattle.list_model.specs.Ranges.{cursor};
 ghost use Rattle.list_model.specs.Settling.{each_settled};
 ghost use Rattle.selection_set.specs.Inside.{range_of, IsInside};
 ghost use Rattle.selection_set.specs.Listing.{AreInside, ranges_of};
 ghost use Rattle.window_view.specs.Views.{view_of as window_seen};
 ghost use Rattle.kak_world.specs.Flat.{is_joined, sels_of};
 ghost use Rattle.selection_set.specs.Held.{selected, IsHeld};
-ghost use Rattle.key_rows.specs.Each.{each_range, each_changed};
+ghost use Rattle.motion_keys.specs.Words.{EndsAre};
+ghost use Rattle.key_rows.specs.Each.{object_ends, object_range, each_range, each_changed};
 
 use crate::shapes::{Shape, reshape};
 use kak_text::MAX_TABSTOP;
 use kak_world::World;
 use line_buffer::Lines;
 use motion_keys::{Motion, Place, Reach, moved};
-use selection_set::{Sel, Sels};
+use selection_set::{Pair, Sel, Sels};
 use smallvec::SmallVec;
 use std::alloc::{AllocError, Global};
+use text_objects::{Object, around, inner};
 use window_view::Window;
+
+/// How much of an object is selected.
+#[derive(Clone, Copy, PartialEq, Eq, Debug)]
+pub enum Extent {
+    /// The object by itself.
+    Inner,
+    /// The object with what belongs to it.
+    Around,
+}
 
 /// What is done to a selection by itself.
 #[derive(Clone, Copy, PartialEq, Eq, Debug)]
@@ -29,6 +41,41 @@ pub enum Each {
     Reshaped(Shape),
     /// The first character of its first line that is no blank.
     AtFirstLine,
+    /// The object that its cursor is in; where there is none, it stays.
+    Object(Extent, Object),
+}
+
+// The ends of an object at a selection's cursor.
+fn object_ends(
+    lines: &Lines,
+    tabstop: u32,
+    sel: Sel,
+    extent: Extent,
+    object: Object,
+) -> Option<Pair>
+    requires inside { IsInside lines.now sel }
+    requires some { 1 ≤ tabstop }
+    requires few { tabstop ≤ MAX_TABSTOP }
+    ensures { EndsAre lines.now result (object_ends extent object lines.now (cursor (range_of lines.now sel)) tabstop) }
+{
+    match extent {
+        Extent::Inner => inner(lines, &sel, object, tabstop),
+        Extent::Around => around(lines, &sel, object, tabstop),
+    }
+}
+
+// The object at a selection's cursor, straight; where there is none, the selection stays.
+fn on_object(lines: &Lines, tabstop: u32, sel: Sel, extent: Extent, object: Object) -> Sel
+    requires inside { IsInside lines.now sel }
+    requires some { 1 ≤ tabstop }
+    requires few { tabstop ≤ MAX_TABSTOP }
+    ensures inside { IsInside lines.now result }
+    ensures selects { range_of lines.now result ≡ object_range extent object tabstop lines.now (range_of lines.now sel) }
+{
+    match object_ends(lines, tabstop, sel, extent, object) {
+        Some(pair) => Sel::of_pair(pair),
+        None => sel,
+    }
 }
 
 // What becomes of a selection.
@@ -53,6 +100,7 @@ fn changed(lines: &Lines, window: &Window, tabstop: u32, sel: Sel, change: Each)
                 Reach::Select,
             )
         }
+        Each::Object(extent, object) => on_object(lines, tabstop, sel, extent, object),
     }
 }
 

@@ -10,7 +10,7 @@ pub mod naming;
 pub mod reading;
 pub mod shapes;
 
-pub use each::{Each, change_each};
+pub use each::{Each, Extent, change_each};
 pub use edits::{Edit, edit_texts, fill, put};
 pub use entries::{Entry, enter_insert};
 pub use leaving::edit_leaving;

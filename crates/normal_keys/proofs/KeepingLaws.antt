@@ -24,6 +24,8 @@ use Rattle.normal_keys.specs.declared.actions.Action.TheVariants as action
 use Rattle.normal_keys.specs.declared.actions.Repeated.{Repeated}
 use Rattle.normal_keys.specs.declared.actions.Repeated.TheVariants.{Moves, TurnsMain, Travels, GoesToNode, Puts}
 use Rattle.normal_keys.specs.declared.prefixes.Prefix.{Prefix}
+use Rattle.text_objects.specs.declared.kinds.Object.{Object}
+use Rattle.key_rows.specs.declared.each.Extent.{Extent}
 use Rattle.key_rows.specs.Each.{moved}
 use Rattle.key_rows.specs.Sequence.{then_row}
 use Rattle.key_rows.specs.Naming.{register_named}
@@ -32,7 +34,7 @@ use Rattle.normal_keys.specs.Actions.{action_of}
 use Rattle.normal_keys.specs.Running.{after_unit, further_runs, runs}
 use Rattle.normal_keys.specs.Listing.{taken_if_any, taken}
 use Rattle.normal_keys.specs.Repeating.{node_below, node_row, once}
-use Rattle.normal_keys.specs.Rows.{prefix_of, cleared, waiting, go_to_line, acted, character_of, place_of, sought_character, sought_place, filled, chosen_register, answered, row_pending, row_normal}
+use Rattle.normal_keys.specs.Rows.{prefix_of, cleared, waiting, go_to_line, acted, character_of, place_of, sought_character, sought_place, object_of, sought_object, filled, chosen_register, answered, row_pending, row_normal}
 
 -- a change of the world that keeps the clients
 abbrev Keeps : (Flat → Flat) → Type 0
@@ -95,6 +97,7 @@ keeps-acted key (action.Goes reach) prefix who flat = keeps-line key reach prefi
 keeps-acted key (action.Shapes shape) prefix who flat = keeps_sels who _ flat
 keeps-acted key (action.Lists change) prefix who flat = keeps-taken (made_count change (text_of who flat) (sels_of who flat)) (changed_list change (text_of who flat) (sels_of who flat)) who flat
 keeps-acted key (action.Edits edit) prefix who flat = keeps_edit edit prefix.register who flat
+keeps-acted key (action.SelectsObject extent) prefix who flat = keeps_own who _ flat
 keeps-acted key action.Fills prefix who flat = keeps_own who _ flat
 keeps-acted key (action.Inserts entry) prefix who flat = keeps_entry entry prefix.register who flat
 keeps-acted key action.Prompts prefix who flat = keeps_own who _ flat
@@ -107,6 +110,10 @@ keeps-place : (reach : Reach) (who : ℕ) (p : Option Place) → KeepsIn (sought
 keeps-place reach who None flat = keeps_same flat
 keeps-place reach who (Some p) flat = keeps_sels who _ flat
 
+keeps-object : (extent : Extent) (who : ℕ) (o : Option Object) → KeepsIn (sought_object extent who o)
+keeps-object extent who None flat = keeps_same flat
+keeps-object extent who (Some o) flat = keeps_sels who _ flat
+
 keeps-filled : (who : ℕ) (c : Option ℕ) → KeepsIn (filled who c)
 keeps-filled who None flat = keeps_same flat
 keeps-filled who (Some c) flat = keeps_leaving _ who flat
@@ -118,6 +125,7 @@ keeps-chosen-register count who (Some c) flat = keeps_own who _ flat
 keeps-answered : (a : Action) (key : Key) (count who : ℕ) → KeepsIn (answered a key count who)
 keeps-answered (action.Seeks search reach) key count who flat = keeps-character search reach count who (character_of key) flat
 keeps-answered (action.Goes reach) key count who flat = keeps-place reach who (place_of key) flat
+keeps-answered (action.SelectsObject extent) key count who flat = keeps-object extent who (object_of key) flat
 keeps-answered action.Fills key count who flat = keeps-filled who (character_of key) flat
 keeps-answered action.ChoosesRegister key count who flat = keeps-chosen-register count who (register_named key) flat
 keeps-answered _ key count who flat = keeps_same flat

@@ -27,6 +27,7 @@ use Rattle.edit_ops.specs.declared.kinds.Rotation.TheVariants.{Forward as Rotate
 use Rattle.edit_ops.specs.declared.kinds.Indent.TheVariants.{More, Less}
 use Rattle.key_rows.specs.declared.edits.Edit.TheVariants as edit
 use Rattle.key_rows.specs.declared.entries.Entry.TheVariants as entry
+use Rattle.key_rows.specs.declared.each.Extent.TheVariants.{Inner, Around}
 use Rattle.normal_keys.specs.declared.actions.Repeated.TheVariants as repeated
 use Rattle.normal_keys.specs.declared.actions.Action.{Action}
 use Rattle.normal_keys.specs.declared.actions.Action.TheVariants as action
@@ -122,6 +123,8 @@ alt_signs =
     ∷ (code ")", action.Edits (edit.Rotate RotateOn))
     ∷ (code "(", action.Edits (edit.Rotate RotateBack))
     ∷ (code "c", action.Inserts entry.Erase)
+    ∷ (code "i", action.SelectsObject Inner)
+    ∷ (code "a", action.SelectsObject Around)
     ∷ (code "s", action.Lists (list.Split split.AtLineEnds))
     ∷ (code "S", action.Lists (list.Split split.IntoEnds))
     ∷ []

@@ -7,4 +7,5 @@ pub mod Growing
 pub mod Wanting
 pub mod Examples
 pub mod EditExamples
+pub mod ObjectExamples
 pub mod Laws

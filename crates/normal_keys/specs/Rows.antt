@@ -1,5 +1,5 @@
 -- The rows of normal mode: what the world is after each key, and what comes next.
-use Rattle.std.specs.Prelude.{ℕ, ◌+◌, ◌-◌, ◌*◌, min, ◌==◌, if◌then◌else◌, List, [], ◌∷◌, None, Some, option_and_then}
+use Rattle.std.specs.Prelude.{ℕ, ◌+◌, ◌-◌, ◌*◌, min, Bool, false, not, ◌&&◌, ◌==◌, if◌then◌else◌, List, [], ◌∷◌, None, Some, option_and_then}
 use Rattle.std.specs.declared.option.Option.{Option}
 use Rattle.key_names.specs.declared.key.Key.{Key}
 use Rattle.key_names.specs.declared.key.Base.{Base}
@@ -14,6 +14,9 @@ use Rattle.edit_line.specs.Halves.{empty}
 use Rattle.kak_world.specs.declared.own.Mode.TheVariants.{Prompt}
 use Rattle.kak_world.specs.Flat.{Flat, count_of, register_of, pending_of, with_own}
 use Rattle.kak_world.specs.Rows.{RowEnd, does}
+use Rattle.text_objects.specs.declared.kinds.Object.{Object}
+use Rattle.text_objects.specs.declared.kinds.Object.TheVariants as object
+use Rattle.key_rows.specs.declared.each.Extent.{Extent}
 use Rattle.key_rows.specs.declared.each.Each.TheVariants as each
 use Rattle.key_rows.specs.Each.{each_changed, moved}
 use Rattle.key_rows.specs.Naming.{register_named}
@@ -70,6 +73,7 @@ acted key (action.Goes reach) prefix who flat = does (go_to_line key reach prefi
 acted key (action.Shapes shape) prefix who flat = does (each_changed (each.Reshaped shape) who flat)
 acted key (action.Lists change) prefix who flat = list_changed change who flat
 acted key (action.Edits edit) prefix who flat = edit_done edit prefix.register who flat
+acted key (action.SelectsObject extent) prefix who flat = does (waiting key prefix.count who flat)
 acted key action.Fills prefix who flat = does (waiting key prefix.count who flat)
 acted key (action.Inserts entry) prefix who flat = enter_row entry prefix.register who flat
 acted key action.Prompts prefix who flat = does (open_prompt who flat)
@@ -107,6 +111,50 @@ place_named c = looked_up None c places
 abbrev pub place_of : Key → Option Place
 place_of key = option_and_then place_named (character_of key)
 
+-- the names of objects; those of brackets and quotes are a letter and the marks themselves. The grave mark is 96, and " is 34
+abbrev pub objects : List (ℕ × Option Object)
+objects =
+    (code "w", Some object.Word)
+    ∷ (code "p", Some object.Paragraph)
+    ∷ (code "s", Some object.Sentence)
+    ∷ (code " ", Some object.Blanks)
+    ∷ (code "i", Some object.Indent)
+    ∷ (code "n", Some object.Number)
+    ∷ (code "b", Some object.Round)
+    ∷ (code "(", Some object.Round)
+    ∷ (code ")", Some object.Round)
+    ∷ (code "B", Some object.Curly)
+    ∷ (code "{", Some object.Curly)
+    ∷ (code "}", Some object.Curly)
+    ∷ (code "r", Some object.Square)
+    ∷ (code "[", Some object.Square)
+    ∷ (code "]", Some object.Square)
+    ∷ (code "a", Some object.Angle)
+    ∷ (code "<", Some object.Angle)
+    ∷ (code ">", Some object.Angle)
+    ∷ (code "Q", Some object.DoubleQuote)
+    ∷ (34, Some object.DoubleQuote)
+    ∷ (code "q", Some object.Quote)
+    ∷ (code "'", Some object.Quote)
+    ∷ (code "g", Some object.Grave)
+    ∷ (96, Some object.Grave)
+    ∷ []
+
+abbrev pub object_named : ℕ → Option Object
+object_named c = looked_up None c objects
+
+-- whether a key stands for `w` (119) with alt alone
+abbrev pub is_w : Base → Bool
+is_w (base.Char c) = c == 119
+is_w _ = false
+
+abbrev pub is_alt_w : Key → Bool
+is_alt_w key = key.alt && not key.control && not key.shift && is_w key.base
+
+-- the object that a key names: `w` with alt names the word of which marks are parts too
+abbrev pub object_of : Key → Option Object
+object_of key = if is_alt_w key then Some object.BigWord else option_and_then object_named (character_of key)
+
 -- what is done with the next key, for which another one waited; one that doesn't fit does nothing
 abbrev pub sought_character : Search → Reach → ℕ → ℕ → Option ℕ → Flat → RowEnd
 sought_character search reach count who None flat = does flat
@@ -125,11 +173,16 @@ abbrev pub sought_place : Reach → ℕ → Option Place → Flat → RowEnd
 sought_place reach who None flat = does flat
 sought_place reach who (Some p) flat = does (moved (To p) reach who flat)
 
+abbrev pub sought_object : Extent → ℕ → Option Object → Flat → RowEnd
+sought_object extent who None flat = does flat
+sought_object extent who (Some object) flat = does (each_changed (each.Object extent object) who flat)
+
 -- what a key does for which another one waited, by the action of that one; only those that look for a character, go to a
--- place, fill or choose a register wait
+-- place, select an object, fill or choose a register wait
 abbrev pub answered : Action → Key → ℕ → ℕ → Flat → RowEnd
 answered (action.Seeks search reach) key count who flat = sought_character search reach count who (character_of key) flat
 answered (action.Goes reach) key count who flat = sought_place reach who (place_of key) flat
+answered (action.SelectsObject extent) key count who flat = sought_object extent who (object_of key) flat
 answered action.Fills key count who flat = filled who (character_of key) flat
 answered action.ChoosesRegister key count who flat = chosen_register count who (register_named key) flat
 answered _ key count who flat = does flat

@@ -5,7 +5,7 @@ ghost use Rattle.normal_keys.specs.Actions.{moves, seeks, letter_action, alt_let
 
 use edit_ops::{Indent, Put, Rotation, Side};
 use key_names::{Base, Key};
-use key_rows::{Edit, Entry, Shape};
+use key_rows::{Edit, Entry, Extent, Shape};
 use list_keys::{Cut, ListChange, Split};
 use motion_keys::{Direction, LinePart, Motion, Reach, Search, Until, WordKind, WordMove};
 use undo_model::Travel;
@@ -42,6 +42,8 @@ pub enum Action {
     Seeks(Search, Reach),
     /// It goes to the line that the count says, or waits for the name of a place.
     Goes(Reach),
+    /// It waits for the name of an object, which is selected at each cursor.
+    SelectsObject(Extent),
     /// It changes each selection by itself.
     Shapes(Shape),
     /// It changes the list.
@@ -158,6 +160,8 @@ fn alt_sign_action(c: char) -> Action
         ')' => Action::Edits(Edit::Rotate(Rotation::Forward)),
         '(' => Action::Edits(Edit::Rotate(Rotation::Backward)),
         'c' => Action::Inserts(Entry::Erase),
+        'i' => Action::SelectsObject(Extent::Inner),
+        'a' => Action::SelectsObject(Extent::Around),
         's' => Action::Lists(ListChange::Split(Split::AtLineEnds)),
         'S' => Action::Lists(ListChange::Split(Split::IntoEnds)),
         _ => Action::Nothing,

@@ -1,10 +1,11 @@
 //! Keys for which another key waited.
 
 ghost use Rattle.std.specs.Prelude.{◌≡◌};
-ghost use Rattle.normal_keys.specs.Rows.{base_character, character_of, place_named, place_of};
+ghost use Rattle.normal_keys.specs.Rows.{base_character, character_of, place_named, place_of, object_named, is_alt_w, object_of};
 
 use key_names::{Base, Key};
 use motion_keys::Place;
+use text_objects::Object;
 
 // The character that a key without modifiers stands for.
 fn base_character(base: Base) -> Option<char>
@@ -52,4 +53,44 @@ pub fn place_of(key: Key) -> Option<Place>
 {
     let c = character_of(key)?;
     place_named(c)
+}
+
+// The object that a character names.
+fn object_named(c: char) -> Option<Object>
+    ensures { result ≡ object_named c }
+{
+    match c {
+        'w' => Some(Object::Word),
+        'p' => Some(Object::Paragraph),
+        's' => Some(Object::Sentence),
+        ' ' => Some(Object::Blanks),
+        'i' => Some(Object::Indent),
+        'n' => Some(Object::Number),
+        'b' | '(' | ')' => Some(Object::Round),
+        'B' | '{' | '}' => Some(Object::Curly),
+        'r' | '[' | ']' => Some(Object::Square),
+        'a' | '<' | '>' => Some(Object::Angle),
+        'Q' | '"' => Some(Object::DoubleQuote),
+        'q' | '\'' => Some(Object::Quote),
+        'g' | '`' => Some(Object::Grave),
+        _ => None,
+    }
+}
+
+// Whether a key is `w` with alt alone.
+fn is_alt_w(key: Key) -> bool
+    ensures { result ≡ is_alt_w key }
+{
+    key.alt && !key.control && !key.shift && key.base == Base::Char('w')
+}
+
+/// The object that a key names.
+pub fn object_of(key: Key) -> Option<Object>
+    ensures { result ≡ object_of key }
+{
+    if is_alt_w(key) {
+        return Some(Object::BigWord);
+    }
+    let c = character_of(key)?;
+    object_named(c)
 }

@@ -5,12 +5,12 @@ ghost use Rattle.std.specs.Prelude.{◌≡◌, ◌≤◌, true, length, IsErrOf}
 ghost use Rattle.kak_world.specs.Flat.{is_joined, sels_of, pending_of};
 ghost use Rattle.kak_world.specs.Rows.{Gives, does};
 ghost use Rattle.key_rows.specs.Each.{each_changed};
-ghost use Rattle.normal_keys.specs.Rows.{open_prompt, go_to_line, acted, chosen_register, answered, row_pending, row_normal};
+ghost use Rattle.normal_keys.specs.Rows.{open_prompt, go_to_line, acted, sought_character, chosen_register, answered, row_pending, row_normal};
 ghost use Rattle.normal_keys.specs.Growing.{action_grows, answer_grows, key_grows};
-ghost use Rattle.normal_keys.specs.Wanting.{IsPartOfAction, IsPartOfAnswer, IsPartOfKey, IsPartOfNormal};
+ghost use Rattle.normal_keys.specs.Wanting.{is_part_of_seeking, IsPartOfAction, IsPartOfAnswer, IsPartOfKey, IsPartOfNormal};
 
 use crate::actions::{Action, Repeated, action_of};
-use crate::awaited::{character_of, place_of};
+use crate::awaited::{character_of, object_of, place_of};
 use crate::lists::change_list;
 use crate::prefixes::{Prefix, set_prefix, take_prefix, wait, with_digit};
 use crate::runs::run_often;
@@ -18,7 +18,7 @@ use edit_line::EditLine;
 use kak_world::{Ask, EditError, Mode, World};
 use key_names::Key;
 use key_rows::{Each, change_each, edit_texts, enter_insert, fill, register_named};
-use motion_keys::{Motion, Place, Reach};
+use motion_keys::{Motion, Place, Reach, Search};
 use std::alloc::Global;
 
 // Does something to each selection once.
@@ -85,10 +85,11 @@ fn act(
             set_prefix(world, who, with_digit(count, digit), register);
             Ok(Ask::Nothing)
         }
-        Action::ChoosesRegister | Action::Seeks(_, _) | Action::Fills => {
-            wait(world, who, key, count);
-            Ok(Ask::Nothing)
-        }
+        Action::ChoosesRegister | Action::Seeks(_, _) | Action::Fills | Action::SelectsObject(_) =>
+            {
+                wait(world, who, key, count);
+                Ok(Ask::Nothing)
+            }
         Action::Repeats(what) => run_often(alloc, world, who, prefix, what),
         Action::MovesOnce(motion, reach) => {
             change(alloc, world, who, Each::Moved(motion, reach))
@@ -121,6 +122,34 @@ fn choose_register(world: &mut World, who: u32, count: u32, name: Option<char>)
     }
 }
 
+// Goes to a character, as often as the count says; without one nothing is done.
+fn seek(
+    alloc: Global,
+    world: &mut World,
+    who: u32,
+    count: u32,
+    search: Search,
+    reach: Reach,
+    c: Option<char>,
+) -> Result<Ask, EditError>
+    requires { is_joined who world.old.flat ≡ true }
+    ensures row { Gives result world.new.flat (sought_character search reach count who c world.old.flat) }
+    ensures wanting { IsErrOf result EditError.NoMemory → is_part_of_seeking search reach count who c world.old.flat world.new.flat }
+    ensures few { length (sels_of who world.old.flat).list ≤ 4 → ¬ IsErrOf result EditError.NoMemory }
+{
+    match c {
+        None => Ok(Ask::Nothing),
+        Some(c) => {
+            let prefix = Prefix {
+                count,
+                register: None,
+            };
+            let motion = Motion::Character(search, c);
+            run_often(alloc, world, who, prefix, Repeated::Moves(motion, reach))
+        }
+    }
+}
+
 // Does what a key does for which another one waited, by the action of that one; one that doesn't fit does nothing.
 fn answer(
     alloc: Global,
@@ -136,19 +165,15 @@ fn answer(
     ensures few { length (sels_of who world.old.flat).list ≤ 4 → IsErrOf result EditError.NoMemory → answer_grows waited ≡ true }
 {
     match waited {
-        Action::Seeks(search, reach) => match character_of(key) {
-            Some(c) => {
-                let prefix = Prefix {
-                    count,
-                    register: None,
-                };
-                let motion = Motion::Character(search, c);
-                run_often(alloc, world, who, prefix, Repeated::Moves(motion, reach))
-            }
-            None => Ok(Ask::Nothing),
-        },
+        Action::Seeks(search, reach) => {
+            seek(alloc, world, who, count, search, reach, character_of(key))
+        }
         Action::Goes(reach) => match place_of(key) {
             Some(place) => change(alloc, world, who, Each::Moved(Motion::To(place), reach)),
+            None => Ok(Ask::Nothing),
+        },
+        Action::SelectsObject(extent) => match object_of(key) {
+            Some(object) => change(alloc, world, who, Each::Object(extent, object)),
             None => Ok(Ask::Nothing),
         },
         Action::Fills => {

@@ -2,6 +2,7 @@
 
 ghost use Rattle.normal_keys.specs.Examples.{Examples};
 ghost use Rattle.normal_keys.specs.EditExamples.{AllEditExamples};
+ghost use Rattle.normal_keys.specs.ObjectExamples.{ObjectExamples};
 ghost use Rattle.normal_keys.specs.Laws.{RowsKeepClients};
 
 /// No key of normal mode makes a client come or go.
@@ -17,4 +18,9 @@ pub fn worked_examples()
 /// Worked examples of the rows that change the text.
 pub fn edit_examples()
     ensures { AllEditExamples }
+{}
+
+/// Worked examples of the rows that select objects.
+pub fn object_examples()
+    ensures { ObjectExamples }
 {}
