@@ -183,8 +183,13 @@ def last_drawing(output):
     return marked(named["draw"][0]), plain(mode), plain(status)
 
 
-def run(program, report):
-    for name, (text, keys, drawn, mode, status) in ROWS.items():
+def play(kind, rows, program, report):
+    """Each row in a process of its own."""
+    for name, (text, keys, drawn, mode, status) in rows.items():
         ended = run_whole(program, ["-ui", "json"], b"".join([keys_line(f"i{text}<esc>gg"), *map(keys_line, keys)]))
         found = last_drawing(ended.output) if ended.status == 0 else ended.status
-        report.check(f"edits: {name}: {''.join(keys)}", (drawn, f"*scratch* {mode} - client0", status), found)
+        report.check(f"{kind}: {name}: {''.join(keys)}", (drawn, f"*scratch* {mode} - client0", status), found)
+
+
+def run(program, report):
+    play("edits", ROWS, program, report)
