@@ -39,11 +39,11 @@ IsLeftFor ms ss s = (text : List ℕ) (cs : List Change) → AreMarked text cs m
 
 -- one mark
 
-sel-range : (text : List ℕ) (r : Range) → IsPlain r → IsInText text r → range_of text (sel_at text r) ≡ r
+pub sel-range : (text : List ℕ) (r : Range) → IsPlain r → IsInText text r → range_of text (sel_at text r) ≡ r
 sel-range text r p h =
     same_range (range_of text (sel_at text r)) r (offset-coord_at text r.low (omega (arith, h.ordered, h.inside))) (offset-coord_at text r.high (omega (arith, h.inside))) (sym p.straight) (sym p.untargeted)
 
-sel-inside : (text : List ℕ) (r : Range) → IsInText text r → IsInside text (sel_at text r)
+pub sel-inside : (text : List ℕ) (r : Range) → IsInText text r → IsInside text (sel_at text r)
 sel-inside text r h = record {
   low = IsPlace-coord_at text r.low (omega (arith, h.ordered, h.inside));
   high = IsPlace-coord_at text r.high h.inside;
@@ -219,7 +219,7 @@ joins first second s main list place at below is there settles text xs zs m n h 
     (span-of (ranges_of text one) (ranges_of text s.list) spot s.main plain all.settled) in
     record { inside = all.inside; settled = settled-of (xs ++ zs) (ranges_of text s.list) (length xs + n) s.main (all-append IsPlain xs zs h k) span }
 
-ok-weaker : {A E : Type 0} (P Q : A → Type 0) (r : Result A E) → ((x : A) → P x → Q x) → IfOk r P → IfOk r Q
+pub ok-weaker : {A E : Type 0} (P Q : A → Type 0) (r : Result A E) → ((x : A) → P x → Q x) → IfOk r P → IfOk r Q
 ok-weaker P Q (Ok x) f h = f x h
 ok-weaker P Q (Err e) f h = h
 

@@ -4,4 +4,6 @@ pub mod LawLemmas
 pub mod MergeLemmas
 pub mod MarkedLemmas
 pub mod LeftLemmas
+pub mod TurnLemmas
+pub mod FallLemmas
 pub mod TrialLemmas

@@ -156,7 +156,7 @@ marks-last h text cs l =
 
 -- marks are plain
 
-mark-plain : (text : List ℕ) (c : Change) → IsStep text c → IsPlain (mark (changed text c) c)
+pub mark-plain : (text : List ℕ) (c : Change) → IsStep text c → IsPlain (mark (changed text c) c)
 mark-plain text (Insertion p s) h = record { ordered = omega (arith, h.some); straight = refl; untargeted = refl }
 mark-plain text (Erasure p q) h = record { ordered = omega arith; straight = refl; untargeted = refl }
 

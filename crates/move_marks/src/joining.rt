@@ -27,8 +27,12 @@ pub(crate) fn both(alloc: Global, first: &Sels, second: &Sels) -> Result<Sels, A
     settled(alloc, list, place)
 }
 
-// The settled list of some selections that are few enough.
-fn settled(alloc: Global, list: SmallVec<Sel, 4>, main: usize) -> Result<Sels, AllocError>
+/// The settled list of some selections that are few enough.
+pub(crate) fn settled(
+    alloc: Global,
+    list: SmallVec<Sel, 4>,
+    main: usize,
+) -> Result<Sels, AllocError>
     requires main { main < length list.items }
     requires few { length list.items ≤ MAX_SELECTIONS }
     ensures settles { IfOk result (λ s. (text : List ℕ) → AreInside text list.items → IsSettledIn text (ranges_of text list.items) main s) }

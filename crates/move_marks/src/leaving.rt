@@ -5,17 +5,20 @@ ghost use Rattle.text_model.specs.declared.TheConstants.{MAX_SELECTIONS};
 ghost use Rattle.text_model.specs.Changes.{Change, all_changed};
 ghost use Rattle.undo_model.specs.Marks.{marks as ranges_left};
 ghost use Rattle.selection_set.specs.Listing.{IsSettledIn};
+ghost use Rattle.selection_map.specs.Behind.{AreFalling};
 ghost use Rattle.move_marks.specs.Marking.{AreMarked, AreOfChanges, IsLeftBy};
 
-use crate::joining::both;
-use selection_map::catch_up;
+use crate::joining::{both, settled};
+use selection_map::{carry_back, catch_up, falls};
 use selection_set::{Sel, Sels};
+use smallvec::SmallVec;
 use std::alloc::{AllocError, Global};
 use text_model::{MAX_SELECTIONS, Shift};
 
 /// The list that changes of a text leave, by the mark of each in the text right behind it, and its shift: the last
 /// 262,144 marks, each carried through the changes behind it, as a settled list whose main one is that of the last change.
-/// The marks are carried by halves, so that n marks cost n times the logarithm of n, where the changes go one way.
+/// Where the changes fall, as those of an undo do, all marks are carried at once. Else they are carried by halves, so that
+/// n marks cost n times the logarithm of n, where the changes go one way.
 /// At most four marks never take memory.
 pub fn list_left(alloc: Global, marks: &[Sel], shifts: &[Shift]) -> Result<Sels, AllocError>
     requires some { 0 < length marks.now }
@@ -42,6 +45,9 @@ fn list_of(alloc: Global, marks: &[Sel], shifts: &[Shift]) -> Result<Sels, Alloc
     if marks.len() == 1 {
         return Ok(Sels::one(alloc, marks[0]));
     }
+    if falls(shifts) {
+        return list_of_falling(alloc, marks, shifts);
+    }
     let half = marks.len() / 2;
     let (front, back) = marks.split_at(half);
     let (front_shifts, back_shifts) = shifts.split_at(half);
@@ -49,4 +55,20 @@ fn list_of(alloc: Global, marks: &[Sel], shifts: &[Shift]) -> Result<Sels, Alloc
     catch_up(&mut first, back_shifts);
     let second = list_of(alloc, back, back_shifts)?;
     both(alloc, &first, &second)
+}
+
+// The same for changes that fall: each mark goes through the changes behind it, and those of the last changes come first.
+fn list_of_falling(alloc: Global, marks: &[Sel], shifts: &[Shift]) -> Result<Sels, AllocError>
+    requires some { 0 < length marks.now }
+    requires few { length marks.now ≤ MAX_SELECTIONS }
+    requires marked { AreOfChanges marks.now shifts.now }
+    requires fall { AreFalling shifts.now }
+    ensures settles { IfOk result (λ s. (text : List ℕ) (cs : List Change) → AreMarked text cs marks.now shifts.now
+        → IsSettledIn (all_changed text cs) (ranges_left text [] cs) (length cs - 1) s) }
+    ensures few { length marks.now ≤ 4 → IsOk result }
+{
+    let mut list = SmallVec::from_slice(alloc, marks)?;
+    carry_back(list.as_mut_slice(), shifts);
+    list.as_mut_slice().reverse();
+    settled(alloc, list, 0)
 }

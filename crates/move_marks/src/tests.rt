@@ -214,6 +214,32 @@ fn exchange_taken_back(rt: HostRuntime) -> Result<(), Fail> {
 }
 
 #[test]
+fn lines_taken_back_leave_fewer(rt: HostRuntime) -> Result<(), Fail> {
+    let marks = [
+        straight!(at!(1, 2), at!(1, 2)),
+        straight!(at!(1, 0), at!(2, 0)),
+        straight!(at!(0, 1), at!(0, 1)),
+    ];
+    let shifts = [
+        erased!(at!(2, 0), at!(3, 0), at!(1, 2)),
+        typed!(at!(1, 0), at!(2, 1), at!(2, 3)),
+        erased!(at!(0, 1), at!(1, 0), at!(1, 3)),
+    ];
+    let expected = [
+        straight!(at!(0, 1), at!(1, 0)),
+        straight!(at!(1, 3), at!(1, 3)),
+    ];
+    assert_left(
+        &rt,
+        rt.alloc(),
+        marks.as_slice(),
+        shifts.as_slice(),
+        expected.as_slice(),
+        0,
+    )
+}
+
+#[test]
 fn changes_to_and_fro_leave_fewer(rt: HostRuntime) -> Result<(), Fail> {
     let marks = [
         straight!(at!(0, 1), at!(0, 3)),

@@ -15,3 +15,4 @@ pub mod LawLemmas
 pub mod StepLemmas
 pub mod TrialLemmas
 pub mod OneRunLemmas
+pub mod BackLemmas

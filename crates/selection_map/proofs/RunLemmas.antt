@@ -54,7 +54,7 @@ run-at way (s ∷ t ∷ ts) (suc (suc n)) d r some below =
     ∙ run-at way (t ∷ ts) (suc n) d r.1 (omega arith) (omega arith)
 
 -- where all shifts are a run, the longest run of the first ones is all of them
-whole-run : (way : Way) (shifts : List Shift) (n : ℕ) (d : Shift) → IsRun way shifts → 0 < n → n ≤ length shifts → (n < length shifts → (e : Shift) → follows way (get_or shifts (n - 1) e) (get_or shifts n e) ≡ false) → n ≡ length shifts
+pub whole-run : (way : Way) (shifts : List Shift) (n : ℕ) (d : Shift) → IsRun way shifts → 0 < n → n ≤ length shifts → (n < length shifts → (e : Shift) → follows way (get_or shifts (n - 1) e) (get_or shifts n e) ≡ false) → n ≡ length shifts
 whole-run way shifts n d r some few longest =
     elim (ways n (length shifts)) [
       | inl lt ↦ absurd (not-both (follows way (get_or shifts (n - 1) d) (get_or shifts n d)) (run-at way shifts n d r (omega arith) lt) (longest lt d))
@@ -67,7 +67,7 @@ pub record IsLongest (way : Way) (shifts : List Shift) (n : ℕ) : Type 0 where
   pub few : n ≤ length shifts
   pub longest : n < length shifts → (e : Shift) → follows way (get_or shifts (n - 1) e) (get_or shifts n e) ≡ false
 
-zero_shift : Shift
+pub zero_shift : Shift
 zero_shift = record { insert = false; begin = origin; «end» = origin; last = origin }
 
 -- the longer of two such runs is all shifts, where these are a run

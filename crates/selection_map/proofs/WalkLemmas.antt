@@ -47,7 +47,7 @@ stands-small old new w f t h k s = record {
   put = subst IsSmall (sym s.put_is) (coord_at-small new _ k.small);
 }
 
-step-small : (old : List ℕ) (st : Step) → IsStored old → LeadsOn old st → IsSmallReach (reach_of st.shift)
+pub step-small : (old : List ℕ) (st : Step) → IsStored old → LeadsOn old st → IsSmallReach (reach_of st.shift)
 step-small old st h l =
     let way : IsWayOf old st.text st.shift st.move = shift-way old st.text st.shift st.move (step-of old st h l) in
     stands-small old st.text (reach_of st.shift) way.f way.t h l.stored way.stands

@@ -4,6 +4,7 @@ pub mod Reaching
 pub mod Bounds
 pub mod Walking
 pub mod Catching
+pub mod Behind
 pub mod Premises
 pub mod Laws
 pub mod Trials

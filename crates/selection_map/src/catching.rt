@@ -1,12 +1,13 @@
 //! Lists of selections through many changes at once.
 
-ghost use Rattle.std.specs.Prelude.{◌≡◌, ℕ, ◌<◌, ◌≤◌, ◌-◌, false, List, length, take, map, slice_index_or};
+ghost use Rattle.std.specs.Prelude.{◌≡◌, ◌↔◌, ℕ, ◌<◌, ◌≤◌, ◌-◌, true, false, List, length, take, map, slice_index_or};
 ghost use Rattle.text_model.specs.Coords.{is_at_most};
 ghost use Rattle.selection_map.specs.Rebasing.{earlier};
 ghost use Rattle.selection_map.specs.Reaching.{through};
 ghost use Rattle.selection_map.specs.declared.walking.Way.{Way};
 ghost use Rattle.selection_map.specs.Walking.{follows, IsRun};
 ghost use Rattle.selection_map.specs.Premises.{CanGoOn};
+ghost use Rattle.selection_map.specs.Behind.{AreFalling};
 ghost use Rattle.selection_map.specs.Catching.{Step, CanCatchUp, IsCatchable, IsCaughtUp};
 
 use crate::carrying::earlier_of;
@@ -41,6 +42,17 @@ fn run_length(way: Way, shifts: &[Shift]) -> usize
         n += 1;
     }
     n
+}
+
+/// Whether shifts fall: each begins at or before the begin of the one in front of it, and not behind the last place that
+/// that one left.
+pub fn falls(shifts: &[Shift]) -> bool
+    ensures { result ≡ true ↔ AreFalling shifts.now }
+{
+    if shifts.is_empty() {
+        return true;
+    }
+    run_length(Way::Falling, shifts) == shifts.len()
 }
 
 // Takes each selection of a list through the first shifts that go one way, rising or falling, whichever are more, and

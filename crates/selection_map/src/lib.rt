@@ -1,6 +1,7 @@
 //! Where the places of a text, its selections and lists of them go when the text is changed, once or many times.
 #![tactic(auto)]
 
+pub mod behind;
 pub mod carrying;
 pub mod catching;
 pub mod laws;
@@ -8,8 +9,9 @@ pub mod lists;
 mod reach;
 mod walking;
 
+pub use behind::carry_back;
 pub use carrying::{map_one, map_sel, rebase};
-pub use catching::catch_up;
+pub use catching::{catch_up, falls};
 pub use lists::map_sels;
 
 #[cfg(test)]
