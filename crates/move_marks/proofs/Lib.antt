@@ -5,5 +5,5 @@ pub mod MergeLemmas
 pub mod MarkedLemmas
 pub mod LeftLemmas
 pub mod TurnLemmas
-pub mod FallLemmas
+pub mod PassLemmas
 pub mod TrialLemmas

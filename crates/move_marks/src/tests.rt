@@ -214,6 +214,40 @@ fn exchange_taken_back(rt: HostRuntime) -> Result<(), Fail> {
 }
 
 #[test]
+fn letters_side_by_side_exchanged(rt: HostRuntime) -> Result<(), Fail> {
+    let marks = [
+        straight!(at!(0, 0), at!(0, 0)),
+        straight!(at!(0, 0), at!(0, 0)),
+        straight!(at!(0, 1), at!(0, 1)),
+        straight!(at!(0, 1), at!(0, 1)),
+        straight!(at!(0, 2), at!(0, 2)),
+        straight!(at!(0, 2), at!(0, 2)),
+    ];
+    let shifts = [
+        erased!(at!(0, 0), at!(0, 1), at!(0, 3)),
+        typed!(at!(0, 0), at!(0, 1), at!(0, 4)),
+        erased!(at!(0, 1), at!(0, 2), at!(0, 3)),
+        typed!(at!(0, 1), at!(0, 2), at!(0, 4)),
+        erased!(at!(0, 2), at!(0, 3), at!(0, 3)),
+        typed!(at!(0, 2), at!(0, 3), at!(0, 4)),
+    ];
+    let expected = [
+        straight!(at!(0, 0), at!(0, 0)),
+        straight!(at!(0, 1), at!(0, 1)),
+        straight!(at!(0, 2), at!(0, 2)),
+        straight!(at!(0, 3), at!(0, 3)),
+    ];
+    assert_left(
+        &rt,
+        rt.alloc(),
+        marks.as_slice(),
+        shifts.as_slice(),
+        expected.as_slice(),
+        2,
+    )
+}
+
+#[test]
 fn lines_taken_back_leave_fewer(rt: HostRuntime) -> Result<(), Fail> {
     let marks = [
         straight!(at!(1, 2), at!(1, 2)),

@@ -16,7 +16,7 @@ use Rattle.selection_map.specs.Bounds.{IsSmallReach}
 use Rattle.selection_map.specs.Walking.{IsRun}
 use Rattle.selection_map.specs.Catching.{Step, LeadsOn, Lead, text_after, shifts_of}
 use Rattle.selection_map.specs.Premises.{Stands, text_behind, IsFalling}
-use Rattle.selection_map.specs.Behind.{each_through_rest, both_go, LiesBehind, LieBehind, CanCarryBack}
+use Rattle.selection_map.specs.Behind.{AreFalling, each_through_rest, both_go, LiesBehind, LieBehind, StandBehind}
 use Rattle.selection_map.proofs.CarryLemmas.{order-coords, earlier-min}
 use Rattle.selection_map.proofs.SmallLemmas.{place-small}
 use Rattle.selection_map.proofs.ShiftLemmas.{IsWayOf, shift-way}
@@ -126,7 +126,7 @@ carried-first old st sts w x h l k b r f =
       back = in-front old st (shifts_of sts) (begin_of sts) w h l le f;
     }
 
-run-rest : (way : Way) (s : Shift) (ss : List Shift) → IsRun way (s ∷ ss) → IsRun way ss
+pub run-rest : (way : Way) (s : Shift) (ss : List Shift) → IsRun way (s ∷ ss) → IsRun way ss
 run-rest way s [] r = tt
 run-rest way s (t ∷ ts) r = r.1
 
@@ -147,7 +147,7 @@ lie-many [] (x ∷ xs) b = absurd b
 lie-many (st ∷ sts) [] b = absurd b
 lie-many (st ∷ sts) (x ∷ xs) b = ap (λ n. suc n) (lie-many sts xs b.1)
 
-pub shifts-many : (shifts : List Shift) (sels : List Sel) → CanCarryBack shifts sels → length shifts ≡ length sels
+pub shifts-many : (shifts : List Shift) (sels : List Sel) → StandBehind shifts sels → length shifts ≡ length sels
 shifts-many shifts sels c = ap length c.shifts_are ∙ lie-many c.steps sels c.behind
 
 -- the selections before the n-th as they were, the others gone
@@ -190,9 +190,9 @@ pub record IsGoing (shifts : List Shift) (before now : List Sel) (n : ℕ) (w : 
   pub few : n ≤ length before
   pub many : length shifts ≡ length before
   pub gone : now ≡ gone_from n shifts before
-  pub back : (c : CanCarryBack shifts before) → IsBack c.old c.steps n w
+  pub back : (c : StandBehind shifts before) → IsBack c.old c.steps n w
 
-pub going-first : (shifts : List Shift) (sels : List Sel) → CanCarryBack shifts sels → IsGoing shifts sels sels (length sels) at_rest
+pub going-first : (shifts : List Shift) (sels : List Sel) → StandBehind shifts sels → IsGoing shifts sels sels (length sels) at_rest
 going-first shifts sels c = record {
   few = omega arith;
   many = shifts-many shifts sels c;
@@ -211,22 +211,22 @@ going-first shifts sels c = record {
 going-at : (shifts : List Shift) (before now : List Sel) (k n : ℕ) (w : Reach) (e : Sel) → k ≡ suc n → IsGoing shifts before now k w → get_or now n e ≡ get_or before n e
 going-at shifts before now k n w e g i = ap (λ l. get_or l n e) (i.gone ∙ ap (λ j. gone_from j shifts before) g) ∙ gone-at n shifts before e
 
-pub going-now : (shifts : List Shift) (before now : List Sel) (k n : ℕ) (w : Reach) (d : Shift) (e : Sel) → k ≡ suc n → (c : CanCarryBack shifts before) → IsGoing shifts before now k w → IsCarried c.old c.steps n w (get_or shifts n d) (get_or now n e)
-going-now shifts before now k n w d e g c i =
-    carried-at n c.old c.steps before w (get_or shifts n d) (get_or now n e) d e c.stored c.leads c.behind (subst (IsRun Falling) c.shifts_are c.falls) (omega (arith, g, i.few))
+pub going-now : (shifts : List Shift) (before now : List Sel) (k n : ℕ) (w : Reach) (d : Shift) (e : Sel) → k ≡ suc n → AreFalling shifts → (c : StandBehind shifts before) → IsGoing shifts before now k w → IsCarried c.old c.steps n w (get_or shifts n d) (get_or now n e)
+going-now shifts before now k n w d e g falls c i =
+    carried-at n c.old c.steps before w (get_or shifts n d) (get_or now n e) d e c.stored c.leads c.behind (subst (IsRun Falling) c.shifts_are falls) (omega (arith, g, i.few))
     (ap (λ l. get_or l n d) c.shifts_are) (going-at shifts before now k n w e g i) (subst (λ j. IsBack c.old c.steps j w) g (i.back c))
 
-pub going-on : (shifts : List Shift) (before now : List Sel) (k n : ℕ) (w v : Reach) (y : Sel) (d : Shift) (e : Sel) → k ≡ suc n → y ≡ both_go w (get_or now n e) → v ≡ then_on (reach_of (get_or shifts n d)) w → CanCarryBack shifts before → IsGoing shifts before now k w
+pub going-on : (shifts : List Shift) (before now : List Sel) (k n : ℕ) (w v : Reach) (y : Sel) (d : Shift) (e : Sel) → k ≡ suc n → y ≡ both_go w (get_or now n e) → v ≡ then_on (reach_of (get_or shifts n d)) w → AreFalling shifts → StandBehind shifts before → IsGoing shifts before now k w
     → IsGoing shifts before (set now n y) n v
-going-on shifts before now k n w v y d e g is way c i =
-    let here : IsCarried c.old c.steps n w (get_or shifts n d) (get_or now n e) = going-now shifts before now k n w d e g c i in
+going-on shifts before now k n w v y d e g is way falls c i =
+    let here : IsCarried c.old c.steps n w (get_or shifts n d) (get_or now n e) = going-now shifts before now k n w d e g falls c i in
     let gone : y ≡ through (drop (suc n) shifts) (get_or before n e) =
     is ∙ here.gone ∙ ap (λ l. through (drop (suc n) l) (get_or now n e)) (sym c.shifts_are) ∙ ap (through (drop (suc n) shifts)) (going-at shifts before now k n w e g i) in
     record {
       few = omega (arith, g, i.few);
       many = i.many;
       gone = ap (λ l. set l n y) (i.gone ∙ ap (λ j. gone_from j shifts before) g) ∙ gone-step n shifts before y e (omega (arith, g, i.few)) i.many gone;
-      back = λ (b : CanCarryBack shifts before). subst (IsBack b.old b.steps n) (sym way) (going-now shifts before now k n w d e g b i).back;
+      back = λ (b : StandBehind shifts before). subst (IsBack b.old b.steps n) (sym way) (going-now shifts before now k n w d e g falls b i).back;
     }
 
 pub going-length : (shifts : List Shift) (before now : List Sel) (n : ℕ) (w : Reach) → IsGoing shifts before now n w → length now ≡ length before

@@ -16,3 +16,4 @@ pub mod StepLemmas
 pub mod TrialLemmas
 pub mod OneRunLemmas
 pub mod BackLemmas
+pub mod PastLemmas

@@ -83,11 +83,22 @@ origin-first a =
       ]
     ]
 
+pub at_most-self : (a : Coord) → is_at_most a a ≡ true
+at_most-self a = precedes-at_most a a (inr (omega arith, omega arith))
+
+-- what isn't at most a coordinate isn't at most an earlier one
+pub not_at_most-before : (a b c : Coord) → is_at_most a c ≡ false → is_at_most b c ≡ true → is_at_most a b ≡ false
+not_at_most-before a b c e h =
+    elim (test_cases (is_at_most a b)) [
+      | inl k ↦ absurd (not-both (is_at_most a c) (at_most-trans a b c k h) e)
+      | inr k ↦ k
+    ]
+
 -- the earlier of two is at most the first
 pub earlier-first : (a b : Coord) → is_at_most (earlier a b) a ≡ true
 earlier-first a b =
     elim (test_cases (is_at_most a b)) [
-      | inl e ↦ ap (λ v. is_at_most (cond v a b) a) e ∙ precedes-at_most a a (inr (omega arith, omega arith))
+      | inl e ↦ ap (λ v. is_at_most (cond v a b) a) e ∙ at_most-self a
       | inr e ↦ ap (λ v. is_at_most (cond v a b) a) e ∙ at_most-total a b e
     ]
 

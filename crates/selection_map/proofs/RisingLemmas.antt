@@ -20,7 +20,7 @@ pub step-of : (old : List ℕ) (st : Step) → IsStored old → LeadsOn old st �
 step-of old st h l = record { old_text = h.is_text; new_text = l.stored.is_text; shift_is = l.shift_is }
 
 -- a place before the begins of all shifts stays
-stays-ahead : (text : List ℕ) (steps : List Step) (at : Coord) (o : ℕ) → IsStored text → Lead text steps → IsQueue Rising at (shifts_of steps) → o < length text → is_at_most at (coord_at text o) ≡ false → all_mapped (shifts_of steps) (coord_at text o) ≡ coord_at text o
+pub stays-ahead : (text : List ℕ) (steps : List Step) (at : Coord) (o : ℕ) → IsStored text → Lead text steps → IsQueue Rising at (shifts_of steps) → o < length text → is_at_most at (coord_at text o) ≡ false → all_mapped (shifts_of steps) (coord_at text o) ≡ coord_at text o
 stays-ahead text [] at o h l q below e = refl
 stays-ahead text (st ∷ sts) at o h l q below e =
     let ahead : is_at_most st.shift.begin (coord_at text o) ≡ false = not_at_most-behind at st.shift.begin (coord_at text o) e q.0 in

@@ -80,7 +80,7 @@ pub run-one : (way : Way) (shifts : List Shift) → IsRun way (take 1 shifts)
 run-one way [] = tt
 run-one way (s ∷ ss) = tt
 
-queue-from : (s : Shift) (ss : List Shift) → IsRun Rising (s ∷ ss) → IsQueue Rising s.begin ss
+pub queue-from : (s : Shift) (ss : List Shift) → IsRun Rising (s ∷ ss) → IsQueue Rising s.begin ss
 queue-from s [] r = tt
 queue-from s (t ∷ ts) r = (r.0, queue-from t ts r.1)
 

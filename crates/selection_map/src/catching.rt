@@ -7,7 +7,7 @@ ghost use Rattle.selection_map.specs.Reaching.{through};
 ghost use Rattle.selection_map.specs.declared.walking.Way.{Way};
 ghost use Rattle.selection_map.specs.Walking.{follows, IsRun};
 ghost use Rattle.selection_map.specs.Premises.{CanGoOn};
-ghost use Rattle.selection_map.specs.Behind.{AreFalling};
+ghost use Rattle.selection_map.specs.Behind.{AreFalling, AreRising};
 ghost use Rattle.selection_map.specs.Catching.{Step, CanCatchUp, IsCatchable, IsCaughtUp};
 
 use crate::carrying::earlier_of;
@@ -53,6 +53,16 @@ pub fn falls(shifts: &[Shift]) -> bool
         return true;
     }
     run_length(Way::Falling, shifts) == shifts.len()
+}
+
+/// Whether shifts rise: none begins before the begin of the one in front of it.
+pub fn rises(shifts: &[Shift]) -> bool
+    ensures { result ≡ true ↔ AreRising shifts.now }
+{
+    if shifts.is_empty() {
+        return true;
+    }
+    run_length(Way::Rising, shifts) == shifts.len()
 }
 
 // Takes each selection of a list through the first shifts that go one way, rising or falling, whichever are more, and

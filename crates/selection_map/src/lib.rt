@@ -9,9 +9,9 @@ pub mod lists;
 mod reach;
 mod walking;
 
-pub use behind::carry_back;
+pub use behind::{carry_back, carry_on};
 pub use carrying::{map_one, map_sel, rebase};
-pub use catching::{catch_up, falls};
+pub use catching::{catch_up, falls, rises};
 pub use lists::map_sels;
 
 #[cfg(test)]

@@ -3,13 +3,13 @@ use Rattle.std.proofs.lemmas.List.{length-reverse}
 use Rattle.std.specs.List.{refill}
 use Rattle.selection_set.specs.declared.sel.Sel.{Sel}
 use Rattle.selection_set.proofs.InOrderLemmas.{refilled}
-use Rattle.selection_map.specs.Behind.{each_through_rest, CanCarryBack}
+use Rattle.selection_map.specs.Behind.{each_through_rest, StandBehind}
 use Rattle.move_marks.proofs.MarkedLemmas.{shifts-many}
-use Rattle.move_marks.proofs.FallLemmas.{can-carry, rest-length, fallen-ok}
+use Rattle.move_marks.proofs.PassLemmas.{stand-behind, rest-length, fallen-ok}
 use Rattle.move_marks.proofs.leaving.list_of_falling.Goals as goal
 
-pub carry_back-requires : goal.carry_back-requires
-carry_back-requires c = subst (CanCarryBack c.args.shifts.now) (sym (c.as_mut_slice.ensures.value ∙ c.in_ok-list.ensures.ok)) (can-carry c.args.marks.now c.args.shifts.now c.requires.marked c.requires.fall)
+pub carry_back-requires-clause-behind : goal.carry_back-requires-clause-behind
+carry_back-requires-clause-behind c = subst (StandBehind c.args.shifts.now) (sym (c.as_mut_slice.ensures.value ∙ c.in_ok-list.ensures.ok)) (stand-behind c.args.marks.now c.args.shifts.now c.requires.marked)
 
 pub returns-clause-settles : goal.returns-clause-settles
 returns-clause-settles c =

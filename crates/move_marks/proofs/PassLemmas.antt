@@ -1,5 +1,5 @@
--- The marks of falling changes, each carried through the changes behind it, from the last to the first.
-use Rattle.std.proofs.Common.{◌≡◌, ℕ, suc, ◌-◌, ◌≤◌, ◌+◌, min, List, [], ◌∷◌, ◌++◌, length, reverse, refl, sym, ap, ap₂, subst, ◌∙◌, arith, Result, IfOk}
+-- Marks that are each carried through the changes behind its own.
+use Rattle.std.proofs.Common.{◌≡◌, ℕ, suc, ◌-◌, ◌≤◌, ◌+◌, min, List, [], ◌∷◌, ◌++◌, length, reverse, refl, sym, ap, ap₂, subst, subst₂, ◌∙◌, arith, Result, IfOk}
 use Rattle.std.proofs.lemmas.List.Elements.{All-nil}
 use Rattle.std.specs.List.{AllByRecursion}
 use Rattle.text_model.specs.declared.coords.Shift.{Shift}
@@ -18,13 +18,13 @@ use Rattle.selection_map.specs.Carrying.{CarriesBoth}
 use Rattle.selection_map.specs.Rebasing.{mapped_sel}
 use Rattle.selection_map.specs.Reaching.{through}
 use Rattle.selection_map.specs.Catching.{AreShiftsOf, steps_by}
-use Rattle.selection_map.specs.Behind.{AreFalling, each_through_rest, LiesBehind, LieBehind, CanCarryBack}
+use Rattle.selection_map.specs.Behind.{each_through_rest, LiesBehind, LieBehind, StandBehind}
 use Rattle.selection_map.proofs.ListLemmas.{mapped-both}
 use Rattle.selection_map.proofs.LawLemmas.{changes-lead, changes-shifts}
 use Rattle.move_marks.specs.Marking.{sel_at, marks_of, AreOfChanges}
 use Rattle.move_marks.specs.Joining.{IsPlain}
 use Rattle.move_marks.proofs.PlainLemmas.{IsSpan, span-of, settled-of}
-use Rattle.move_marks.proofs.MarkedLemmas.{marks-length, marks-behind, carried_by, mark-plain, plain-marks}
+use Rattle.move_marks.proofs.MarkedLemmas.{marks-many, marks-length, marks-behind, carried_by, mark-plain, plain-marks}
 use Rattle.move_marks.proofs.TurnLemmas.{all-turned, map-turned, span-turned}
 use Rattle.move_marks.proofs.LeftLemmas.{IsLeftFor, sel-range, sel-inside, ok-weaker}
 
@@ -52,15 +52,14 @@ lie-behind text [] (s ∷ ss) h a = absurd a
 lie-behind text (c ∷ cs) [] h a = absurd a
 lie-behind text (c ∷ cs) (s ∷ ss) h a = (lies-behind text c s h.0 a.1, lie-behind (changed text c) cs ss h.1 a.2)
 
-pub can-carry : (ms : List Sel) (ss : List Shift) → AreOfChanges ms ss → AreFalling ss → CanCarryBack ss ms
-can-carry ms ss o r = record {
+pub stand-behind : (ms : List Sel) (ss : List Shift) → AreOfChanges ms ss → StandBehind ss ms
+stand-behind ms ss o = record {
   old = o.text;
   steps = steps_by o.text o.changes ss;
   stored = o.marked.stored;
   leads = changes-lead o.text o.changes ss o.marked.shifts_are;
   shifts_are = changes-shifts o.text o.changes ss o.marked.shifts_are;
   behind = subst (LieBehind (steps_by o.text o.changes ss)) (sym o.marked.marks_are) (lie-behind o.text o.changes ss o.marked.steps o.marked.shifts_are);
-  falls = r;
 }
 
 -- a selection through the shifts of changes, by its range
@@ -128,3 +127,13 @@ fallen-left ms ss list s is settles text cs m =
 
 pub fallen-ok : {E : Type 0} (r : Result Listed E) (ms : List Sel) (ss : List Shift) (list : List Sel) → list ≡ reverse (each_through_rest ss ms) → IfOk r (λ s. (text : List ℕ) → AreInside text list → IsSettledIn text (ranges_of text list) 0 s) → IfOk r (IsLeftFor ms ss)
 fallen-ok r ms ss list is h = ok-weaker (λ s. (text : List ℕ) → AreInside text list → IsSettledIn text (ranges_of text list) 0 s) (IsLeftFor ms ss) r (λ s k. fallen-left ms ss list s is k) h
+
+-- settled in order, they are that list too
+pub risen-left : (ms : List Sel) (ss : List Shift) (list : List Sel) (main : ℕ) (s : Listed) → list ≡ each_through_rest ss ms → main ≡ length ms - 1 → ((text : List ℕ) → AreInside text list → IsSettledIn text (ranges_of text list) main s) → IsLeftFor ms ss s
+risen-left ms ss list main s is at settles text cs m =
+    let now : List ℕ = all_changed text cs in
+    let gone : AreGone text cs ss = are-gone text cs ss m.steps m.shifts_are in
+    let there : list ≡ each_through_rest ss (marks_of text cs) = is ∙ ap (each_through_rest ss) m.marks_are in
+    let inside : AreInside now list = subst (AreInside now) (sym there) gone.inside in
+    let place : main ≡ length cs - 1 = at ∙ ap (λ n. n - 1) (marks-many text cs ms ss m) in
+    subst₂ (λ rs n. IsSettledIn now rs n s) (ap (ranges_of now) there ∙ gone.ranges) place (settles now inside)

@@ -1,0 +1,20 @@
+use Rattle.std.proofs.Common.{◌≡◌, List, length, refl, sym, ap, subst, ◌∙◌}
+use Rattle.std.specs.List.{refill}
+use Rattle.selection_set.specs.declared.sel.Sel.{Sel}
+use Rattle.selection_set.proofs.InOrderLemmas.{refilled}
+use Rattle.selection_map.specs.Behind.{each_through_rest, StandBehind}
+use Rattle.move_marks.proofs.MarkedLemmas.{shifts-many}
+use Rattle.move_marks.proofs.PassLemmas.{stand-behind, rest-length, risen-left}
+use Rattle.move_marks.proofs.leaving.list_of_rising.Goals as goal
+
+pub carry_on-requires-clause-behind : goal.carry_on-requires-clause-behind
+carry_on-requires-clause-behind c = subst (StandBehind c.args.shifts.now) (sym (c.as_mut_slice.ensures.value ∙ c.in_ok-list.ensures.ok)) (stand-behind c.args.marks.now c.args.shifts.now c.requires.marked)
+
+pub returns-clause-settles : goal.returns-clause-settles
+returns-clause-settles c =
+    let given : List Sel = c.in_ok-list.list.items in
+    let carried : List Sel = each_through_rest c.args.shifts.now c.args.marks.now in
+    let gone : c.carry_on.new.sels ≡ carried = c.carry_on.ensures.carried c.if-not-carry_on.false ∙ ap (each_through_rest c.args.shifts.now) (c.as_mut_slice.ensures.value ∙ c.in_ok-list.ensures.ok) in
+    let many : length carried ≡ length given = rest-length c.args.shifts.now c.args.marks.now (shifts-many c.args.marks.now c.args.shifts.now c.requires.marked) ∙ sym (ap length c.in_ok-list.ensures.ok) in
+    let back : refill (length given) given c.carry_on.new.sels ≡ carried = refilled given c.carry_on.new.sels (ap length gone ∙ many) ∙ gone in
+    risen-left c.args.marks.now c.args.shifts.now (refill (length given) given c.carry_on.new.sels) _ c.in_ok-sels.sels back refl c.in_ok-sels.ensures.settles

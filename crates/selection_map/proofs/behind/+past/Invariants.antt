@@ -1,0 +1,4 @@
+use Rattle.selection_map.proofs.behind.+past.Given as goal
+
+abbrev pub decreases-past : goal.decreases-past
+decreases-past l = l.most
