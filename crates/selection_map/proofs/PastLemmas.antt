@@ -1,10 +1,10 @@
 -- Selections that stand each behind a step of its own, through rising steps behind that, of which each meets few.
-use Rattle.std.proofs.Common.{◌≡◌, ℕ, zero, suc, ◌<◌, ◌≤◌, ◌+◌, Bool, true, false, cond, not, ◌&&◌, List, [], ◌∷◌, length, take, drop, get_or, set, refl, sym, ap, ap₂, subst, subst₂, ◌∙◌, arith}
+use Rattle.std.proofs.Common.{◌≡◌, ℕ, zero, suc, ◌<◌, ◌≤◌, true, false, cond, not, ◌&&◌, List, [], ◌∷◌, length, drop, get_or, set, refl, sym, ap, ap₂, subst, subst₂, ◌∙◌, arith}
 use Rattle.std.proofs.lemmas.List.{drop_all}
 use Rattle.text_model.specs.declared.coords.Coord.{Coord}
 use Rattle.text_model.specs.declared.coords.Shift.{Shift}
 use Rattle.text_model.specs.Coords.{is_at_most}
-use Rattle.text_model.specs.Texts.{IsStored, IsPlace, offset, coord_at}
+use Rattle.text_model.specs.Texts.{IsStored, IsPlace, offset}
 use Rattle.text_model.proofs.PlaceLemmas.{offset-below, coord_at-offset, leb_true}
 use Rattle.selection_set.specs.declared.sel.Sel.{Sel}
 use Rattle.selection_set.specs.Inside.{IsInside}
@@ -13,7 +13,7 @@ use Rattle.selection_map.specs.Carrying.{IsStep, AreSmall}
 use Rattle.selection_map.specs.Rebasing.{mapped_sel}
 use Rattle.selection_map.specs.Reaching.{all_mapped, through}
 use Rattle.selection_map.specs.Walking.{IsRun}
-use Rattle.selection_map.specs.Catching.{Step, LeadsOn, Lead, shifts_of}
+use Rattle.selection_map.specs.Catching.{Step, Lead, shifts_of}
 use Rattle.selection_map.specs.Premises.{IsQueue}
 use Rattle.selection_map.specs.Behind.{AreRising, meets_few, all_meet_few, each_through_rest, LieBehind, StandBehind, CanGoPast}
 use Rattle.selection_map.proofs.CarryLemmas.{order-coords}

@@ -1,10 +1,9 @@
 use Rattle.std.proofs.Common.{rules, ◌≡◌, ◌-◌, ◌<◌, true, false, List, ◌∷◌, sym, ap, subst, ◌∙◌, arith}
 use Rattle.text_model.specs.declared.coords.Shift.{Shift}
 use Rattle.text_model.specs.Coords.{is_at_most}
-use Rattle.selection_map.specs.Rebasing.{mapped_sel}
 use Rattle.selection_map.specs.Reaching.{through}
 use Rattle.selection_map.specs.Behind.{meets_few, CanGoPast}
-use Rattle.selection_map.proofs.PastLemmas.{past-behind, past-on, few-behind, few-none, few-on}
+use Rattle.selection_map.proofs.PastLemmas.{past-behind, past-on, few-on}
 use Rattle.selection_map.proofs.behind.+past.Goals as goal
 
 pub returns-then-not-is_at_most-clause-through : goal.returns-then-not-is_at_most-clause-through

@@ -1,4 +1,4 @@
-use Rattle.std.proofs.Common.{◌≡◌, ◌+◌, suc, true, false, length, drop, get_or, slice_set, refl, sym, ap, subst, ◌∙◌, arith}
+use Rattle.std.proofs.Common.{◌≡◌, ◌+◌, suc, drop, get_or, slice_set, refl, sym, ap, subst, ◌∙◌, arith}
 use Rattle.selection_set.proofs.HeldLemmas.{zero_sel}
 use Rattle.selection_map.specs.Reaching.{through}
 use Rattle.selection_map.specs.Behind.{meets_few, CanGoPast}
