@@ -4,3 +4,6 @@ pub mod FlagLemmas
 pub mod WalkLemmas
 pub mod MatchedLemmas
 pub mod PartLemmas
+pub mod WayLemmas
+pub mod SoughtLemmas
+pub mod MadeLemmas

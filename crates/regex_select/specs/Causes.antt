@@ -1,5 +1,5 @@
 -- What a refusal tells of the selections that there would be.
-use Rattle.std.specs.Prelude.{◌≡◌, ℕ, ◌<◌, List, [], length}
+use Rattle.std.specs.Prelude.{◌≡◌, ℕ, ◌<◌, ◌≤◌, List, [], length}
 use Rattle.text_model.specs.declared.TheConstants.{MAX_SELECTIONS}
 use Rattle.list_model.specs.Ranges.{Range}
 use Rattle.regex_select.specs.declared.error.SelectError.{SelectError}
@@ -22,3 +22,9 @@ abbrev pub IsForRoom : SelectError → ℕ → Type 0
 IsForRoom NoMatch n = ⊥
 IsForRoom TooMany n = MAX_SELECTIONS < n
 IsForRoom NoMemory n = Unit {0}
+
+-- there is no match, or there is one and no room for it beside so many selections
+abbrev pub IsForOneMore : SelectError → List Range → ℕ → Type 0
+IsForOneMore NoMatch ms n = ms ≡ []
+IsForOneMore TooMany ms n = (0 < length ms) × (MAX_SELECTIONS ≤ n)
+IsForOneMore NoMemory ms n = Unit {0}

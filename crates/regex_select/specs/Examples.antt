@@ -1,9 +1,14 @@
 -- Worked examples, which hold by computation. Whether there is a match says the pattern.
 use Rattle.std.specs.Prelude.{◌≡◌, ℕ, true, false, None, Some, List, [], ◌∷◌, codes, nat_lt}
 use Rattle.list_model.specs.Ranges.{Range, Selected, only}
+use Rattle.list_model.specs.Settling.{each_settled}
 use Rattle.regex_ports.specs.declared.pattern.Span.{Span}
+use Rattle.regex_select.specs.declared.way.Way.{Way}
+use Rattle.regex_select.specs.declared.way.Way.TheVariants.{Forward, Backward}
+use Rattle.regex_select.specs.declared.way.Search.{Search}
 use Rattle.regex_select.specs.Rows.{chars_of, is_some_span, kept_each}
 use Rattle.regex_select.specs.Selecting.{chars_before, selected_by, selected_by_all, parts_from, made_each}
+use Rattle.regex_select.specs.Searching.{sought, searched, main_settled, main_added}
 
 -- a turned selection with a target
 abbrev pub aimed : ℕ → ℕ → Range
@@ -53,3 +58,33 @@ pub record SplitExamples : Type 0 where
   pub all_matched : parts_from (codes "ab") 0 0 (match 0 2 ∷ []) ≡ []
   pub at_each_character : parts_from (codes "ab\n") 0 0 (match 0 0 ∷ match 1 1 ∷ match 2 2 ∷ match 3 3 ∷ []) ≡ only 0 ∷ only 1 ∷ only 2 ∷ []
   pub at_word_ends : parts_from (codes "ab cd\n") 0 0 (match 0 0 ∷ match 2 2 ∷ match 3 3 ∷ match 5 5 ∷ []) ≡ straight 0 1 ∷ only 2 ∷ straight 3 4 ∷ only 5 ∷ []
+
+-- a search that extends, and a turned selection without a target
+abbrev pub stretching : Way → Search
+stretching way = record { way = way; extend = true }
+
+abbrev pub turned : ℕ → ℕ → Range
+turned a b = record { low = a; high = b; turned = true; target = None }
+
+-- two matches: those of `ab` in `ab ab` with its newline
+abbrev pub two_matches : List Range
+two_matches = straight 0 1 ∷ straight 3 4 ∷ []
+
+-- the matches of the empty pattern in `ab` with its newline are three characters, those of `ab` in `abc abc` are 0 to 1 and
+-- 4 to 5
+pub record SearchExamples : Type 0 where
+  pub next : sought Forward two_matches (only 0) ≡ straight 3 4
+  pub round_the_end : sought Forward two_matches (straight 3 4) ≡ straight 0 1
+  pub behind_all_of_it : sought Forward two_matches (straight 1 3) ≡ straight 0 1
+  pub before : sought Backward two_matches (straight 3 4) ≡ straight 0 1
+  pub last_before : sought Backward two_matches (only 5) ≡ straight 3 4
+  pub inside_of_one : sought Backward two_matches (only 4) ≡ straight 3 4
+  pub round_the_begin : sought Backward two_matches (only 0) ≡ straight 3 4
+  pub empty_ones : sought Forward (only 0 ∷ only 1 ∷ only 2 ∷ []) (only 0) ≡ only 1
+  pub only_itself : sought Forward (straight 3 4 ∷ []) (straight 3 4) ≡ straight 3 4
+  pub back_to_its_end : searched (stretching Backward) (straight 0 1 ∷ straight 4 5 ∷ []) (only 6) ≡ turned 5 6
+  pub from_the_anchor : searched (stretching Forward) two_matches (aimed 1 2) ≡ straight 2 4
+  pub both_at_one : each_settled (searched (record { way = Forward; extend = false }) two_matches) (listed (only 0 ∷ aimed 1 2 ∷ []) 1) ≡ listed (straight 3 4 ∷ []) 0
+  pub sorted : each_settled (searched (record { way = Forward; extend = false }) two_matches) (listed (only 2 ∷ only 5 ∷ []) 0) ≡ listed (straight 0 1 ∷ straight 3 4 ∷ []) 1
+  pub of_the_main_one : main_settled (sought Forward two_matches) (listed (only 2 ∷ only 5 ∷ []) 1) ≡ listed (straight 0 1 ∷ only 2 ∷ []) 0
+  pub one_more : main_added (sought Forward two_matches) (listed (only 2 ∷ only 5 ∷ []) 1) ≡ listed (straight 0 1 ∷ only 2 ∷ only 5 ∷ []) 0

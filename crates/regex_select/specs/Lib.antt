@@ -4,4 +4,6 @@ pub mod Walks
 pub mod Taking
 pub mod Causes
 pub mod Flags
+pub mod Searching
+pub mod Ways
 pub mod Examples

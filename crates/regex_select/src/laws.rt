@@ -1,6 +1,6 @@
 //! Worked examples of the definitions.
 
-ghost use Rattle.regex_select.specs.Examples.{KeptExamples, MatchedExamples, SplitExamples};
+ghost use Rattle.regex_select.specs.Examples.{KeptExamples, MatchedExamples, SplitExamples, SearchExamples};
 
 /// Worked examples of the selections that are kept.
 pub fn kept_examples()
@@ -15,4 +15,9 @@ pub fn matched_examples()
 /// Worked examples of the parts that matches leave.
 pub fn split_examples()
     ensures { SplitExamples }
+{}
+
+/// Worked examples of the matches that are found from selections.
+pub fn search_examples()
+    ensures { SearchExamples }
 {}

@@ -1,16 +1,22 @@
-//! Selecting by patterns: what their matches select, the parts that these leave, and the selections that have a match, or
-//! have none.
+//! Selecting by patterns: what their matches select, the parts that these leave, the selections that have a match, or have
+//! none, and the matches that are found from selections on.
 #![tactic(auto)]
 
 pub mod error;
+pub mod finding;
 pub mod keeping;
 pub mod laws;
 pub mod matching;
 mod searching;
 mod settling;
+mod stretching;
 mod taking;
 mod walking;
+pub mod way;
+mod whole;
 
 pub use error::SelectError;
+pub use finding::{add_match, next_match, search, search_main};
 pub use keeping::keep;
 pub use matching::{matches_in, split_in};
+pub use way::{Search, Way};

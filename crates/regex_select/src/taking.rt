@@ -1,6 +1,6 @@
 //! What is made of one selection by the matches in it.
 
-ghost use Rattle.std.specs.Prelude.{◌≡◌, ◌+◌, ◌<◌, ◌≤◌, ◌++◌, Some, length, option_to_list, IfErr, IfSome, OnOk};
+ghost use Rattle.std.specs.Prelude.{◌≡◌, ◌+◌, ◌<◌, ◌≤◌, ◌++◌, Some, length, option_to_list, IfErr, IfSome, OnOk, IfOk};
 ghost use Rattle.text_model.specs.declared.TheConstants.{MAX_CHARS, MAX_SELECTIONS};
 ghost use Rattle.text_model.specs.Texts.{offset, IsPlace, IsPlaceOrEnd};
 ghost use Rattle.selection_set.specs.Inside.{IsInside};
@@ -17,7 +17,7 @@ use line_buffer::Lines;
 use regex_ports::Span;
 use selection_set::Sel;
 use smallvec::SmallVec;
-use std::alloc::AllocError;
+use std::alloc::{AllocError, Global};
 use text_model::MAX_SELECTIONS;
 
 /// What is made of a selection.
@@ -99,8 +99,8 @@ fn found(lines: &Lines, sel: Sel, first: Walk, end: Walk) -> Option<Sel>
     None
 }
 
-// Puts a selection behind a list.
-fn push(list: &mut SmallVec<Sel, 4>, sel: Sel) -> Result<(), AllocError>
+/// Puts a selection behind a list.
+pub(crate) fn push(list: &mut SmallVec<Sel, 4>, sel: Sel) -> Result<(), AllocError>
     ensures { OnOk result (list.new.items ≡ list.old.items ++ option_to_list (Some sel)) }
 {
     list.push(sel)?;
@@ -150,6 +150,39 @@ fn push_matches(
         walk = end;
     }
     Ok(())
+}
+
+// Puts what a match selects behind a list.
+fn push_selected(list: &mut SmallVec<Sel, 4>, found: Option<Sel>) -> Result<(), AllocError>
+    ensures { OnOk result (list.new.items ≡ list.old.items ++ option_to_list found) }
+{
+    match found {
+        None => Ok(()),
+        Some(sel) => push(list, sel),
+    }
+}
+
+/// What matches in a selection select, however many they are. It costs the selection.
+pub(crate) fn selected(
+    alloc: Global,
+    lines: &Lines,
+    sel: Sel,
+    spans: &[Span],
+) -> Result<SmallVec<Sel, 4>, AllocError>
+    requires inside { IsInside lines.now sel }
+    requires small { length lines.now ≤ MAX_CHARS }
+    ensures inside { IfOk result (λ v. AreInside lines.now v.items) }
+    ensures ranges { IfOk result (λ v. ranges_of lines.now v.items ≡ made_of Take.Matches lines.now sel spans.now) }
+{
+    let mut list = SmallVec::new(alloc);
+    let mut walk = start(sel);
+    for span in spans {
+        let first = walk_to(lines, sel, walk, span.start);
+        let end = walk_to(lines, sel, first, span.end);
+        push_selected(&mut list, found(lines, sel, first, end))?;
+        walk = end;
+    }
+    Ok(list)
 }
 
 // Puts the parts that matches leave of a selection behind a list.

@@ -1,0 +1,20 @@
+use Rattle.std.proofs.Common.{◌∙◌}
+use Rattle.selection_set.proofs.HeldLemmas.{main-sel}
+use Rattle.regex_select.specs.Searching.{all_matches, sought}
+use Rattle.regex_select.proofs.MadeLemmas.{made-held, made-selected, main-made}
+use Rattle.regex_select.proofs.finding.search_main.Goals as goal
+
+pub sought-requires : goal.sought-requires
+sought-requires g c = (main-sel c.args.lines.now c.args.sels.now c.main-main.result c.at.result c.main-main.ensures.value c.at.ensures c.requires).inside
+
+pub returns-clause-held : goal.returns-clause-held
+returns-clause-held g c =
+    let made = main-made c.args.lines.now (sought c.args.way (all_matches (g.P.Pattern.source c.args.pattern.now) c.args.lines.now)) c.args.sels.now c.in_ok-list.list.items c.deref_mut.result.now c.main-main.result c.at.result c.in_ok-found.found c.requires
+    (main-sel c.args.lines.now c.args.sels.now c.main-main.result c.at.result c.main-main.ensures.value c.at.ensures c.requires) c.in_ok-found.ensures.inside c.in_ok-found.ensures.seeks (c.in_ok-list.ensures.ok ∙ c.as_slice.ensures.value) c.deref_mut.ensures.value c.main-main.ensures.value in
+    made-held c.args.lines.now _ _ c.main-main.result c.in_ok-settled.field-0 made c.in_ok-settled.ensures
+
+pub returns-clause-searches : goal.returns-clause-searches
+returns-clause-searches g c =
+    let made = main-made c.args.lines.now (sought c.args.way (all_matches (g.P.Pattern.source c.args.pattern.now) c.args.lines.now)) c.args.sels.now c.in_ok-list.list.items c.deref_mut.result.now c.main-main.result c.at.result c.in_ok-found.found c.requires
+    (main-sel c.args.lines.now c.args.sels.now c.main-main.result c.at.result c.main-main.ensures.value c.at.ensures c.requires) c.in_ok-found.ensures.inside c.in_ok-found.ensures.seeks (c.in_ok-list.ensures.ok ∙ c.as_slice.ensures.value) c.deref_mut.ensures.value c.main-main.ensures.value in
+    made-selected c.args.lines.now _ _ c.main-main.result c.in_ok-settled.field-0 made c.in_ok-settled.ensures

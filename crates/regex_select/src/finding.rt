@@ -1,0 +1,172 @@
+//! Searching a text for a pattern, from selections on.
+//!
+//! The matches are those of the whole text, each searched for behind the one before it. A match is the range that it selects,
+//! straight and without a target; an empty match is the character at its place, and at the end of the text it is none. From a
+//! selection, a search forward finds the first match that begins behind the selection's last character, or the first match
+//! of the text where none does; a search backward finds the last match that begins before the selection's first character,
+//! or the last match of the text. So a search goes round the ends of the text, and a selection that is the only match is
+//! found from itself.
+
+ghost use Rattle.std.specs.Prelude.{◌≡◌, ◌<◌, length, IfOk, IfErr};
+ghost use Rattle.text_model.specs.declared.TheConstants.{MAX_SELECTIONS};
+ghost use Rattle.text_model.specs.Texts.{offset};
+ghost use Rattle.list_model.specs.Settling.{each_settled};
+ghost use Rattle.selection_set.specs.Inside.{range_of, IsInside};
+ghost use Rattle.selection_set.specs.Listing.{AreInside, ranges_of, IsPairInside};
+ghost use Rattle.selection_set.specs.Held.{selected, IsHeld};
+ghost use Rattle.regex_select.specs.Searching.{all_matches, on_the_way, sought, searched, main_settled, main_added};
+ghost use Rattle.regex_select.specs.Causes.{IsForNone, IsForOneMore};
+
+use crate::error::SelectError;
+use crate::settling::settled;
+use crate::stretching::search_each;
+use crate::taking::push;
+use crate::way::{Search, Way, first_ahead, match_at, order};
+use crate::whole::all_matches;
+use line_buffer::Lines;
+use regex_ports::Pattern;
+use selection_set::{Pair, Sel, Sels};
+use smallvec::SmallVec;
+use std::alloc::Global;
+use text_model::MAX_SELECTIONS;
+
+// The matches of a pattern in a text, in the order of a way.
+fn matches<P: Pattern>(
+    alloc: Global,
+    lines: &Lines,
+    pattern: &P,
+    way: Way,
+) -> Result<SmallVec<Sel, 4>, SelectError>
+    ensures inside { IfOk result (λ v. AreInside lines.now v.items) }
+    ensures ranges { IfOk result (λ v. ranges_of lines.now v.items ≡ on_the_way way (all_matches (P.source pattern.now) lines.now)) }
+    ensures some { IfOk result (λ v. 0 < length v.items) }
+    ensures refused { IfErr result (λ e. IsForNone e (all_matches (P.source pattern.now) lines.now)) }
+{
+    let mut list = all_matches(alloc, lines, pattern)?;
+    if list.is_empty() {
+        return Err(SelectError::NoMatch);
+    }
+    order(list.as_mut_slice(), way);
+    Ok(list)
+}
+
+// The match that is found from a selection.
+fn sought<P: Pattern>(
+    alloc: Global,
+    lines: &Lines,
+    from: Sel,
+    pattern: &P,
+    way: Way,
+) -> Result<Sel, SelectError>
+    requires { IsInside lines.now from }
+    ensures inside { IfOk result (λ s. IsInside lines.now s) }
+    ensures seeks { IfOk result (λ s. range_of lines.now s ≡ sought way (all_matches (P.source pattern.now) lines.now) (range_of lines.now from)) }
+    ensures some { IfOk result (λ s. 0 < length (all_matches (P.source pattern.now) lines.now)) }
+    ensures refused { IfErr result (λ e. IsForNone e (all_matches (P.source pattern.now) lines.now)) }
+{
+    let matches = matches(alloc, lines, pattern, way)?;
+    let place = first_ahead(way, from, matches.as_slice(), 0);
+    Ok(match_at(matches.as_slice(), place))
+}
+
+/// Makes of each selection the match that is found from it, or, where it extends, the range from the selection's anchor to
+/// that match's last character, turned where this is before the anchor, and without a target. The main one stays the main
+/// one.
+///
+/// `NoMatch` comes exactly where the text has no match, but memory may run out before that is found; `TooMany` never comes.
+/// The text is searched once, and selections and matches are gone over once.
+pub fn search<P: Pattern>(
+    alloc: Global,
+    lines: &Lines,
+    sels: &Sels,
+    pattern: &P,
+    search: Search,
+) -> Result<Sels, SelectError>
+    requires { IsHeld lines.now sels.now }
+    ensures held { IfOk result (λ s. IsHeld lines.now s) }
+    ensures searches { IfOk result (λ s. selected lines.now s ≡ each_settled (searched search (all_matches (P.source pattern.now) lines.now)) (selected lines.now sels.now)) }
+    ensures some { IfOk result (λ s. 0 < length (all_matches (P.source pattern.now) lines.now)) }
+    ensures refused { IfErr result (λ e. IsForNone e (all_matches (P.source pattern.now) lines.now)) }
+{
+    let matches = matches(alloc, lines, pattern, search.way)?;
+    let mut list = SmallVec::from_slice(alloc, sels.as_slice())?;
+    search_each(list.as_mut_slice(), matches.as_slice(), search);
+    Ok(settled(alloc, list, sels.main())?)
+}
+
+/// Makes of the main selection the match that is found from it; it stays the main one.
+///
+/// `NoMatch` comes exactly where the text has no match, but memory may run out before that is found; `TooMany` never comes.
+/// The text is searched once.
+pub fn search_main<P: Pattern>(
+    alloc: Global,
+    lines: &Lines,
+    sels: &Sels,
+    pattern: &P,
+    way: Way,
+) -> Result<Sels, SelectError>
+    requires { IsHeld lines.now sels.now }
+    ensures held { IfOk result (λ s. IsHeld lines.now s) }
+    ensures searches { IfOk result (λ s. selected lines.now s ≡ main_settled (sought way (all_matches (P.source pattern.now) lines.now)) (selected lines.now sels.now)) }
+    ensures some { IfOk result (λ s. 0 < length (all_matches (P.source pattern.now) lines.now)) }
+    ensures refused { IfErr result (λ e. IsForNone e (all_matches (P.source pattern.now) lines.now)) }
+{
+    let main = sels.main();
+    let found = sought(alloc, lines, sels.at(main), pattern, way)?;
+    let mut list = SmallVec::from_slice(alloc, sels.as_slice())?;
+    list[main] = found;
+    Ok(settled(alloc, list, main)?)
+}
+
+/// Adds the match that is found from the main selection, which becomes the main one; the others stay.
+///
+/// `NoMatch` comes exactly where the text has no match, and `TooMany` exactly where it has one and `MAX_SELECTIONS` selections
+/// are there already; but memory may run out before that is found. The text is searched once.
+pub fn add_match<P: Pattern>(
+    alloc: Global,
+    lines: &Lines,
+    sels: &Sels,
+    pattern: &P,
+    way: Way,
+) -> Result<Sels, SelectError>
+    requires { IsHeld lines.now sels.now }
+    ensures held { IfOk result (λ s. IsHeld lines.now s) }
+    ensures adds { IfOk result (λ s. selected lines.now s ≡ main_added (sought way (all_matches (P.source pattern.now) lines.now)) (selected lines.now sels.now)) }
+    ensures some { IfOk result (λ s. 0 < length (all_matches (P.source pattern.now) lines.now)) }
+    ensures room { IfOk result (λ s. length sels.now.list < MAX_SELECTIONS) }
+    ensures refused { IfErr result (λ e. IsForOneMore e (all_matches (P.source pattern.now) lines.now) (length sels.now.list)) }
+{
+    let found = sought(alloc, lines, sels.at(sels.main()), pattern, way)?;
+    let count = sels.len();
+    if count == MAX_SELECTIONS {
+        return Err(SelectError::TooMany);
+    }
+    let mut list = SmallVec::from_slice(alloc, sels.as_slice())?;
+    push(&mut list, found)?;
+    Ok(settled(alloc, list, count)?)
+}
+
+/// The match that is found from a selection: its anchor is the match's first character, and its cursor the last one.
+///
+/// `NoMatch` comes exactly where the text has no match, but memory may run out before that is found; `TooMany` never comes.
+/// The text is searched once.
+pub fn next_match<P: Pattern>(
+    alloc: Global,
+    lines: &Lines,
+    from: Sel,
+    pattern: &P,
+    way: Way,
+) -> Result<Pair, SelectError>
+    requires { IsInside lines.now from }
+    ensures inside { IfOk result (λ pair. IsPairInside lines.now pair) }
+    ensures anchor { IfOk result (λ pair. offset lines.now pair.anchor ≡ (sought way (all_matches (P.source pattern.now) lines.now) (range_of lines.now from)).low) }
+    ensures cursor { IfOk result (λ pair. offset lines.now pair.cursor ≡ (sought way (all_matches (P.source pattern.now) lines.now) (range_of lines.now from)).high) }
+    ensures some { IfOk result (λ pair. 0 < length (all_matches (P.source pattern.now) lines.now)) }
+    ensures refused { IfErr result (λ e. IsForNone e (all_matches (P.source pattern.now) lines.now)) }
+{
+    let found = sought(alloc, lines, from, pattern, way)?;
+    Ok(Pair {
+        anchor: found.low,
+        cursor: found.high,
+    })
+}
