@@ -7,3 +7,4 @@ pub mod PartLemmas
 pub mod WayLemmas
 pub mod SoughtLemmas
 pub mod MadeLemmas
+pub mod FoundLemmas

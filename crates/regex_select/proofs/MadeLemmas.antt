@@ -34,7 +34,7 @@ made-selected text given list main s h settles = given-selected text list main g
 
 -- ---- lists that were written to
 
-length-way : {X : Type 0} (way : Way) (xs : List X) → length (on_the_way way xs) ≡ length xs
+pub length-way : {X : Type 0} (way : Way) (xs : List X) → length (on_the_way way xs) ≡ length xs
 length-way Forward xs = refl
 length-way Backward xs = length-reverse xs
 

@@ -27,12 +27,24 @@ use Rattle.regex_select.proofs.WayLemmas.{map-way}
 
 -- ---- lists inside a text
 
-append-inside : (text : List ℕ) (xs ys : List Sel) → AreInside text xs → AreInside text ys → AreInside text (xs ++ ys)
-append-inside text [] ys h k = k
-append-inside text (x ∷ xs) ys h k = (h.0, append-inside text xs ys h.1 k)
+pub all-append : {X : Type 0} (P : X → Type 0) (xs ys : List X) → AllByRecursion P xs → AllByRecursion P ys → AllByRecursion P (xs ++ ys)
+all-append P [] ys h k = k
+all-append P (x ∷ xs) ys h k = (h.0, all-append P xs ys h.1 k)
+
+pub all-reverse : {X : Type 0} (P : X → Type 0) (xs : List X) → AllByRecursion P xs → AllByRecursion P (reverse xs)
+all-reverse P [] h = tt
+all-reverse P (x ∷ xs) h = subst (AllByRecursion P) (sym (reverse-append (x ∷ []) xs)) (all-append P (reverse xs) (x ∷ []) (all-reverse P xs h.1) (h.0, tt))
+
+pub all-filter : {X : Type 0} (P : X → Type 0) (p : X → Bool) (xs : List X) → AllByRecursion P xs → AllByRecursion P (filter p xs)
+all-filter P p [] h = tt
+all-filter P p (x ∷ xs) h = by-flag (p x) (all-filter P p xs h.1)
+  where
+    by-flag : (b : Bool) → AllByRecursion P (filter p xs) → AllByRecursion P (cond b (x ∷ filter p xs) (filter p xs))
+    by-flag true k = (h.0, k)
+    by-flag false k = k
 
 pub push-inside : (text : List ℕ) (xs : List Sel) (s : Sel) → AreInside text xs → IsInside text s → AreInside text (xs ++ s ∷ [])
-push-inside text xs s h k = append-inside text xs (s ∷ []) h (k, tt)
+push-inside text xs s h k = all-append (IsInside text) xs (s ∷ []) h (k, tt)
 
 pub set-inside : (text : List ℕ) (xs : List Sel) (n : ℕ) (s : Sel) → AreInside text xs → IsInside text s → AreInside text (set xs n s)
 set-inside text [] n s h k = h
@@ -41,7 +53,7 @@ set-inside text (x ∷ xs) (suc n) s h k = (h.0, set-inside text xs n s h.1 k)
 
 -- one found more
 pub found-inside : (text : List ℕ) (before after : List Sel) (found : Option Sel) → AreInside text before → IfSome found (λ s. IsInside text s) → after ≡ before ++ option_to_list found → AreInside text after
-found-inside text before after None h k e = subst (AreInside text) (sym e) (append-inside text before [] h tt)
+found-inside text before after None h k e = subst (AreInside text) (sym e) (all-append (IsInside text) before [] h tt)
 found-inside text before after (Some s) h k e = subst (AreInside text) (sym e) (push-inside text before s h k)
 
 pub selected-more : (text : List ℕ) (f : Span → List Range) (spans : List Span) (n : ℕ) (d : Span) (before after : List Sel) (found : Option Sel) → n < length spans → ranges_of text before ≡ flat_map f (take n spans) → ranges_of text (option_to_list found) ≡ f (get_or spans n d) → after ≡ before ++ option_to_list found
@@ -49,14 +61,6 @@ pub selected-more : (text : List ℕ) (f : Span → List Range) (spans : List Sp
 selected-more text f spans n d before after found l b r e =
     ap (ranges_of text) e ∙ map-append (range_of text) before (option_to_list found) ∙ ap₂ (λ xs ys. xs ++ ys) b (r ∙ sym (append-nil (f (get_or spans n d))))
     ∙ sym (ap (flat_map f) (take_more spans n d l) ∙ flat_map-append f (take n spans) (get_or spans n d ∷ []))
-
-all-append : {X : Type 0} (P : X → Type 0) (xs : List X) (x : X) → AllByRecursion P xs → P x → AllByRecursion P (xs ++ x ∷ [])
-all-append P [] x h k = (k, tt)
-all-append P (y ∷ ys) x h k = (h.0, all-append P ys x h.1 k)
-
-all-reverse : {X : Type 0} (P : X → Type 0) (xs : List X) → AllByRecursion P xs → AllByRecursion P (reverse xs)
-all-reverse P [] h = tt
-all-reverse P (x ∷ xs) h = subst (AllByRecursion P) (sym (reverse-append (x ∷ []) xs)) (all-append P (reverse xs) x (all-reverse P xs h.1) h.0)
 
 pub way-inside : (text : List ℕ) (way : Way) (xs ys : List Sel) → ys ≡ on_the_way way xs → AreInside text xs → AreInside text ys
 way-inside text Forward xs ys e h = subst (AreInside text) (sym e) h
@@ -84,14 +88,6 @@ ahead-ranges text way s (m ∷ ms) h k =
     by-flag true e = ap (λ l. range_of text m ∷ l) e
     by-flag false e = e
 
-filter-inside : (text : List ℕ) (p : Sel → Bool) (ms : List Sel) → AreInside text ms → AreInside text (filter p ms)
-filter-inside text p [] h = tt
-filter-inside text p (m ∷ ms) h = by-flag (p m) (filter-inside text p ms h.1)
-  where
-    by-flag : (b : Bool) → AreInside text (filter p ms) → AreInside text (cond b (m ∷ filter p ms) (filter p ms))
-    by-flag true k = (h.0, k)
-    by-flag false k = k
-
 first-inside : (text : List ℕ) (d : Sel) (ms : List Sel) → IsInside text d → AreInside text ms → IsInside text (first_or d ms)
 first-inside text d [] h k = h
 first-inside text d (m ∷ ms) h k = k.0
@@ -101,7 +97,7 @@ first-range text d [] = refl
 first-range text d (m ∷ ms) = refl
 
 pub sought-inside : (text : List ℕ) (way : Way) (ms : List Sel) (s : Sel) → IsInside text s → AreInside text ms → IsInside text (sought_at way ms s)
-sought-inside text way ms s h k = first-inside text s (filter (is_ahead_at way s) ms ++ ms) h (append-inside text (filter (is_ahead_at way s) ms) ms (filter-inside text (is_ahead_at way s) ms k) k)
+sought-inside text way ms s h k = first-inside text s (filter (is_ahead_at way s) ms ++ ms) h (all-append (IsInside text) (filter (is_ahead_at way s) ms) ms (all-filter (IsInside text) (is_ahead_at way s) ms k) k)
 
 pub sought-range : (text : List ℕ) (way : Way) (ms : List Sel) (rs : List Range) (s : Sel) → IsInside text s → AreInside text ms → ranges_of text ms ≡ on_the_way way rs → range_of text (sought_at way ms s) ≡ sought way rs (range_of text s)
 sought-range text way ms rs s h k e =
@@ -160,7 +156,7 @@ further-backward text s (t ∷ ts) h k a =
 
 goes-on-push : (way : Way) (ss : List Sel) (s : Sel) → GoesOn way ss → AllByRecursion (λ t. IsFurther way t s) ss → GoesOn way (ss ++ s ∷ [])
 goes-on-push way [] s g h = (tt, tt)
-goes-on-push way (t ∷ ts) s g h = (all-append (IsFurther way t) ts s g.0 h.0, goes-on-push way ts s g.1 h.1)
+goes-on-push way (t ∷ ts) s g h = (all-append (IsFurther way t) ts (s ∷ []) g.0 (h.0, tt), goes-on-push way ts s g.1 h.1)
 
 apart-goes-on : (text : List ℕ) (way : Way) (ss : List Sel) → AreInside text ss → AreApart (ranges_of text ss) → GoesOn way (on_the_way way ss)
 apart-goes-on text Forward [] h a = tt

@@ -73,6 +73,7 @@ two_matches = straight 0 1 ∷ straight 3 4 ∷ []
 -- the matches of the empty pattern in `ab` with its newline are three characters, those of `ab` in `abc abc` are 0 to 1 and
 -- 4 to 5
 pub record SearchExamples : Type 0 where
+  pub matches : selected_by_all (codes "ab ab\n") 0 (match 0 2 ∷ match 3 5 ∷ []) ≡ two_matches
   pub next : sought Forward two_matches (only 0) ≡ straight 3 4
   pub round_the_end : sought Forward two_matches (straight 3 4) ≡ straight 0 1
   pub behind_all_of_it : sought Forward two_matches (straight 1 3) ≡ straight 0 1

@@ -6,4 +6,5 @@ pub mod Causes
 pub mod Flags
 pub mod Searching
 pub mod Ways
+pub mod Laws
 pub mod Examples

@@ -1,11 +1,11 @@
 //! Searching a text for a pattern, from selections on.
 //!
-//! The matches are those of the whole text, each searched for behind the one before it. A match is the range that it selects,
-//! straight and without a target; an empty match is the character at its place, and at the end of the text it is none. From a
-//! selection, a search forward finds the first match that begins behind the selection's last character, or the first match
-//! of the text where none does; a search backward finds the last match that begins before the selection's first character,
-//! or the last match of the text. So a search goes round the ends of the text, and a selection that is the only match is
-//! found from itself.
+//! The matches are those of the whole text, each searched for behind the one before it. A match is the range that it
+//! selects, straight and without a target; an empty match is the character at its place, and at the end of the text it is
+//! none. From a selection, a search forward finds the first match that begins behind the selection's last character, or the
+//! first match of the text where none does; a search backward finds the last match that begins before the selection's first
+//! character, or the last match of the text where none does. So a search goes round the ends of the text, and where the
+//! selection is the only match, it is the one that is found.
 
 ghost use Rattle.std.specs.Prelude.{◌≡◌, ◌<◌, length, IfOk, IfErr};
 ghost use Rattle.text_model.specs.declared.TheConstants.{MAX_SELECTIONS};
@@ -69,12 +69,12 @@ fn sought<P: Pattern>(
     Ok(match_at(matches.as_slice(), place))
 }
 
-/// Makes of each selection the match that is found from it, or, where it extends, the range from the selection's anchor to
-/// that match's last character, turned where this is before the anchor, and without a target. The main one stays the main
-/// one.
+/// Makes of each selection the match that is found from it, or, where the search extends, the range from the selection's
+/// anchor to that match's last character, turned where this is before the anchor, and without a target. The main one stays
+/// the main one.
 ///
-/// `NoMatch` comes exactly where the text has no match, but memory may run out before that is found; `TooMany` never comes.
-/// The text is searched once, and selections and matches are gone over once.
+/// `NoMatch` comes exactly where the text has no match, but memory may run out before that is found; `TooMany` never
+/// comes. The text is searched once, and selections and matches are gone over once.
 pub fn search<P: Pattern>(
     alloc: Global,
     lines: &Lines,
@@ -96,8 +96,8 @@ pub fn search<P: Pattern>(
 
 /// Makes of the main selection the match that is found from it; it stays the main one.
 ///
-/// `NoMatch` comes exactly where the text has no match, but memory may run out before that is found; `TooMany` never comes.
-/// The text is searched once.
+/// `NoMatch` comes exactly where the text has no match, but memory may run out before that is found; `TooMany` never
+/// comes. The text is searched once.
 pub fn search_main<P: Pattern>(
     alloc: Global,
     lines: &Lines,
@@ -120,8 +120,8 @@ pub fn search_main<P: Pattern>(
 
 /// Adds the match that is found from the main selection, which becomes the main one; the others stay.
 ///
-/// `NoMatch` comes exactly where the text has no match, and `TooMany` exactly where it has one and `MAX_SELECTIONS` selections
-/// are there already; but memory may run out before that is found. The text is searched once.
+/// `NoMatch` comes exactly where the text has no match, and `TooMany` exactly where it has one and the list has
+/// `MAX_SELECTIONS` selections already; but memory may run out before that is found. The text is searched once.
 pub fn add_match<P: Pattern>(
     alloc: Global,
     lines: &Lines,
@@ -148,8 +148,8 @@ pub fn add_match<P: Pattern>(
 
 /// The match that is found from a selection: its anchor is the match's first character, and its cursor the last one.
 ///
-/// `NoMatch` comes exactly where the text has no match, but memory may run out before that is found; `TooMany` never comes.
-/// The text is searched once.
+/// `NoMatch` comes exactly where the text has no match, but memory may run out before that is found; `TooMany` never
+/// comes. The text is searched once.
 pub fn next_match<P: Pattern>(
     alloc: Global,
     lines: &Lines,

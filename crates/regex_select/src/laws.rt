@@ -1,6 +1,7 @@
-//! Worked examples of the definitions.
+//! Laws of searches, and worked examples of the definitions.
 
 ghost use Rattle.regex_select.specs.Examples.{KeptExamples, MatchedExamples, SplitExamples, SearchExamples};
+ghost use Rattle.regex_select.specs.Laws.{SearchLaws};
 
 /// Worked examples of the selections that are kept.
 pub fn kept_examples()
@@ -20,4 +21,9 @@ pub fn split_examples()
 /// Worked examples of the matches that are found from selections.
 pub fn search_examples()
     ensures { SearchExamples }
+{}
+
+/// Laws of the matches that are found from selections.
+pub fn search_laws()
+    ensures { SearchLaws }
 {}
