@@ -20,3 +20,6 @@ pub use finding::{add_match, next_match, search, search_main};
 pub use keeping::keep;
 pub use matching::{matches_in, split_in};
 pub use way::{Search, Way};
+
+#[cfg(test)]
+mod tests;

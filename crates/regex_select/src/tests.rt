@@ -1,0 +1,118 @@
+ghost use Rattle.std.specs.Prelude.{IfOk};
+ghost use Rattle.std.specs.List.{AllByRecursion};
+ghost use Rattle.selection_set.specs.Listing.{IsPairInside};
+ghost use Rattle.selection_set.specs.Held.{IsHeld};
+
+use super::*;
+use kak_text::{Chars, Coord, Text};
+use line_buffer::Lines;
+use regex_ports::{Made, PatternMaker, RegexMaker, RegexPattern};
+use selection_set::{Pair, Sel, Sels};
+use std::alloc::Global;
+use std::process::Abort;
+use std::test::Fail;
+
+fn lines(alloc: Global, text: &str) -> Result<Lines, Fail> {
+    let chars = Chars::from_str(alloc, text)?;
+    let text = Text::of_chars(alloc, chars.as_slice())?;
+    Ok(Lines::of_text(alloc, &text)?)
+}
+
+fn pattern<R: Abort>(rt: &R, alloc: Global, text: &str) -> Result<RegexPattern, Fail> {
+    match RegexMaker::new().make(alloc, text)? {
+        Made::Built(pattern) => Ok(pattern),
+        Made::Refused => panic!(rt; "no pattern"),
+    }
+}
+
+// The ends of a selection, by their offsets.
+fn pair<R: Abort>(rt: &R, lines: &Lines, anchor: usize, cursor: usize) -> Pair
+    ensures { IsPairInside lines.now result }
+{
+    assert!(rt; anchor < lines.len());
+    assert!(rt; cursor < lines.len());
+    Pair {
+        anchor: lines.coord_of(anchor),
+        cursor: lines.coord_of(cursor),
+    }
+}
+
+// The selections between some ends.
+fn listed<R: Abort>(
+    rt: &R,
+    alloc: Global,
+    lines: &Lines,
+    pairs: &[Pair],
+    main: usize,
+) -> Result<Sels, Fail>
+    requires { AllByRecursion (IsPairInside lines.now) pairs.now }
+    ensures { IfOk result (λ s. IsHeld lines.now s) }
+{
+    assert!(rt; main < pairs.len());
+    Ok(Sels::of_pairs(alloc, pairs, main)?)
+}
+
+fn coord(column: u32) -> Coord {
+    Coord { line: 0, column }
+}
+
+fn sel(low: u32, high: u32, turned: bool) -> Sel {
+    Sel {
+        low: coord(low),
+        high: coord(high),
+        turned,
+        target: None,
+    }
+}
+
+// The list has just these selections and this main one.
+fn assert_list<R: Abort>(rt: &R, list: &Sels, expected: &[Sel], main: usize) {
+    assert_eq!(rt; list.as_slice(), expected);
+    assert_eq!(rt; list.main(), main);
+}
+
+// A search for `ab` makes these selections of two.
+fn assert_found<R: Abort>(
+    rt: &R,
+    alloc: Global,
+    by: Search,
+    expected: &[Sel],
+    main: usize,
+) -> Result<(), Fail> {
+    let lines = lines(alloc, "abc ab é ab\n")?;
+    let ab = pattern(rt, alloc, "ab")?;
+    let pairs = [pair(rt, &lines, 2, 2), pair(rt, &lines, 10, 9)];
+    let sels = listed(rt, alloc, &lines, pairs.as_slice(), 1)?;
+    let found = search(alloc, &lines, &sels, &ab, by)?;
+    assert_list(rt, &found, expected, main);
+    Ok(())
+}
+
+#[test]
+fn searches_go_round_the_ends(rt: HostRuntime) -> Result<(), Fail> {
+    let both = [sel(0, 1, false), sel(4, 5, false)];
+    let search = Search {
+        way: Way::Forward,
+        extend: false,
+    };
+    assert_found(&rt, rt.alloc(), search, both.as_slice(), 0)?;
+    let stretched = [sel(1, 2, true), sel(5, 10, true)];
+    let search = Search {
+        way: Way::Backward,
+        extend: true,
+    };
+    assert_found(&rt, rt.alloc(), search, stretched.as_slice(), 1)
+}
+
+#[test]
+fn matches_are_found_by_their_ends(rt: HostRuntime) -> Result<(), Fail> {
+    let alloc = rt.alloc();
+    let lines = lines(alloc, "abc ab é ab\n")?;
+    let wide = pattern(&rt, alloc, "é a|b c")?;
+    assert!(rt; 9 < lines.len());
+    let from = Sel::only(lines.coord_of(9));
+    let found = next_match(alloc, &lines, from, &wide, Way::Forward)?;
+    assert_eq!(rt; found.anchor, coord(7));
+    assert_eq!(rt; found.cursor, coord(9));
+    Ok(())
+}
