@@ -19,12 +19,12 @@ is_ahead_at Backward s m = not (is_at_most s.low m.low)
 abbrev pub ArePassed : Way → Sel → List Sel → Type 0
 ArePassed way s ms = AllByRecursion (λ m. is_ahead_at way s m ≡ false) ms
 
--- a selection isn't less far on the way than another one
+-- the second selection is as far on the way as the first one, or further
 abbrev pub IsFurther : Way → Sel → Sel → Type 0
 IsFurther Forward s t = is_at_most s.high t.high ≡ true
 IsFurther Backward s t = is_at_most t.low s.low ≡ true
 
--- no selection is less far on the way than one that comes earlier in the list
+-- each selection is as far on the way as those that come earlier in the list, or further
 abbrev pub GoesOn : Way → List Sel → Type 0
 GoesOn way [] = Unit {0}
 GoesOn way (s ∷ ss) = AllByRecursion (IsFurther way s) ss × GoesOn way ss

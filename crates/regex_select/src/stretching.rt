@@ -20,7 +20,7 @@ fn reached(sel: Sel, found: Sel, extend: bool) -> Sel
     found
 }
 
-// The same for selections that are in the order of the way.
+// Makes of each selection what a search makes of it, where the selections too are in the order of its way.
 fn search_on(list: &mut [Sel], matches: &[Sel], search: Search)
     requires some { 0 < length matches.now }
     requires order { GoesOn search.way list.old }
