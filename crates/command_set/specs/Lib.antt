@@ -1,3 +1,5 @@
 pub mod Rows
+pub mod Finishing
+pub mod Refusing
 pub mod Laws
 pub mod Examples

@@ -1,18 +1,56 @@
 -- The cursor of a prompt.
-use Rattle.std.proofs.Common.{◌≡◌, ℕ, suc, ◌+◌, ◌<◌, List, [], ◌∷◌, length, take, get_or, refl, ap, ◌∙◌, arith}
+use Rattle.std.proofs.Common.{◌≡◌, ℕ, ◌+◌, ◌<◌, List, [], ◌∷◌, ◌++◌, length, take, get_or, refl, sym, ap, ap₂, ◌∙◌, append_assoc, arith}
 use Rattle.unicode_width.specs.Width.{char_width}
-use Rattle.kak_text.specs.Cells.{cells_of, display_column}
-use Rattle.window_view.proofs.HoldingLemmas.{next_column}
-use Rattle.draw_model.specs.Drawings.{prompt_column}
+use Rattle.kak_text.specs.Cells.{cells_of, column_behind}
+use Rattle.std.proofs.lemmas.List.{take_more}
+use Rattle.kak_world.specs.declared.purpose.Toward.TheVariants.{Next, Former}
+use Rattle.kak_world.specs.declared.purpose.Use.TheVariants as matches
+use Rattle.kak_world.specs.declared.purpose.Purpose.{Purpose}
+use Rattle.kak_world.specs.declared.purpose.Purpose.TheVariants.{Commands, Pattern}
+use Rattle.draw_model.specs.Drawings.{prompt_name, prompt_column}
 
--- before what was typed there is one cell
-pub colon : (tabstop : ℕ) → prompt_column tabstop [] ≡ 1
+-- before what was typed each character has one cell
+pub name-cells : (tabstop : ℕ) (purpose : Purpose) → prompt_column tabstop purpose [] ≡ length (prompt_name purpose)
 unfolding char_width
-colon tabstop = refl
+name-cells tabstop Commands = refl
+name-cells tabstop (Pattern matches.Select) = refl
+name-cells tabstop (Pattern matches.Split) = refl
+name-cells tabstop (Pattern matches.Keep) = refl
+name-cells tabstop (Pattern matches.Drop) = refl
+name-cells tabstop (Pattern (matches.Search Next)) = refl
+name-cells tabstop (Pattern (matches.Search Former)) = refl
+name-cells tabstop (Pattern (matches.Reach Next)) = refl
+name-cells tabstop (Pattern (matches.Reach Former)) = refl
+name-cells tabstop (Pattern (matches.Step Next further)) = refl
+name-cells tabstop (Pattern (matches.Step Former further)) = refl
+name-cells tabstop (Pattern (matches.Add Next further)) = refl
+name-cells tabstop (Pattern (matches.Add Former further)) = refl
+
+-- a name has few
+pub name-short : (purpose : Purpose) → length (prompt_name purpose) < 16
+name-short Commands = omega arith
+name-short (Pattern matches.Select) = omega arith
+name-short (Pattern matches.Split) = omega arith
+name-short (Pattern matches.Keep) = omega arith
+name-short (Pattern matches.Drop) = omega arith
+name-short (Pattern (matches.Search Next)) = omega arith
+name-short (Pattern (matches.Search Former)) = omega arith
+name-short (Pattern (matches.Reach Next)) = omega arith
+name-short (Pattern (matches.Reach Former)) = omega arith
+name-short (Pattern (matches.Step Next further)) = omega arith
+name-short (Pattern (matches.Step Former further)) = omega arith
+name-short (Pattern (matches.Add Next further)) = omega arith
+name-short (Pattern (matches.Add Former further)) = omega arith
+
+-- characters one behind another
+behind-append : (tabstop column : ℕ) (xs ys : List ℕ) → column_behind tabstop column (xs ++ ys) ≡ column_behind tabstop (column_behind tabstop column xs) ys
+behind-append tabstop column [] ys = refl
+behind-append tabstop column (x ∷ xs) ys = behind-append tabstop (column + cells_of x column tabstop) xs ys
 
 -- one more character of what was typed
-pub prompt-more : (tabstop : ℕ) (typed : List ℕ) (i column c width : ℕ) → i < length typed → c ≡ get_or typed i c → column ≡ prompt_column tabstop (take i typed) → width ≡ cells_of c column tabstop
-    → column + width ≡ prompt_column tabstop (take (i + 1) typed)
-prompt-more tabstop typed i column c width h r e w =
-    let n : suc i + 1 ≡ suc (i + 1) = omega arith in
-    next_column (58 ∷ typed) (suc i) tabstop column c width (omega arith) r e w ∙ ap (λ k. display_column (58 ∷ typed) k tabstop) n
+pub prompt-more : (tabstop : ℕ) (purpose : Purpose) (typed : List ℕ) (i column c width : ℕ) → i < length typed → c ≡ get_or typed i c → column ≡ prompt_column tabstop purpose (take i typed) → width ≡ cells_of c column tabstop
+    → column + width ≡ prompt_column tabstop purpose (take (i + 1) typed)
+prompt-more tabstop purpose typed i column c width h r e w =
+    ap₂ (λ (a : ℕ) (b : ℕ). a + b) e (w ∙ ap (λ k. cells_of c k tabstop) e)
+    ∙ sym (behind-append tabstop 0 (prompt_name purpose ++ take i typed) (c ∷ []))
+    ∙ ap (column_behind tabstop 0) (append_assoc (prompt_name purpose) (take i typed) (c ∷ []) ∙ ap (λ t. prompt_name purpose ++ t) (ap (λ k. take i typed ++ k ∷ []) r ∙ sym (take_more typed i c h)))

@@ -17,7 +17,13 @@ use Rattle.kak_world.specs.declared.own.Mode.{Mode}
 use Rattle.kak_world.specs.declared.own.Mode.TheVariants.{Normal, Insert, Prompt}
 use Rattle.kak_world.specs.declared.own.Status.{Status}
 use Rattle.kak_world.specs.declared.own.Status.TheVariants.{Quiet, Said, Refused}
-use Rattle.kak_world.specs.Flat.{Flat, text_of, number_of, name_of, mode_of, sels_of, view_of, tabstop_of, status_of, prompt_of, is_drawn, with_view}
+use Rattle.kak_world.specs.declared.purpose.Toward.{Toward}
+use Rattle.kak_world.specs.declared.purpose.Toward.TheVariants.{Next, Former}
+use Rattle.kak_world.specs.declared.purpose.Use.{Use}
+use Rattle.kak_world.specs.declared.purpose.Use.TheVariants as matches
+use Rattle.kak_world.specs.declared.purpose.Purpose.{Purpose}
+use Rattle.kak_world.specs.declared.purpose.Purpose.TheVariants.{Commands, Pattern}
+use Rattle.kak_world.specs.Flat.{Flat, text_of, number_of, name_of, mode_of, sels_of, view_of, tabstop_of, status_of, purpose_of, prompt_of, is_drawn, with_view}
 use Rattle.line_painting.specs.Atoms.{Shown, shown_in, atoms_of}
 use Rattle.line_painting.specs.Lines.{drawn_lines}
 
@@ -32,18 +38,39 @@ abbrev pub under_cursor : List ℕ → ℕ
 under_cursor [] = 32
 under_cursor (c ∷ cs) = c
 
--- a prompt: a colon (58), what stands before the cursor, what stands under it, and the rest
-abbrev pub prompt_shown : Halves → List Shown
-prompt_shown prompt =
-    shown_in (standard_face name.Prompt) (58 ∷ [])
+-- what stands before the line of a prompt for a pattern, by where its matches are looked for
+abbrev pub search_name : Toward → List ℕ
+search_name Next = codes "search:"
+search_name Former = codes "reverse search:"
+
+-- the same, by what is done with them
+abbrev pub use_name : Use → List ℕ
+use_name matches.Select = codes "select:"
+use_name matches.Split = codes "split:"
+use_name matches.Keep = codes "keep:"
+use_name matches.Drop = codes "drop:"
+use_name (matches.Search toward) = search_name toward
+use_name (matches.Reach toward) = search_name toward
+use_name (matches.Step toward further) = search_name toward
+use_name (matches.Add toward further) = search_name toward
+
+-- what stands before the line of a prompt
+abbrev pub prompt_name : Purpose → List ℕ
+prompt_name Commands = codes ":"
+prompt_name (Pattern wanted) = use_name wanted
+
+-- a prompt: what stands before its line, what stands before the cursor, what stands under it, and the rest
+abbrev pub prompt_shown : Purpose → Halves → List Shown
+prompt_shown purpose prompt =
+    shown_in (standard_face name.Prompt) (prompt_name purpose)
     ++ (shown_in (standard_face name.StatusLine) prompt.before
     ++ (shown_in (standard_face name.StatusCursor) (under_cursor prompt.behind ∷ []) ++ shown_in (standard_face name.StatusLine) (drop 1 prompt.behind)))
 
 -- the status line
-abbrev pub status_line : Mode → Status → Halves → List Shown
-status_line Normal status prompt = status_shown status
-status_line Insert status prompt = status_shown status
-status_line Prompt status prompt = prompt_shown prompt
+abbrev pub status_line : Mode → Status → Purpose → Halves → List Shown
+status_line Normal status purpose prompt = status_shown status
+status_line Insert status purpose prompt = status_shown status
+status_line Prompt status purpose prompt = prompt_shown purpose prompt
 
 -- the name of a mode
 abbrev pub mode_name : Mode → List ℕ
@@ -83,36 +110,36 @@ abbrev pub IsModeLine : List ℕ → Coord → Mode → ℕ → ℕ → ℕ → 
 IsModeLine buffer at mode main count number line =
     (sels : Selected) → sels.main ≡ main → length sels.list ≡ count → line ≡ record { atoms = atoms_of (mode_shown buffer at mode sels number) }
 
--- how many cells the colon (58) of a prompt and the characters before its cursor have
-abbrev pub prompt_column : ℕ → List ℕ → ℕ
-prompt_column tabstop before = column_behind tabstop 0 (58 ∷ before)
+-- how many cells have what stands before the line of a prompt and the characters before its cursor
+abbrev pub prompt_column : ℕ → Purpose → List ℕ → ℕ
+prompt_column tabstop purpose before = column_behind tabstop 0 (prompt_name purpose ++ before)
 
 -- where the cursor stands: in the window, by the line and the display column of the main one; or in the prompt
-abbrev pub cursor_drawn : ℕ → Mode → ℕ → ℕ → View → Halves → Cursor
-cursor_drawn tabstop Prompt line column view prompt = record { prompt = true; line = 0; column = prompt_column tabstop prompt.before }
-cursor_drawn tabstop _ line column view prompt = record { prompt = false; line = line - view.top; column = column - view.left }
+abbrev pub cursor_drawn : ℕ → Mode → ℕ → ℕ → View → Purpose → Halves → Cursor
+cursor_drawn tabstop Prompt line column view purpose prompt = record { prompt = true; line = 0; column = prompt_column tabstop purpose prompt.before }
+cursor_drawn tabstop _ line column view purpose prompt = record { prompt = false; line = line - view.top; column = column - view.left }
 
 -- the world after a client's window has followed its main cursor
 abbrev pub after_following : ℕ → Flat → Flat
 after_following who flat =
     with_view who
     (followed (view_of who flat) (main_cursor (text_of who flat) (sels_of who flat)).line
-    (main_column (tabstop_of who flat) (text_of who flat) (sels_of who flat)) (main_cells (tabstop_of who flat) (text_of who flat) (sels_of who flat)) 0)
+    (main_column (tabstop_of flat) (text_of who flat) (sels_of who flat)) (main_cells (tabstop_of flat) (text_of who flat) (sels_of who flat)) 0)
     flat
 
 -- what a client is shown, whose window has followed its main cursor
 unfoldable pub drawing_of : ℕ → Flat → Drawing
 drawing_of who flat = record {
   first = not (is_drawn who flat);
-  lines = drawn_lines (tabstop_of who flat) (text_of who flat) (sels_of who flat) (view_of who flat);
+  lines = drawn_lines (tabstop_of flat) (text_of who flat) (sels_of who flat) (view_of who flat);
   default_face = standard_face name.Default;
   padding_face = standard_face name.BufferPadding;
-  status = record { atoms = atoms_of (status_line (mode_of who flat) (status_of who flat) (prompt_of who flat)) };
+  status = record { atoms = atoms_of (status_line (mode_of who flat) (status_of who flat) (purpose_of who flat) (prompt_of who flat)) };
   mode_line = record {
     atoms = atoms_of (mode_shown (name_of who flat) (main_cursor (text_of who flat) (sels_of who flat)) (mode_of who flat) (sels_of who flat) (number_of who flat));
   };
   status_face = standard_face name.StatusLine;
-  cursor = cursor_drawn (tabstop_of who flat) (mode_of who flat) (main_cursor (text_of who flat) (sels_of who flat)).line
-      (main_column (tabstop_of who flat) (text_of who flat) (sels_of who flat)) (view_of who flat) (prompt_of who flat);
+  cursor = cursor_drawn (tabstop_of flat) (mode_of who flat) (main_cursor (text_of who flat) (sels_of who flat)).line
+      (main_column (tabstop_of flat) (text_of who flat) (sels_of who flat)) (view_of who flat) (purpose_of who flat) (prompt_of who flat);
   info = Keep;
 }

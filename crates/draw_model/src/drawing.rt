@@ -6,12 +6,12 @@ ghost use Rattle.window_view.specs.Views.{view_of as window_seen};
 ghost use Rattle.kak_world.specs.Flat.{is_joined, text_of, sels_of, tabstop_of};
 ghost use Rattle.draw_model.specs.Drawings.{main_cursor, main_column, main_cells, prompt_column, cursor_drawn, drawing_of, after_following};
 
-use crate::status::{draw_mode, draw_status};
+use crate::status::{draw_mode, draw_status, prompt_name};
 use edit_line::EditLine;
 use json_writing::{Cursor, Drawing, Info};
 use kak_faces::StandardFace;
 use kak_text::{Coord, MAX_TABSTOP, cells};
-use kak_world::{Mode, World};
+use kak_world::{Mode, Purpose, World};
 use line_painting::draw_lines;
 use std::alloc::{AllocError, Global};
 use window_view::{Window, cell_of};
@@ -38,13 +38,13 @@ fn cursor_at(world: &World, who: u32) -> Coord
 fn find_cursor(world: &World, who: u32) -> MainCursor
     requires { is_joined who world.now.flat ≡ true }
     ensures at { result.at ≡ main_cursor (text_of who world.now.flat) (sels_of who world.now.flat) }
-    ensures column { result.column ≡ main_column (tabstop_of who world.now.flat) (text_of who world.now.flat) (sels_of who world.now.flat) }
-    ensures cells { result.cells ≡ main_cells (tabstop_of who world.now.flat) (text_of who world.now.flat) (sels_of who world.now.flat) }
+    ensures column { result.column ≡ main_column (tabstop_of world.now.flat) (text_of who world.now.flat) (sels_of who world.now.flat) }
+    ensures cells { result.cells ≡ main_cells (tabstop_of world.now.flat) (text_of who world.now.flat) (sels_of who world.now.flat) }
     ensures small { result.column + result.cells < 2 ^ 32 }
 {
     let at = cursor_at(world, who);
     let line = world.lines(who).line(at.line as usize);
-    let tabstop = world.tabstop(who);
+    let tabstop = world.tabstop();
     let column = cell_of(line, at.column as usize, tabstop);
     MainCursor {
         at,
@@ -54,12 +54,12 @@ fn find_cursor(world: &World, who: u32) -> MainCursor
 }
 
 // How many cells stand before the cursor of a prompt, of the characters before it. 2^31 and more count as want of memory.
-fn prompt_cursor(before: &[char], tabstop: u32) -> Result<u32, AllocError>
+fn prompt_cursor(purpose: Purpose, before: &[char], tabstop: u32) -> Result<u32, AllocError>
     requires some { 1 ≤ tabstop }
     requires few { tabstop ≤ MAX_TABSTOP }
-    ensures { IfOk result (λ column. column ≡ prompt_column tabstop before.now) }
+    ensures { IfOk result (λ column. column ≡ prompt_column tabstop purpose before.now) }
 {
-    let mut column = 1;
+    let mut column = prompt_name(purpose).len() as u32;
     for c in before {
         if column >= 1 << 31 {
             return Err(AllocError);
@@ -74,18 +74,19 @@ fn cursor_of(
     mode: Mode,
     main: MainCursor,
     window: Window,
+    purpose: Purpose,
     prompt: &EditLine,
     tabstop: u32,
 ) -> Result<Cursor, AllocError>
     requires some { 1 ≤ tabstop }
     requires few { tabstop ≤ MAX_TABSTOP }
-    ensures { IfOk result (λ cursor. cursor ≡ cursor_drawn tabstop mode main.at.line main.column (window_seen window) prompt.now) }
+    ensures { IfOk result (λ cursor. cursor ≡ cursor_drawn tabstop mode main.at.line main.column (window_seen window) purpose prompt.now) }
 {
     match mode {
         Mode::Prompt => Ok(Cursor {
             prompt: true,
             line: 0,
-            column: prompt_cursor(prompt.before(), tabstop)?,
+            column: prompt_cursor(purpose, prompt.before(), tabstop)?,
         }),
         Mode::Normal | Mode::Insert => Ok(Cursor {
             prompt: false,
@@ -105,14 +106,14 @@ pub fn draw(alloc: Global, world: &World, who: u32) -> Result<Drawing, AllocErro
     let sels = world.sels(who);
     let main = find_cursor(world, who);
     let window = world.window(who);
-    let tabstop = world.tabstop(who);
+    let tabstop = world.tabstop();
     let own = world.own(who);
     Ok(Drawing {
         first: !own.drawn,
         lines: draw_lines(alloc, world.lines(who), window, tabstop, sels)?,
         default_face: StandardFace::Default.face(),
         padding_face: StandardFace::BufferPadding.face(),
-        status: draw_status(alloc, own.mode, &own.status, &own.prompt)?,
+        status: draw_status(alloc, own.mode, &own.status, own.purpose, &own.prompt)?,
         mode_line: draw_mode(
             alloc,
             world.buffer_name(who),
@@ -122,7 +123,7 @@ pub fn draw(alloc: Global, world: &World, who: u32) -> Result<Drawing, AllocErro
             world.number(who),
         )?,
         status_face: StandardFace::StatusLine.face(),
-        cursor: cursor_of(own.mode, main, window, &own.prompt, tabstop)?,
+        cursor: cursor_of(own.mode, main, window, own.purpose, &own.prompt, tabstop)?,
         info: Info::Keep,
     })
 }

@@ -1,15 +1,15 @@
 //! The status line and the mode line.
 
-ghost use Rattle.std.specs.Prelude.{◌≡◌, ℕ, ◌<◌, length, drop, codes, IfOk};
+ghost use Rattle.std.specs.Prelude.{◌≡◌, ◌<◌, length, drop, IfOk};
 ghost use Rattle.list_model.specs.Ranges.{Selected};
 ghost use Rattle.line_painting.specs.Atoms.{shown_in, atoms_of};
-ghost use Rattle.draw_model.specs.Drawings.{status_shown, under_cursor, prompt_shown, status_line, mode_name, place_text, IsModeLine};
+ghost use Rattle.draw_model.specs.Drawings.{status_shown, under_cursor, search_name, use_name, prompt_name, prompt_shown, status_line, mode_name, place_text, IsModeLine};
 
 use edit_line::EditLine;
 use json_writing::{Atoms, DrawnLine};
 use kak_faces::{Face, StandardFace};
 use kak_text::{Chars, Coord};
-use kak_world::{Mode, Status};
+use kak_world::{Mode, Purpose, Status, Toward, Use};
 use line_painting::{push_run, push_shown};
 use selection_set::Sels;
 use std::alloc::{AllocError, Global};
@@ -42,13 +42,53 @@ fn past_cursor(behind: &[char]) -> &[char]
     &behind[behind.len().min(1)..]
 }
 
-// The line of a prompt.
-fn prompt_line(alloc: Global, prompt: &EditLine) -> Result<DrawnLine, AllocError>
-    ensures { IfOk result (λ line. line ≡ record { atoms = atoms_of (prompt_shown prompt.now) }) }
+// What stands before the line of a prompt for a pattern, by where its matches are looked for.
+fn search_name(toward: Toward) -> &'static str
+    ensures { result.now ≡ search_name toward }
 {
+    match toward {
+        Toward::Next => "search:",
+        Toward::Former => "reverse search:",
+    }
+}
+
+// The same, by what is done with them.
+fn use_name(wanted: Use) -> &'static str
+    ensures { result.now ≡ use_name wanted }
+{
+    match wanted {
+        Use::Select => "select:",
+        Use::Split => "split:",
+        Use::Keep => "keep:",
+        Use::Drop => "drop:",
+        Use::Search(toward) | Use::Reach(toward) => search_name(toward),
+        Use::Step(toward, _) | Use::Add(toward, _) => search_name(toward),
+    }
+}
+
+/// What stands before the line of a prompt. Each character of it has one cell.
+pub(crate) fn prompt_name(purpose: Purpose) -> &'static str
+    ensures { result.now ≡ prompt_name purpose }
+{
+    match purpose {
+        Purpose::Commands => ":",
+        Purpose::Pattern(wanted) => use_name(wanted),
+    }
+}
+
+// The line of a prompt.
+fn prompt_line(alloc: Global, purpose: Purpose, prompt: &EditLine) -> Result<DrawnLine, AllocError>
+    ensures { IfOk result (λ line. line ≡ record { atoms = atoms_of (prompt_shown purpose prompt.now) }) }
+{
+    let name = Chars::from_str(alloc, prompt_name(purpose))?;
     let behind = prompt.behind();
     let mut atoms = Vec::new(alloc);
-    push_shown(alloc, &mut atoms, ':', StandardFace::Prompt.face())?;
+    push_run(
+        alloc,
+        &mut atoms,
+        name.as_slice(),
+        StandardFace::Prompt.face(),
+    )?;
     push_run(
         alloc,
         &mut atoms,
@@ -90,12 +130,13 @@ pub fn draw_status(
     alloc: Global,
     mode: Mode,
     status: &Status,
+    purpose: Purpose,
     prompt: &EditLine,
 ) -> Result<DrawnLine, AllocError>
-    ensures { IfOk result (λ line. line ≡ record { atoms = atoms_of (status_line mode status.now prompt.now) }) }
+    ensures { IfOk result (λ line. line ≡ record { atoms = atoms_of (status_line mode status.now purpose prompt.now) }) }
 {
     match mode {
-        Mode::Prompt => prompt_line(alloc, prompt),
+        Mode::Prompt => prompt_line(alloc, purpose, prompt),
         Mode::Normal | Mode::Insert => said_line(alloc, status),
     }
 }

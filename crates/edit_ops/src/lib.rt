@@ -31,7 +31,7 @@ pub use kinds::{Erase, Indent, Put, Rotation, Side};
 pub use leaving::{after, left_list};
 pub use opening::open;
 pub use putting::put;
-pub use reading::{strings, texts};
+pub use reading::{strings, text_of, texts};
 pub use rotating::rotate;
 pub use typing::before_cursors;
 

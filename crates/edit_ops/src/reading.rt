@@ -38,7 +38,7 @@ pub fn strings(alloc: Global, lines: &Lines, sels: &Sels) -> Result<Words, Alloc
 }
 
 /// The text of one selection.
-pub(crate) fn text_of(alloc: Global, lines: &Lines, sel: Sel) -> Result<Chars, AllocError>
+pub fn text_of(alloc: Global, lines: &Lines, sel: Sel) -> Result<Chars, AllocError>
     requires { IsInside lines.now sel }
     ensures { IfOk result (λ t. t ≡ text_of_range lines.now (range_of lines.now sel)) }
 {

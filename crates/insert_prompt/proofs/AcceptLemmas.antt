@@ -1,19 +1,24 @@
 -- A prompt that is accepted: the register is set first, and the prompt is left then, which comes to the same.
-use Rattle.std.proofs.Common.{◌≡◌, ℕ, List, [], ◌∷◌, refl, sym, ap, ◌∙◌}
+use Rattle.std.proofs.Common.{◌≡◌, ℕ, List, [], ◌∷◌, length, refl, sym, ap, ◌∙◌, arith}
 use Rattle.std.specs.Prelude.{encode_utf8_all, IfSome, Some, None}
 use Rattle.std.specs.declared.option.Option.{Option}
 use Rattle.edit_line.specs.Halves.{whole}
 use Rattle.kak_registers.specs.declared.names.RegisterError.{RegisterError}
 use Rattle.kak_registers.specs.Refusals.{refusal_of}
-use Rattle.kak_world.specs.declared.ask.Ask.TheVariants.{Commands}
 use Rattle.kak_world.specs.declared.ask.EditError.{EditError}
 use Rattle.kak_world.specs.declared.ask.EditError.TheVariants.{NoMemory, BudgetSpent}
 use Rattle.kak_world.specs.Flat.{Flat, is_joined, prompt_of, registers_of, with_registers, with_own}
 use Rattle.kak_world.specs.Registers.{set_unless, set_row}
 use Rattle.kak_world.specs.Rows.{RowEnd, Asks, GivesUp, Fails, does, error_text, row_of}
+use Rattle.std.specs.Str.{chars}
+use Rattle.kak_registers.specs.Contents.{strings_of}
+use Rattle.kak_world.specs.declared.ask.Ask.{Ask}
+use Rattle.kak_world.specs.declared.purpose.Use.{Use}
+use Rattle.kak_world.proofs.WorldLaws.{registers_own}
 use Rattle.kak_world.proofs.KeepingLaws.{keeps_set_row}
+use Rattle.key_rows.specs.Patterns.{last_string, asks_for, asks_for_last}
 use Rattle.key_rows.specs.Sequence.{then_row}
-use Rattle.insert_prompt.specs.Rows.{leave_prompt, accepted}
+use Rattle.insert_prompt.specs.Rows.{leave_prompt, typed_kept, pattern_typed}
 
 -- a row, in a world in which the prompt is left then
 abbrev left_behind : ℕ → RowEnd → RowEnd
@@ -28,31 +33,38 @@ set-left name strings who flat = by (refusal_of name strings)
     by None = refl
     by (Some refusal) = refl
 
--- what register `:` is set to
+-- what a register is set to
 abbrev pub typed_strings : ℕ → Flat → List (List ℕ)
 typed_strings who flat = encode_utf8_all (whole (prompt_of who flat)) ∷ []
 
--- what was typed is to be run
-abbrev to_run : ℕ → Flat → Flat → RowEnd
-to_run who flat w = record { world = w; row = Asks (Commands (whole (prompt_of who flat))) }
-
-accepted-by : (who : ℕ) (flat : Flat) (end : RowEnd) → set_row 58 (typed_strings who flat) flat ≡ end → accepted who flat ≡ then_row (left_behind who end) (to_run who flat)
-accepted-by who flat end e = ap (λ x. then_row x (to_run who flat)) (set-left 58 (typed_strings who flat) who flat ∙ ap (left_behind who) e)
+kept-by : (name who : ℕ) (flat : Flat) (end : RowEnd) → set_row name (typed_strings who flat) flat ≡ end → typed_kept name who flat ≡ left_behind who end
+kept-by name who flat end e = set-left name (typed_strings who flat) who flat ∙ ap (left_behind who) e
 
 -- where the register was set
-pub accepted-set : (who : ℕ) (flat mid new : Flat) (typed : List ℕ) → set_row 58 (typed_strings who flat) flat ≡ does mid → new ≡ leave_prompt who mid → typed ≡ whole (prompt_of who flat)
-    → accepted who flat ≡ record { world = new; row = Asks (Commands typed) }
-accepted-set who flat mid new typed e n t =
-    accepted-by who flat (does mid) e
-    ∙ ap (λ w. to_run who flat w) (sym n)
-    ∙ ap (λ cs. let x : RowEnd = record { world = new; row = Asks (Commands cs) } in x) (sym t)
+pub kept-set : (name who : ℕ) (flat mid new : Flat) → set_row name (typed_strings who flat) flat ≡ does mid → new ≡ leave_prompt who mid → does new ≡ typed_kept name who flat
+kept-set name who flat mid new e n = ap (λ w. does w) n ∙ sym (kept-by name who flat (does mid) e)
 
 -- where it was refused
-pub accepted-refused : (error : EditError) (who : ℕ) (flat mid new : Flat) → IfSome (row_of error) (λ row. set_row 58 (typed_strings who flat) flat ≡ record { world = mid; row = row }) → IfSome (row_of error) (λ row. new ≡ leave_prompt who mid)
-    → IfSome (row_of error) (λ row. accepted who flat ≡ record { world = new; row = row })
-accepted-refused NoMemory who flat mid new e n = tt
-accepted-refused BudgetSpent who flat mid new e n = accepted-by who flat _ e ∙ ap (λ w. let x : RowEnd = record { world = w; row = GivesUp } in x) (sym n)
-accepted-refused error who flat mid new e n = accepted-by who flat _ e ∙ ap (λ w. let x : RowEnd = record { world = w; row = Fails (error_text error) } in x) (sym n)
+pub kept-refused : (error : EditError) (name who : ℕ) (flat mid new : Flat) → IfSome (row_of error) (λ row. set_row name (typed_strings who flat) flat ≡ record { world = mid; row = row }) → IfSome (row_of error) (λ row. new ≡ leave_prompt who mid)
+    → IfSome (row_of error) (λ row. typed_kept name who flat ≡ record { world = new; row = row })
+kept-refused NoMemory name who flat mid new e n = tt
+kept-refused BudgetSpent name who flat mid new e n = kept-by name who flat _ e ∙ ap (λ w. let x : RowEnd = record { world = w; row = GivesUp } in x) (sym n)
+kept-refused error name who flat mid new e n = kept-by name who flat _ e ∙ ap (λ w. let x : RowEnd = record { world = w; row = Fails (error_text error) } in x) (sym n)
+
+-- a row that is refused ends what would come behind it
+pub refused-all : (error : EditError) (end : RowEnd) (new : Flat) (next : Flat → RowEnd) → IfSome (row_of error) (λ row. end ≡ record { world = new; row = row }) → IfSome (row_of error) (λ row. then_row end next ≡ record { world = new; row = row })
+refused-all NoMemory end new next e = tt
+refused-all BudgetSpent end new next e = ap (λ x. then_row x next) e
+refused-all error end new next e = ap (λ x. then_row x next) e
+
+-- where nothing was typed, the pattern that was looked for last is asked for
+pub nothing-typed : (typed : List ℕ) (wanted : Use) (who : ℕ) (flat new : Flat) (ask : Ask) → length typed ≡ 0 → asks_for_last wanted flat ≡ record { world = flat; row = Asks ask } → new ≡ leave_prompt who flat
+    → pattern_typed typed wanted who flat ≡ record { world = new; row = Asks ask }
+nothing-typed (c ∷ cs) wanted who flat new ask e a n = absurd (omega (arith, e))
+nothing-typed [] wanted who flat new ask e a n =
+    ap (λ rows. asks_for (chars (last_string (strings_of 47 rows))) wanted (leave_prompt who flat)) (registers_own who _ flat)
+    ∙ ap (λ r. let x : RowEnd = record { world = leave_prompt who flat; row = r } in x) (ap (λ (x : RowEnd). x.row) a)
+    ∙ ap (λ (w : Flat). let x : RowEnd = record { world = w; row = Asks ask } in x) (sym n)
 
 -- a client stays where a register was refused
 pub refused-joined : (error : EditError) (name : ℕ) (strings : List (List ℕ)) (who : ℕ) (flat mid : Flat) → IfSome (row_of error) (λ row. set_row name strings flat ≡ record { world = mid; row = row }) → (error ≡ NoMemory → mid ≡ flat)

@@ -1,19 +1,20 @@
 -- No key of insert mode or of a prompt makes a client come or go.
-use Rattle.std.proofs.Common.{ℕ, Bool, true, false, List, [], ◌∷◌, ◌++◌}
-use Rattle.std.specs.Prelude.{if◌then◌else◌, not, ◌==◌, ◌&&◌, ◌||◌, encode_utf8_all, None, Some}
+use Rattle.std.proofs.Common.{ℕ, Bool, true, false, List, [], ◌∷◌}
+use Rattle.std.specs.Prelude.{if◌then◌else◌, not, ◌==◌, ◌&&◌, ◌||◌, None, Some}
 use Rattle.std.specs.declared.option.Option.{Option}
 use Rattle.key_names.specs.declared.key.Key.{Key}
 use Rattle.key_names.specs.declared.key.Base.{Base}
 use Rattle.key_names.specs.declared.key.Base.TheVariants.{Char, Ret, Tab, Backspace, Del, Left, Right, Up, Down, Home, End, Esc}
 use Rattle.key_names.specs.Modified.{is_modified}
 use Rattle.edit_line.specs.Halves.{whole}
-use Rattle.kak_world.specs.declared.own.Mode.TheVariants.{Normal}
-use Rattle.kak_world.specs.Flat.{Flat, pending_of, is_appending, prompt_of}
+use Rattle.kak_world.specs.declared.purpose.Purpose.{Purpose}
+use Rattle.kak_world.specs.declared.purpose.Purpose.TheVariants.{Commands, Pattern}
+use Rattle.kak_world.specs.declared.purpose.Use.{Use}
+use Rattle.kak_world.specs.Flat.{Flat, pending_of, is_appending, purpose_of, prompt_of}
 use Rattle.kak_world.specs.Changing.{commits}
 use Rattle.kak_world.specs.Rows.{RowEnd, does}
 use Rattle.kak_world.specs.Keeping.{KeepsClients}
 use Rattle.kak_world.proofs.KeepingLaws.{keeps_same, keeps_after, keeps_own, keeps_sels, keeps_commits, keeps_set_row, keeps_edit_row}
-use Rattle.kak_world.specs.Registers.{set_row}
 use Rattle.key_rows.specs.declared.each.Each.TheVariants as each
 use Rattle.key_rows.specs.declared.shapes.Shape.TheVariants.{OneBack}
 use Rattle.key_rows.specs.Each.{each_changed}
@@ -21,7 +22,7 @@ use Rattle.key_rows.specs.Naming.{register_named}
 use Rattle.key_rows.specs.Reading.{strings_read}
 use Rattle.key_rows.specs.Edits.{with_strings}
 use Rattle.key_rows.proofs.KeepingLaws.{keeps_behind}
-use Rattle.insert_prompt.specs.Rows.{typed, taken_back, leave_insert, insert_base, awaiting, insert_control, insert_first, put_named, insert_pending, row_insert, leave_prompt, accepted, prompt_base, prompt_control, prompt_first, prompt_named, prompt_pending, row_prompt}
+use Rattle.insert_prompt.specs.Rows.{typed, taken_back, leave_insert, insert_base, awaiting, insert_control, insert_first, put_named, insert_pending, row_insert, leave_prompt, typed_kept, commands_accepted, pattern_typed, accepted_as, prompt_base, prompt_control, prompt_first, prompt_named, prompt_pending, row_prompt}
 
 keeps-chosen : (t : Bool) (flat : Flat) (a b : RowEnd) → KeepsClients flat a.world → KeepsClients flat b.world → KeepsClients flat (if t then a else b).world
 keeps-chosen true flat a b f g = f
@@ -81,16 +82,23 @@ pub keeps_insert : (key : Key) (who : ℕ) (flat : Flat) → KeepsClients flat (
 unfolding row_insert
 keeps_insert key who flat = keeps-pending (pending_of who flat) key who flat
 
-keeps-accepted : (who : ℕ) (flat : Flat) → KeepsClients flat (accepted who flat).world
-keeps-accepted who flat =
-    let set : RowEnd = set_row 58 (encode_utf8_all (whole (prompt_of who flat)) ∷ []) (leave_prompt who flat) in
-    keeps_behind set.row _ flat set.world
-    (keeps_after flat (leave_prompt who flat) set.world (keeps_own who _ flat) (keeps_set_row _ _ (leave_prompt who flat)))
-    (λ w. keeps_same w)
+keeps-typed_kept : (name who : ℕ) (flat : Flat) → KeepsClients flat (typed_kept name who flat).world
+keeps-typed_kept name who flat = keeps_after flat (leave_prompt who flat) (typed_kept name who flat).world (keeps_own who _ flat) (keeps_set_row _ _ (leave_prompt who flat))
+
+keeps-commands : (who : ℕ) (flat : Flat) → KeepsClients flat (commands_accepted who flat).world
+keeps-commands who flat = keeps_behind (typed_kept 58 who flat).row _ flat (typed_kept 58 who flat).world (keeps-typed_kept 58 who flat) (λ w. keeps_same w)
+
+keeps-pattern : (pattern : List ℕ) (wanted : Use) (who : ℕ) (flat : Flat) → KeepsClients flat (pattern_typed pattern wanted who flat).world
+keeps-pattern [] wanted who flat = keeps_own who _ flat
+keeps-pattern (c ∷ cs) wanted who flat = keeps_behind (typed_kept 47 who flat).row _ flat (typed_kept 47 who flat).world (keeps-typed_kept 47 who flat) (λ w. keeps_same w)
+
+keeps-accepted : (purpose : Purpose) (who : ℕ) (flat : Flat) → KeepsClients flat (accepted_as purpose who flat).world
+keeps-accepted Commands who flat = keeps-commands who flat
+keeps-accepted (Pattern wanted) who flat = keeps-pattern (whole (prompt_of who flat)) wanted who flat
 
 keeps-prompt_base : (base : Base) (who : ℕ) (flat : Flat) → KeepsClients flat (prompt_base base who flat).world
 keeps-prompt_base (Char c) who flat = keeps_own who _ flat
-keeps-prompt_base Ret who flat = keeps-accepted who flat
+keeps-prompt_base Ret who flat = keeps-accepted (purpose_of who flat) who flat
 keeps-prompt_base Esc who flat = keeps_own who _ flat
 keeps-prompt_base _ who flat = keeps_own who _ flat
 

@@ -1,16 +1,19 @@
 -- Worked examples of the rows of prompts, which hold by computation.
-use Rattle.std.specs.Prelude.{◌≡◌, ℕ, false, true, None, Some, [], ◌∷◌, List, codes}
+use Rattle.std.specs.Prelude.{◌≡◌, ℕ, false, true, Some, [], ◌∷◌, List, codes}
 use Rattle.key_names.specs.declared.key.Key.{Key}
 use Rattle.key_names.specs.declared.key.Base.{Base}
 use Rattle.key_names.specs.declared.key.Base.TheVariants.{Char, Ret, Tab, Backspace, Del, Left, Right, Home, End, Esc}
 use Rattle.edit_line.specs.Halves.{empty}
-use Rattle.kak_registers.specs.declared.row.Register.{Register}
 use Rattle.kak_registers.specs.Contents.{strings_of}
-use Rattle.kak_world.specs.declared.ask.Ask.TheVariants.{Commands, Nothing}
+use Rattle.kak_world.specs.declared.ask.Ask.TheVariants.{Commands, Make, Nothing}
 use Rattle.kak_world.specs.declared.ask.EditError.TheVariants.{NoSuchRegister}
 use Rattle.kak_world.specs.declared.own.Mode.TheVariants.{Normal, Prompt}
+use Rattle.kak_world.specs.declared.purpose.Toward.TheVariants.{Next}
+use Rattle.kak_world.specs.declared.purpose.Use.{Use}
+use Rattle.kak_world.specs.declared.purpose.Use.TheVariants.{Select, Split, Keep, Search}
+use Rattle.kak_world.specs.declared.purpose.Purpose.TheVariants.{Pattern}
 use Rattle.kak_world.specs.Flat.{Flat, first_own, only_at, mode_of, pending_of, prompt_of, registers_of}
-use Rattle.kak_world.specs.Rows.{RowEnd, Asks, Fails, error_text}
+use Rattle.kak_world.specs.Rows.{Row, RowEnd, Asks, Fails, error_text}
 use Rattle.insert_prompt.specs.Rows.{awaiting, prompt_base, row_prompt}
 use Rattle.insert_prompt.specs.Examples.{two_clients}
 
@@ -18,6 +21,19 @@ use Rattle.insert_prompt.specs.Examples.{two_clients}
 abbrev pub prompting : List ℕ → List ℕ → Flat
 prompting before behind =
     two_clients (codes "ab\n") (record first_own { mode = Prompt; prompt = record { before = before; behind = behind } }) (only_at 0) (only_at 0)
+
+-- the same, in a prompt for a pattern
+abbrev pub seeking : Use → List ℕ → List ℕ → Flat
+seeking wanted before behind =
+    two_clients (codes "ab\n") (record first_own { mode = Prompt; purpose = Pattern wanted; prompt = record { before = before; behind = behind } }) (only_at 0) (only_at 0)
+
+-- that a pattern is asked for, and a use of it
+abbrev pub asking : List ℕ → Use → Row
+asking pattern wanted = Asks (Make (record { pattern = pattern; then = wanted }))
+
+-- where register `/` (47) holds strings
+abbrev pub looking : List (List ℕ) → Flat → Flat
+looking strings flat = record flat { rest = record flat.rest { registers = record { name = 47; values = strings } ∷ [] } }
 
 -- the world behind a key without modifiers there
 abbrev pub struck : Base → List ℕ → List ℕ → Flat
@@ -76,6 +92,17 @@ pub record LeavingExamples : Type 0 where
   pub prompt_is_emptied : prompt_of 0 (struck Esc (codes "qu") (codes "it")) ≡ empty
   pub escape_runs_nothing : (prompt_base Esc 0 (prompting (codes "qu") (codes "it"))).row ≡ Asks Nothing
 
+-- what leaves a prompt for a pattern
+pub record PatternExamples : Type 0 where
+  pub pattern_is_asked_for : (prompt_base Ret 0 (seeking Select (codes "x") (codes "y"))).row ≡ asking (codes "xy") Select
+  pub and_held : strings_of 47 (registers_of (prompt_base Ret 0 (seeking Select (codes "x") (codes "y"))).world) ≡ codes "xy" ∷ []
+  pub no_command_is : strings_of 58 (registers_of (prompt_base Ret 0 (seeking Select (codes "x") (codes "y"))).world) ≡ []
+  pub prompt_is_left_first : mode_of 0 (prompt_base Ret 0 (seeking Split (codes "x") [])).world ≡ Normal
+  pub empty_one_asks_for_the_last : (prompt_base Ret 0 (looking (codes "a" ∷ codes "b" ∷ []) (seeking (Search Next) [] []))).row ≡ asking (codes "b") (Search Next)
+  pub which_stays : strings_of 47 (registers_of (prompt_base Ret 0 (looking (codes "a" ∷ codes "b" ∷ []) (seeking (Search Next) [] []))).world) ≡ codes "a" ∷ codes "b" ∷ []
+  pub escape_asks_for_none : (prompt_base Esc 0 (seeking Keep (codes "x") [])).row ≡ Asks Nothing
+  pub and_keeps_none : strings_of 47 (registers_of (prompt_base Esc 0 (seeking Keep (codes "x") [])).world) ≡ []
+
 -- what puts registers in
 pub record RegisterExamples : Type 0 where
   pub control_r_waits : pending_of 0 (row_prompt (control (Char 114)) 0 (prompting (codes "a") (codes "b"))).world ≡ Some (control (Char 114))
@@ -95,4 +122,5 @@ pub record PromptExamples : Type 0 where
   pub erasing : ErasingExamples
   pub moving : MovingExamples
   pub leaving : LeavingExamples
+  pub patterns : PatternExamples
   pub registers : RegisterExamples

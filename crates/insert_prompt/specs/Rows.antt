@@ -1,5 +1,5 @@
 -- The rows of insert mode and of prompts: what each key does.
-use Rattle.std.specs.Prelude.{ℕ, false, not, ◌==◌, ◌&&◌, ◌||◌, if◌then◌else◌, List, [], ◌∷◌, ◌++◌, map, encode_utf8_all, None, Some}
+use Rattle.std.specs.Prelude.{ℕ, false, not, ◌==◌, ◌&&◌, ◌||◌, if◌then◌else◌, List, [], ◌∷◌, map, encode_utf8_all, None, Some}
 use Rattle.std.specs.declared.option.Option.{Option}
 use Rattle.key_names.specs.declared.key.Key.{Key}
 use Rattle.key_names.specs.declared.key.Base.{Base}
@@ -20,13 +20,17 @@ use Rattle.motion_keys.specs.declared.finding.Reach.TheVariants.{Select}
 use Rattle.motion_keys.specs.declared.landmarks.Place.TheVariants.{LineStart}
 use Rattle.key_rows.specs.declared.each.Each.TheVariants as each
 use Rattle.key_rows.specs.declared.shapes.Shape.TheVariants.{CursorNewline, OneBack}
+use Rattle.kak_world.specs.declared.purpose.Purpose.{Purpose}
+use Rattle.kak_world.specs.declared.purpose.Purpose.TheVariants as purpose
+use Rattle.kak_world.specs.declared.purpose.Use.{Use}
 use Rattle.kak_world.specs.Registers.{set_row}
 use Rattle.key_rows.specs.Sequence.{then_row}
 use Rattle.key_rows.specs.Each.{each_changed, moved}
 use Rattle.key_rows.specs.Naming.{register_named}
 use Rattle.key_rows.specs.Reading.{strings_read, joined_text}
+use Rattle.key_rows.specs.Patterns.{asks_for, asks_for_last}
 use Rattle.key_rows.specs.Edits.{with_strings, puts_of}
-use Rattle.kak_world.specs.Flat.{Flat, sels_of, pending_of, is_appending, prompt_of, with_own}
+use Rattle.kak_world.specs.Flat.{Flat, sels_of, pending_of, is_appending, purpose_of, prompt_of, with_own}
 use Rattle.kak_world.specs.Changing.{commits}
 use Rattle.kak_world.specs.Rows.{RowEnd, Asks, does}
 use Rattle.kak_world.specs.Editing.{edit_row}
@@ -119,13 +123,29 @@ line_edited _ line = line
 abbrev pub leave_prompt : ℕ → Flat → Flat
 leave_prompt who flat = with_own who (λ o. record o { mode = Normal; prompt = empty }) flat
 
--- a prompt that is accepted: it is left, register `:` (58) holds what was typed, and that is run as commands
-abbrev pub accepted : ℕ → Flat → RowEnd
-accepted who flat =
-    then_row (set_row 58 (encode_utf8_all (whole (prompt_of who flat)) ∷ []) (leave_prompt who flat)) (λ w. record { world = w; row = Asks (Commands (whole (prompt_of who flat))) })
+-- the prompt is left, and a register holds what was typed
+abbrev pub typed_kept : ℕ → ℕ → Flat → RowEnd
+typed_kept name who flat = set_row name (encode_utf8_all (whole (prompt_of who flat)) ∷ []) (leave_prompt who flat)
 
--- the row of a key without modifiers in a prompt: a character goes in before the cursor; what was typed is run as commands, or
--- left; others edit the line, or leave it
+-- what was typed is run as commands, and held by register `:` (58)
+abbrev pub commands_accepted : ℕ → Flat → RowEnd
+commands_accepted who flat = then_row (typed_kept 58 who flat) (λ w. record { world = w; row = Asks (Commands (whole (prompt_of who flat))) })
+
+-- what was typed is the pattern that is asked for, and held by register `/` (47); where nothing was, it is the one looked for last
+abbrev pub pattern_typed : List ℕ → Use → ℕ → Flat → RowEnd
+pattern_typed [] wanted who flat = asks_for_last wanted (leave_prompt who flat)
+pattern_typed (c ∷ cs) wanted who flat = then_row (typed_kept 47 who flat) (asks_for (c ∷ cs) wanted)
+
+-- a prompt that is accepted, by what it is for
+abbrev pub accepted_as : Purpose → ℕ → Flat → RowEnd
+accepted_as purpose.Commands who flat = commands_accepted who flat
+accepted_as (purpose.Pattern wanted) who flat = pattern_typed (whole (prompt_of who flat)) wanted who flat
+
+abbrev pub accepted : ℕ → Flat → RowEnd
+accepted who flat = accepted_as (purpose_of who flat) who flat
+
+-- the row of a key without modifiers in a prompt: a character goes in before the cursor; the prompt is accepted, or left; others
+-- edit the line, or leave it as it is
 abbrev pub prompt_base : Base → ℕ → Flat → RowEnd
 prompt_base (Char c) who flat = does (prompt_edited (put_in (c ∷ [])) who flat)
 prompt_base Ret who flat = accepted who flat

@@ -1,21 +1,22 @@
 //! The rows of prompts.
 #![tactic(auto, using(kak_world::proofs::WorldLaws::world_laws))]
 
-ghost use Rattle.std.specs.Prelude.{◌≡◌, ◌∷◌, [], true, None, Err, IfSome, OnOk, OnErr, IsErrOf};
+ghost use Rattle.std.specs.Prelude.{◌≡◌, true, None, IfOk, IfSome, OnOk, OnErr, IsErrOf};
 ghost use Rattle.edit_line.specs.Edits.{put_in};
+ghost use Rattle.edit_line.specs.Halves.{whole};
 ghost use Rattle.kak_world.specs.declared.ask.EditError.TheVariants.{NoMemory};
 ghost use Rattle.kak_world.specs.Flat.{is_joined, prompt_of};
-ghost use Rattle.kak_world.specs.Rows.{Gives, does, row_of};
+ghost use Rattle.kak_world.specs.Rows.{Answers, Gives, does, row_of};
 ghost use Rattle.key_rows.specs.Naming.{register_named};
-ghost use Rattle.insert_prompt.specs.Rows.{awaiting, prompt_edited, line_edited, leave_prompt, accepted, prompt_base, prompt_control, prompt_register, prompt_named, prompt_first, row_prompt};
+ghost use Rattle.insert_prompt.specs.Rows.{awaiting, prompt_edited, line_edited, leave_prompt, typed_kept, commands_accepted, pattern_typed, accepted, prompt_base, prompt_control, prompt_register, prompt_named, prompt_first, row_prompt};
 
 use crate::inserts::set_pending;
 use edit_line::EditLine;
 use kak_ports::Words;
 use kak_text::Chars;
-use kak_world::{Ask, EditError, Mode, World};
+use kak_world::{Ask, EditError, Mode, PatternUse, Purpose, Use, World};
 use key_names::{Base, Key};
-use key_rows::{register_named, register_text, string_of};
+use key_rows::{ask_for_last, register_named, register_text, string_of};
 use std::alloc::{AllocError, Global};
 
 // Leaves the prompt, and gives its line.
@@ -29,36 +30,79 @@ fn leave(alloc: Global, world: &mut World, who: u32) -> EditLine
     std::mem::replace(&mut own.prompt, EditLine::new(alloc))
 }
 
-// Leaves the prompt, since register `:` can't hold what was typed; want of memory leaves the world.
-fn refuse(alloc: Global, world: &mut World, who: u32, error: EditError) -> Result<Ask, EditError>
+// Leaves the prompt, since a register can't hold what was typed; want of memory leaves the world.
+fn refuse(alloc: Global, world: &mut World, who: u32, error: &EditError)
     requires { is_joined who world.old.flat ≡ true }
-    ensures refused { result ≡ Err error }
-    ensures left { IfSome (row_of error) (λ row. world.new.flat ≡ leave_prompt who world.old.flat) }
-    ensures wanting { error ≡ NoMemory → world.new.flat ≡ world.old.flat }
+    ensures left { IfSome (row_of error.now) (λ row. world.new.flat ≡ leave_prompt who world.old.flat) }
+    ensures wanting { error.now ≡ NoMemory → world.new.flat ≡ world.old.flat }
 {
     match error {
-        EditError::NoMemory => Err(EditError::NoMemory),
-        error => {
+        EditError::NoMemory => {}
+        _ => {
             let _typed = leave(alloc, world, who);
+        }
+    }
+}
+
+// Has a register hold what was typed, and leaves the prompt; where the register can't, the prompt is left too.
+fn keep_typed(alloc: Global, world: &mut World, who: u32, name: char) -> Result<Chars, EditError>
+    requires { is_joined who world.old.flat ≡ true }
+    ensures row { Answers result world.new.flat (typed_kept name who world.old.flat) }
+    ensures typed { IfOk result (λ typed. typed ≡ whole (prompt_of who world.old.flat)) }
+    ensures wanting { IsErrOf result NoMemory → world.new.flat ≡ world.old.flat }
+{
+    let mut strings = Words::new(alloc);
+    strings.push(string_of(alloc, world.own(who).prompt.whole())?)?;
+    match world.set_register(alloc, name, &strings) {
+        Ok(()) => {
+            let typed = leave(alloc, world, who);
+            Ok(Chars::of_vec(typed.into_vec()))
+        }
+        Err(error) => {
+            refuse(alloc, world, who, &error);
             Err(error)
         }
     }
 }
 
-// Has register `:` hold what was typed, leaves the prompt, and asks for what was typed to be run.
+// Asks for what was typed to be run as commands.
+fn accept_commands(alloc: Global, world: &mut World, who: u32) -> Result<Ask, EditError>
+    requires { is_joined who world.old.flat ≡ true }
+    ensures row { Gives result world.new.flat (commands_accepted who world.old.flat) }
+    ensures wanting { IsErrOf result NoMemory → world.new.flat ≡ world.old.flat }
+{
+    let typed = keep_typed(alloc, world, who, ':')?;
+    Ok(Ask::Commands(typed))
+}
+
+// Asks for what was typed as a pattern, or for the one that was looked for last where nothing was.
+fn accept_pattern(alloc: Global, world: &mut World, who: u32, wanted: Use) -> Result<Ask, EditError>
+    requires { is_joined who world.old.flat ≡ true }
+    ensures row { Gives result world.new.flat (pattern_typed (whole (prompt_of who world.old.flat)) wanted who world.old.flat) }
+    ensures wanting { IsErrOf result NoMemory → world.new.flat ≡ world.old.flat }
+{
+    if world.own(who).prompt.whole().is_empty() {
+        let ask = ask_for_last(alloc, world, wanted)?;
+        let _nothing = leave(alloc, world, who);
+        return Ok(ask);
+    }
+    let pattern = keep_typed(alloc, world, who, '/')?;
+    Ok(Ask::Make(PatternUse {
+        pattern,
+        then: wanted,
+    }))
+}
+
+// Accepts the prompt, as what it is for.
 fn accept(alloc: Global, world: &mut World, who: u32) -> Result<Ask, EditError>
     requires { is_joined who world.old.flat ≡ true }
     ensures row { Gives result world.new.flat (accepted who world.old.flat) }
     ensures wanting { IsErrOf result NoMemory → world.new.flat ≡ world.old.flat }
 {
-    let mut strings = Words::new(alloc);
-    strings.push(string_of(alloc, world.own(who).prompt.whole())?)?;
-    match world.set_register(alloc, ':', &strings) {
-        Ok(()) => {
-            let typed = leave(alloc, world, who);
-            Ok(Ask::Commands(Chars::of_vec(typed.into_vec())))
-        }
-        Err(error) => refuse(alloc, world, who, error),
+    let purpose = world.own(who).purpose;
+    match purpose {
+        Purpose::Commands => accept_commands(alloc, world, who),
+        Purpose::Pattern(wanted) => accept_pattern(alloc, world, who, wanted),
     }
 }
 
@@ -182,7 +226,7 @@ fn run_named(alloc: Global, world: &mut World, who: u32, key: Key) -> Result<Ask
 }
 
 /// Runs one key of a prompt. `RegisterFull` comes where more was typed than a register may hold; the prompt is left then, and
-/// nothing is run. `NoSuchRegister` comes where a key names no register, and leaves the prompt as it is. Want of memory leaves
+/// nothing is run or looked for. `NoSuchRegister` comes where a key names no register, and leaves the prompt as it is. Want of memory leaves
 /// the world. It costs the characters of the prompt from the cursor on, and of a register those of its strings; `<ret>` costs all
 /// that was typed.
 #[tactic(auto, using(kak_world::proofs::WorldLaws::world_laws), unfolding(crate::specs::Rows::row_prompt))]

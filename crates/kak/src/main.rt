@@ -3,6 +3,7 @@
 
 use kak_app::{Status, run};
 use kak_ports::{ReadSource, WriteSink};
+use regex_ports::RegexMaker;
 use std::process::ExitCode;
 use std::{env, io};
 
@@ -27,7 +28,14 @@ fn without_words(error: &io::Error) -> Status {
 fn run_with(rt: &HostRuntime, words: &[String]) -> Status {
     let mut input = ReadSource::new(rt.stdin());
     let mut output = WriteSink::new(rt.stdout());
-    run(rt.alloc(), words, &mut input, &mut output)
+    let (status, _patterns) = run(
+        rt.alloc(),
+        words,
+        &mut input,
+        &mut output,
+        RegexMaker::new(),
+    );
+    status
 }
 
 fn main(rt: HostRuntime) -> ExitCode {

@@ -1,10 +1,9 @@
 -- Runs that came to nothing, and runs that ended in one way or another.
-use Rattle.std.proofs.Common.{◌≡◌, ℕ, ◌+◌, ◌≤◌, ◌<◌, ◌⊎◌, inl, inr, zero, suc, List, [], length, drop, Ok, Err, refl, ap, ◌∙◌, subst, arith}
+use Rattle.std.proofs.Common.{◌≡◌, ℕ, inl, inr, zero, suc, [], drop, Ok, Err, refl, ◌∙◌, subst, arith}
 use Rattle.std.specs.declared.result.Result.{Result}
 use Rattle.std.proofs.KnownBytes.{Consumes-nil, Appends-nil}
 use Rattle.session_turns.specs.Headline.{Due, Sent}
 use Rattle.kak_ports.specs.Ports.{Inlet, Outlet}
-use Rattle.session_events.specs.declared.event.Entry.{Entry}
 use Rattle.session_events.specs.Entries.{AreOf}
 use Rattle.session_events.specs.Legal.{AreLeavings, IsLegal}
 use Rattle.session_events.specs.Meaning.{rules}
@@ -17,7 +16,7 @@ use Rattle.session_lines.specs.declared.reading.InputEnd.TheVariants as ending
 use Rattle.session_lines.specs.Session.{protocol}
 use Rattle.session_lines.specs.Reading.{FaultIs}
 use Rattle.session_lines.specs.Connections.{WasServed, EndCauses}
-use Rattle.kak_engine.specs.Steps.{given_by}
+use Rattle.kak_engine.specs.Steps.{given_by, AllAsked}
 use Rattle.kak_app.specs.declared.program.TheConstants.{MAX_ENTRIES}
 use Rattle.kak_app.specs.declared.program.Status.TheVariants.{Done}
 use Rattle.kak_app.specs.Runs.{Ran, Answers, IsFull, ReadsAre, WritesAre}
@@ -41,6 +40,7 @@ nothing-ran left before = record {
     };
     end_is = tt;
   };
+  asked = tt;
   full = tt;
   reads = inl refl;
   writes = refl;
@@ -77,12 +77,13 @@ writes-are (Err stop.WriteFault) z before now c = c
 
 -- client 0 was served
 pub served-ran : (r : Result InputEnd Stop) (x z : Seated) (left rest : Inlet) (before now : Outlet) → x.number ≡ 0 → x.limit ≡ MAX_ENTRIES → IsSameSeat x z → AreOf z.number z.seen → IsLegal z.limit z.seen
-    → WasServed given_by x.number z.seen before now left rest r → FaultIs r left rest → EndCauses r z before now → Ran r left rest before now
-served-ran r x z left rest before now first most same o l s f c = record {
+    → WasServed given_by x.number z.seen before now left rest r → FaultIs r left rest → EndCauses r z before now → AllAsked z.seen → Ran r left rest before now
+served-ran r x z left rest before now first most same o l s f c a = record {
   history = z.seen;
   alone = mine;
   legal = subst (λ n. IsLegal n z.seen) (same.limit ∙ most) l;
   served = subst (λ n. WasServed given_by n z.seen before now left rest r) first s;
+  asked = a;
   full = full-length r z before now (same.limit ∙ most) mine l c;
   reads = reads-are r left rest f;
   writes = writes-are r z before now c;
@@ -98,11 +99,12 @@ broken-ran at left rest before now r = record {
   alone = r.alone;
   legal = r.legal;
   served = record { bytes = r.served.bytes; takes = r.served.takes; few = r.served.few; lines = r.served.lines; out = r.served.out; sends = r.served.sends; served = r.served.served; end_is = tt };
+  asked = r.asked;
   full = tt;
   reads = r.reads;
   writes = r.writes;
 }
 
 -- a run whose input ended
-pub ended-done : (r : Result InputEnd Stop) (e : InputEnd) (left rest : Inlet) (before now : Outlet) → r ≡ Ok e → e ≡ ending.Ended → Ran r left rest before now → Answers Done left rest before now
-ended-done r e left rest before now is end ran = inr (subst (λ q. Ran q left rest before now) (is ∙ ap (λ d. Ok d) end) ran)
+pub ended-done : (e : InputEnd) (left rest : Inlet) (before now : Outlet) → e ≡ ending.Ended → Ran (Ok e) left rest before now → Answers Done left rest before now
+ended-done e left rest before now end ran = inr (subst (λ q. Ran (Ok q) left rest before now) end ran)

@@ -11,7 +11,7 @@ use Rattle.session_lines.specs.declared.reading.InputEnd.{InputEnd}
 use Rattle.session_lines.specs.declared.reading.InputEnd.TheVariants as ending
 use Rattle.session_lines.specs.Stops.{NoneFailed}
 use Rattle.session_lines.specs.Connections.{WasServed}
-use Rattle.kak_engine.specs.Steps.{given_by}
+use Rattle.kak_engine.specs.Steps.{given_by, AllAsked}
 use Rattle.kak_app.specs.declared.program.TheConstants.{MAX_ENTRIES}
 use Rattle.kak_app.specs.declared.program.Status.{Status}
 use Rattle.kak_app.specs.declared.program.Status.TheVariants.{Done, Usage, ReadFault, WriteFault, NoMemory, HistoryFull, InputFull}
@@ -49,12 +49,14 @@ WritesAre (Err stop.WriteFault) before now = Rose before.faults now.faults
 WritesAre _ before now = NoneFailed before now
 
 -- Client 0 was served: there is a history that there can be, with no entry of anybody else, and what was read, what stands
--- in that history and what was written belong together as they do at the end of a connection.
+-- in that history and what was written belong together as they do at the end of a connection. In each entry the outside
+-- answered what it was asked for.
 pub record Ran (result : Result InputEnd Stop) (left rest : Inlet) (before now : Outlet) : Type 0 where
   pub history : List Entry
   pub alone : AreOf 0 history
   pub legal : IsLegal MAX_ENTRIES history
   pub served : WasServed given_by 0 history before now left rest result
+  pub asked : AllAsked history
   pub full : IsFull result history
   pub reads : ReadsAre result left rest
   pub writes : WritesAre result before now

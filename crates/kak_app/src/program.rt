@@ -1,10 +1,12 @@
 //! The run of the program: one client, from its first drawing to its leaving.
 
 ghost use Rattle.std.specs.Prelude.{◌≡◌, map, string_bytes, IsTrue, false};
+ghost use Rattle.kak_ports.specs.Ports.{Inlet, Outlet};
 ghost use Rattle.kak_app.specs.Runs.{Ran, code_of, ui_json, Answers};
 
-use kak_engine::LoneSeat;
+use kak_engine::{LoneSeat, NoEngine};
 use kak_ports::{Sink, Source};
+use regex_ports::PatternMaker;
 use session_lines::{InputEnd, Stop, serve};
 use std::alloc::Global;
 
@@ -58,34 +60,30 @@ fn are_ui_json(words: &[String]) -> bool
     }
 }
 
-// Serves the one client of a new session.
-fn serve_client<I: Source, K: Sink>(
+// Serves the one client of a new session. Gives back the maker of patterns.
+fn serve_client<I: Source, K: Sink, M: PatternMaker>(
     alloc: Global,
     input: &mut I,
     output: &mut K,
-) -> Result<InputEnd, Stop>
-    ensures { Ran result (I.inlet input.old) (I.inlet input.new) (K.outlet output.old) (K.outlet output.new) }
+    patterns: M,
+) -> (Result<InputEnd, Stop>, M)
+    ensures { Ran result.0 (I.inlet input.old) (I.inlet input.new) (K.outlet output.old) (K.outlet output.new) }
 {
-    let mut seat = LoneSeat::new(alloc, MAX_ENTRIES, 0)?;
-    serve(alloc, &mut seat, input, output)
+    match LoneSeat::new(alloc, patterns, MAX_ENTRIES, 0) {
+        Ok(mut seat) => {
+            let ended = serve(alloc, &mut seat, input, output);
+            (ended, seat.into_patterns())
+        }
+        Err(NoEngine { patterns }) => (Err(Stop::NoMemory), patterns),
+    }
 }
 
-/// Runs the program: its words are to be `-ui json`, its input has the client's lines, and its output is sent what the
-/// client is shown and refused. The client has the number 0.
-pub fn run<I: Source, K: Sink>(
-    alloc: Global,
-    words: &[String],
-    input: &mut I,
-    output: &mut K,
-) -> Status
-    ensures refused { (map (λ word. string_bytes word) words.now ≡ ui_json → ⊥) → result ≡ Status.Usage }
-    ensures taken { map (λ word. string_bytes word) words.now ≡ ui_json → result ≡ Status.Usage → ⊥ }
-    ensures answers { Answers result (I.inlet input.old) (I.inlet input.new) (K.outlet output.old) (K.outlet output.new) }
+// The status of a run, by how its client was served.
+fn status_of(ended: Result<InputEnd, Stop>) -> Status
+    ensures answers { (left rest : Inlet) (before now : Outlet) → Ran ended left rest before now → Answers result left rest before now }
+    ensures used { result ≡ Status.Usage → ⊥ }
 {
-    if !are_ui_json(words) {
-        return Status::Usage;
-    }
-    match serve_client(alloc, input, output) {
+    match ended {
         Ok(InputEnd::Left) => Status::Done,
         Ok(InputEnd::Ended) => Status::Done,
         Ok(InputEnd::ReadFault) => Status::ReadFault,
@@ -95,4 +93,24 @@ pub fn run<I: Source, K: Sink>(
         Err(Stop::Broken(_)) => Status::NoMemory,
         Err(Stop::NoMemory) => Status::NoMemory,
     }
+}
+
+/// Runs the program: its words are to be `-ui json`, its input has the client's lines, and its output is sent what the
+/// client is shown and refused. The client has the number 0. The maker of patterns is given back.
+pub fn run<I: Source, K: Sink, M: PatternMaker>(
+    alloc: Global,
+    words: &[String],
+    input: &mut I,
+    output: &mut K,
+    patterns: M,
+) -> (Status, M)
+    ensures refused { (map (λ word. string_bytes word) words.now ≡ ui_json → ⊥) → result.0 ≡ Status.Usage }
+    ensures taken { map (λ word. string_bytes word) words.now ≡ ui_json → result.0 ≡ Status.Usage → ⊥ }
+    ensures answers { Answers result.0 (I.inlet input.old) (I.inlet input.new) (K.outlet output.old) (K.outlet output.new) }
+{
+    if !are_ui_json(words) {
+        return (Status::Usage, patterns);
+    }
+    let (ended, patterns) = serve_client(alloc, input, output, patterns);
+    (status_of(ended), patterns)
 }

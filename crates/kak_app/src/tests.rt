@@ -2,6 +2,7 @@ ghost use Rattle.std.specs.Prelude.{◌<◌};
 
 use crate::{Status, run};
 use kak_ports::{FailingCalls, MemSink, MemSource};
+use regex_ports::RegexMaker;
 use std::alloc::Global;
 use std::test::Fail;
 
@@ -32,12 +33,23 @@ fn words(alloc: Global, form: &str) -> Result<Vec<String>, Fail> {
     Ok(words)
 }
 
+// Runs the program, with patterns that are regular expressions.
+fn run_words(
+    alloc: Global,
+    words: &[String],
+    source: &mut MemSource,
+    sink: &mut MemSink,
+) -> Status {
+    let (status, _patterns) = run(alloc, words, source, sink, RegexMaker::new());
+    status
+}
+
 // Runs the program over an input.
 fn play_bytes(alloc: Global, input: Vec<u8>) -> Result<Played, Fail> {
     let mut source = MemSource::new(input, 4096, FailingCalls::none(alloc));
     let mut sink = MemSink::new(alloc, 100_000, FailingCalls::none(alloc))?;
     let words = words(alloc, "json")?;
-    let status = run(alloc, words.as_slice(), &mut source, &mut sink);
+    let status = run_words(alloc, words.as_slice(), &mut source, &mut sink);
     let mut sent = Vec::new(alloc);
     sent.extend_from_slice(sink.contents())?;
     let sent = String::from_utf8(sent)?;
@@ -135,11 +147,11 @@ fn other_words_are_refused_and_nothing_is_written(rt: HostRuntime) -> Result<(),
     let others = words(alloc, "jsonx")?;
     let none = Vec::new(alloc);
     assert_eq!(rt;
-        run(alloc, others.as_slice(), &mut source, &mut sink),
+        run_words(alloc, others.as_slice(), &mut source, &mut sink),
         Status::Usage
     );
     assert_eq!(rt;
-        run(alloc, none.as_slice(), &mut source, &mut sink),
+        run_words(alloc, none.as_slice(), &mut source, &mut sink),
         Status::Usage
     );
     assert_eq!(rt; sink.contents().len(), 0);
@@ -154,13 +166,13 @@ fn failing_ports_are_told_apart(rt: HostRuntime) -> Result<(), Fail> {
     let mut source = MemSource::new(bytes_of(alloc, "\n")?, 4096, failing);
     let mut sink = MemSink::new(alloc, 100_000, FailingCalls::none(alloc))?;
     assert_eq!(rt;
-        run(alloc, words.as_slice(), &mut source, &mut sink),
+        run_words(alloc, words.as_slice(), &mut source, &mut sink),
         Status::ReadFault
     );
     assert_eq!(rt; sink.contents().len(), FIRST.len() + EMPTY.len());
     let mut short = MemSink::new(alloc, 100, FailingCalls::none(alloc))?;
     assert_eq!(rt;
-        run(alloc, words.as_slice(), &mut source, &mut short),
+        run_words(alloc, words.as_slice(), &mut source, &mut short),
         Status::WriteFault
     );
     assert_eq!(rt; short.contents().len(), 100);

@@ -1,9 +1,9 @@
 -- No key makes a client come or go.
 use Rattle.std.proofs.Common.{◌≡◌, ℕ, zero, suc, Bool, true, false, List, [], ◌∷◌}
-use Rattle.std.specs.Prelude.{if◌then◌else◌}
+use Rattle.std.specs.Prelude.{if◌then◌else◌, Some, None}
 use Rattle.key_names.specs.declared.key.Key.{Key}
 use Rattle.kak_world.specs.declared.ask.Ask.{Ask}
-use Rattle.kak_world.specs.declared.ask.Ask.TheVariants.{Nothing, Commands, Leave}
+use Rattle.kak_world.specs.declared.ask.Ask.TheVariants.{Nothing, Commands, Make, Leave}
 use Rattle.kak_world.specs.declared.own.Mode.{Mode}
 use Rattle.kak_world.specs.declared.own.Mode.TheVariants.{Normal, Insert, Prompt}
 use Rattle.kak_world.specs.declared.own.Status.TheVariants.{Quiet, Refused}
@@ -17,8 +17,12 @@ use Rattle.command_set.specs.Rows.{commands_of, row_command}
 use Rattle.command_set.proofs.CommandLaws.{command_world}
 use Rattle.draw_model.specs.Drawings.{after_following}
 use Rattle.session_events.specs.declared.event.Answered.{Answered}
-use Rattle.kak_engine.specs.Doing.{End, Fine, Failed, GivenUp, Moment, Outcome, Part, Place, Go, in_world, after, and_then, each, unit_of, go_on, run_command, do_ask, body, do_within, Do, row_in, row_key, strike}
-use Rattle.kak_engine.specs.Steps.{told, begun, first_moment, ends_group, group_ended, ended, after_key, noted_drawn}
+use Rattle.session_events.specs.declared.event.Answered.TheVariants.{Read, NotThere, TooBig, ReadFailed, Wrote, WriteFailed, Built, Refused as NotBuilt}
+use Rattle.kak_world.specs.declared.purpose.PatternUse.{PatternUse}
+use Rattle.command_set.specs.Finishing.{row_finish}
+use Rattle.command_set.proofs.FinishLaws.{keeps_finish}
+use Rattle.kak_engine.specs.Doing.{End, Fine, Failed, GivenUp, Moment, Outcome, Part, Place, Go, in_world, after, and_then, each, unit_of, go_on, run_command, do_ask, with_made, body, depth_of, do_within, Do, row_in, row_key, top, strike}
+use Rattle.kak_engine.specs.Steps.{told, begun, first_moment, ends_group, group_ended, ended, struck, after_key, noted_drawn}
 
 -- a part of a step that keeps the clients, wherever it begins
 abbrev pub Keeps : Part → Type 0
@@ -54,9 +58,21 @@ keeps-commands : (go : Go) (who : ℕ) (p : Place) (texts : List (List ℕ)) →
 keeps-commands go who p [] all m = keeps_same m.world
 keeps-commands go who p (t ∷ ts) all m = keeps-then m.world (run_command go who p t m) (each (run_command go who p) ts) (keeps-command go who p t all m) (keeps-commands go who p ts all)
 
+keeps-made : (go : Go) (who : ℕ) (p : Place) (wanted : PatternUse) (text : List ℕ) (answers : List Answered) → KeepsAll go → Keeps (with_made (λ made n. go_on go p (row_finish wanted.then made who n.world) n) text answers)
+keeps-made go who p wanted text (Built ∷ later) all m = keeps-row go p (row_finish wanted.then (Some text) who m.world) (record { world = m.world; answers = later; fit = m.fit }) all (keeps_finish wanted.then (Some text) who m.world)
+keeps-made go who p wanted text (NotBuilt ∷ later) all m = keeps-row go p (row_finish wanted.then None who m.world) (record { world = m.world; answers = later; fit = m.fit }) all (keeps_finish wanted.then None who m.world)
+keeps-made go who p wanted text [] all m = keeps_same m.world
+keeps-made go who p wanted text (Read bytes ∷ later) all m = keeps_same m.world
+keeps-made go who p wanted text (NotThere ∷ later) all m = keeps_same m.world
+keeps-made go who p wanted text (TooBig ∷ later) all m = keeps_same m.world
+keeps-made go who p wanted text (ReadFailed ∷ later) all m = keeps_same m.world
+keeps-made go who p wanted text (Wrote ∷ later) all m = keeps_same m.world
+keeps-made go who p wanted text (WriteFailed ∷ later) all m = keeps_same m.world
+
 keeps-ask : (go : Go) (who : ℕ) (p : Place) (ask : Ask) → KeepsAll go → Keeps (do_ask go who p ask)
 keeps-ask go who p Nothing all m = keeps_same m.world
 keeps-ask go who p (Commands text) all m = keeps-commands go who p (commands_of text) all m
+keeps-ask go who p (Make wanted) all m = keeps-made go who p wanted _ m.answers all m
 keeps-ask go who p Leave all m = keeps_own who (λ o. record o { leaving = true }) m.world
 
 keeps-body : (go : Go) (who : ℕ) (p : Place) (row : Row) → KeepsAll go → Keeps (body go who p row)
@@ -72,7 +88,7 @@ keeps-within (suc n) who p row m = keeps-body (do_within n who) who p row (keeps
 -- all that a row asks for
 pub keeps_do : (who : ℕ) (p : Place) (row : Row) → Keeps (Do who p row)
 unfolding Do
-keeps_do who p row m = keeps-within (suc (suc (units_of m.world))) who p row m
+keeps_do who p row m = keeps-within (suc (depth_of row m.world)) who p row m
 
 keeps-row_in : (mode : Mode) (key : Key) (who : ℕ) (flat : Flat) → KeepsClients flat (row_in mode key who flat).world
 keeps-row_in Normal key who flat = keeps_normal key who flat
@@ -115,9 +131,9 @@ keeps-chosen false old a b f g = g
 pub keeps_key : (who : ℕ) (key : Key) (answers : List Answered) (flat : Flat) → KeepsClients flat (after_key who key answers flat)
 unfolding after_key
 keeps_key who key answers flat =
-    let struck : Outcome = strike who (record { depth = 0 }) key (first_moment who flat answers) in
-    keeps-chosen (is_leaving who flat) flat flat (ended who struck) (keeps_same flat)
-    (keeps-ended who struck flat (keeps_after flat (begun who flat) struck.moment.world (keeps-begun who flat) (keeps_strike who (record { depth = 0 }) key (first_moment who flat answers))))
+    let o : Outcome = struck who key answers flat in
+    keeps-chosen (is_leaving who flat) flat flat (ended who o) (keeps_same flat)
+    (keeps-ended who o flat (keeps_after flat (begun who flat) o.moment.world (keeps-begun who flat) (keeps_strike who top key (first_moment who flat answers))))
 
 -- a refresh
 pub keeps_refresh : (who : ℕ) (flat : Flat) → KeepsClients flat (noted_drawn who (after_following who flat))

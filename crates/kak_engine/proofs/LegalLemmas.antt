@@ -8,9 +8,10 @@ use Rattle.kak_world.specs.declared.world.TheConstants.{MAX_CLIENTS}
 use Rattle.kak_world.specs.Flat.{Flat, is_here as is_among, is_joined}
 use Rattle.session_events.specs.declared.event.Event.{Event}
 use Rattle.session_events.specs.declared.event.Event.TheVariants.{Join, Key as Struck, Refresh, Leave}
+use Rattle.session_events.specs.declared.event.Answered.{Answered}
 use Rattle.session_events.specs.declared.event.Entry.{Entry}
 use Rattle.session_events.specs.declared.fault.StepFault.{StepFault}
-use Rattle.session_events.specs.Entries.{is_join, is_leave, entry_of}
+use Rattle.session_events.specs.Entries.{is_join, is_leave, entry_with}
 use Rattle.session_events.specs.Legal.{Presence, Away, Here, Gone, is_here, moved_by, may_make, presence_from, may_make_all, IsLegal, KeepsLimit, AreLeavings}
 use Rattle.session_events.proofs.LegalLemmas.{presence-append, may-append}
 use Rattle.kak_engine.specs.Steps.{run, has_joined, is_full}
@@ -75,18 +76,18 @@ here-may Away event h j = cc
 here-may Here event h j = rw j refl
 here-may Gone event h j = cc
 
-one-may : (k who : ℕ) (p : Presence) (event : Event) → (who ≡ k → may_make p event ≡ true) → may_make_all k p (entry_of who event ∷ []) ≡ true
-one-may k who p event m = by (who == k) refl
+one-may : (k who : ℕ) (p : Presence) (event : Event) (answers : List Answered) → (who ≡ k → may_make p event ≡ true) → may_make_all k p (entry_with who event answers ∷ []) ≡ true
+one-may k who p event answers m = by (who == k) refl
   where
     by : (t : Bool) → (who == k) ≡ t → (if t then may_make p event && true else true) ≡ true
     by true e = rw (m (eqb-true who k e)) refl
     by false e = refl
 
 -- the longer history is one that each client may have
-pub lives-more : (h : List Entry) (limit who : ℕ) (event : Event) → ((k : ℕ) → may_make_all k Away h ≡ true) → ((k : ℕ) → is_joined k (run h) ≡ is_here (presence_from k Away h)) → IsAllowed h limit who event
-    → (k : ℕ) → may_make_all k Away (h ++ entry_of who event ∷ []) ≡ true
-lives-more h limit who event l known a k =
-    may-append k Away h (entry_of who event ∷ []) (l k) (one-may k who (presence_from k Away h) event (λ e. by e (is_join event) refl))
+pub lives-more : (h : List Entry) (limit who : ℕ) (event : Event) (answers : List Answered) → ((k : ℕ) → may_make_all k Away h ≡ true) → ((k : ℕ) → is_joined k (run h) ≡ is_here (presence_from k Away h)) → IsAllowed h limit who event
+    → (k : ℕ) → may_make_all k Away (h ++ entry_with who event answers ∷ []) ≡ true
+lives-more h limit who event answers l known a k =
+    may-append k Away h (entry_with who event answers ∷ []) (l k) (one-may k who (presence_from k Away h) event answers (λ e. by e (is_join event) refl))
   where
     by : who ≡ k → (t : Bool) → is_join event ≡ t → may_make (presence_from k Away h) event ≡ true
     by e true j = rw (never-came k h (l k) (subst (λ q. has_joined q h ≡ false) e (a.fresh j))) j
@@ -106,20 +107,20 @@ drop-all zero (x ∷ a) le = absurd (none (length a) le)
 drop-all (suc n) [] le = refl
 drop-all (suc n) (x ∷ a) le = drop-all n a (omega (arith, le))
 
-pub within-more : (h : List Entry) (limit who : ℕ) (event : Event) → KeepsLimit limit h → IsAllowed h limit who event → KeepsLimit limit (h ++ entry_of who event ∷ [])
-within-more h limit who event w a = by (nat_le limit (length h)) (is_leave event) refl refl
+pub within-more : (h : List Entry) (limit who : ℕ) (event : Event) (answers : List Answered) → KeepsLimit limit h → IsAllowed h limit who event → KeepsLimit limit (h ++ entry_with who event answers ∷ [])
+within-more h limit who event answers w a = by (nat_le limit (length h)) (is_leave event) refl refl
   where
-    by : (t l : Bool) → nat_le limit (length h) ≡ t → is_leave event ≡ l → KeepsLimit limit (h ++ entry_of who event ∷ [])
-    by true true e f = subst AreLeavings (sym (drop-append-le limit h (entry_of who event ∷ []) (leb-true limit (length h) e))) (leavings-append (drop limit h) (entry_of who event ∷ []) w (f, tt))
+    by : (t l : Bool) → nat_le limit (length h) ≡ t → is_leave event ≡ l → KeepsLimit limit (h ++ entry_with who event answers ∷ [])
+    by true true e f = subst AreLeavings (sym (drop-append-le limit h (entry_with who event answers ∷ []) (leb-true limit (length h) e))) (leavings-append (drop limit h) (entry_with who event answers ∷ []) w (f, tt))
     by true false e f = let no : true ≡ false = sym e ∙ a.room f in cc
-    by false l e f = subst AreLeavings (sym (drop-all limit (h ++ entry_of who event ∷ []) (short (leb-false limit (length h) e)))) tt
+    by false l e f = subst AreLeavings (sym (drop-all limit (h ++ entry_with who event answers ∷ []) (short (leb-false limit (length h) e)))) tt
       where
-        short : length h < limit → length (h ++ entry_of who event ∷ []) ≤ limit
-        short lt = omega (arith, lt, length-append h (entry_of who event ∷ []))
+        short : length h < limit → length (h ++ entry_with who event answers ∷ []) ≤ limit
+        short lt = omega (arith, lt, length-append h (entry_with who event answers ∷ []))
 
 -- where a client is behind one entry more
-pub presence-more : (k who : ℕ) (h : List Entry) (event : Event) → presence_from k Away (h ++ entry_of who event ∷ []) ≡ (if who == k then moved_by event (presence_from k Away h) else presence_from k Away h)
-presence-more k who h event = presence-append k Away h (entry_of who event ∷ [])
+pub presence-more : (k who : ℕ) (h : List Entry) (event : Event) (answers : List Answered) → presence_from k Away (h ++ entry_with who event answers ∷ []) ≡ (if who == k then moved_by event (presence_from k Away h) else presence_from k Away h)
+presence-more k who h event answers = presence-append k Away h (entry_with who event answers ∷ [])
 
 -- an event that isn't refused can be run
 pub can-run : (history : List Entry) (limit who : ℕ) (event : Event) (flat : Flat) → flat ≡ run history → ((k : ℕ) → is_among k flat.clients ≡ is_here (presence_from k Away history)) → IsLegal limit history

@@ -1,8 +1,10 @@
-pub mod DeepLemmas
 pub mod DoingLemmas
 pub mod EndLemmas
+pub mod ExampleLemmas
+pub mod HonestLemmas
 pub mod KeepingLaws
 pub mod KeyLemmas
 pub mod LegalLemmas
 pub mod PresenceLemmas
 pub mod RunLemmas
+pub mod StageLemmas

@@ -1,5 +1,5 @@
 -- Who is there, and has joined, after an event.
-use Rattle.std.proofs.Common.{◌≡◌, ◌≢◌, ℕ, ◌≤◌, Bool, true, false, ◌||◌, List, [], length, refl, ◌∙◌, subst, arith}
+use Rattle.std.proofs.Common.{◌≡◌, ◌≢◌, ℕ, ◌≤◌, Bool, true, false, ◌||◌, List, length, refl, ◌∙◌, subst, arith}
 use Rattle.std.specs.Prelude.{if◌then◌else◌, ◌==◌}
 use Rattle.std.proofs.lemmas.Bool.{eqb-true, ne_eqb}
 use Rattle.kak_world.specs.declared.world.TheConstants.{MAX_CLIENTS}
@@ -43,46 +43,46 @@ come false true = refl
 come false false = refl
 
 -- who is there
-pub here-after : (k who : ℕ) (event : Event) (flat : Flat) → is_among k (after_event who event [] flat).clients ≡ there_after event (who == k) (is_among k flat.clients)
-here-after k who Join flat = here_come k who flat ∙ come (is_among k flat.clients) (who == k)
-here-after k who (Struck key) flat = here_kept k flat _ (keeps_key who key [] flat) ∙ unchanged (Struck key) (who == k) (is_among k flat.clients) refl refl
-here-after k who (Refresh asked) flat = here_kept k flat _ (keeps_refresh who flat) ∙ unchanged (Refresh asked) (who == k) (is_among k flat.clients) refl refl
-here-after k who Leave flat = by (who == k) refl
+pub here-after : (k who : ℕ) (event : Event) (answers : List Answered) (flat : Flat) → is_among k (after_event who event answers flat).clients ≡ there_after event (who == k) (is_among k flat.clients)
+here-after k who Join answers flat = here_come k who flat ∙ come (is_among k flat.clients) (who == k)
+here-after k who (Struck key) answers flat = here_kept k flat _ (keeps_key who key answers flat) ∙ unchanged (Struck key) (who == k) (is_among k flat.clients) refl refl
+here-after k who (Refresh asked) answers flat = here_kept k flat _ (keeps_refresh who flat) ∙ unchanged (Refresh asked) (who == k) (is_among k flat.clients) refl refl
+here-after k who Leave answers flat = by (who == k) refl
   where
     by : (t : Bool) → (who == k) ≡ t → is_among k (left_by who flat).clients ≡ there_after Leave t (is_among k flat.clients)
     by true e = subst (λ n. is_among n (left_by who flat).clients ≡ false) (eqb-true who k e) (here_goes who flat)
     by false e = here_others_go k who flat e
 
 -- who has joined, where one that came has
-pub joined-after : (k who : ℕ) (event : Event) (flat : Flat) → (is_join event ≡ true → is_joined who (after_event who event [] flat) ≡ true)
-    → is_joined k (after_event who event [] flat) ≡ there_after event (who == k) (is_joined k flat)
-joined-after k who Join flat came = by (who == k) refl
+pub joined-after : (k who : ℕ) (event : Event) (answers : List Answered) (flat : Flat) → (is_join event ≡ true → is_joined who (after_event who event answers flat) ≡ true)
+    → is_joined k (after_event who event answers flat) ≡ there_after event (who == k) (is_joined k flat)
+joined-after k who Join answers flat came = by (who == k) refl
   where
     by : (t : Bool) → (who == k) ≡ t → is_joined k (joined_by who flat) ≡ there_after Join t (is_joined k flat)
     by true e = subst (λ n. is_joined n (joined_by who flat) ≡ true) (eqb-true who k e) (came refl)
     by false e = joined_others_come k who flat e
-joined-after k who (Struck key) flat came = (keeps_key who key [] flat).joined k ∙ unchanged (Struck key) (who == k) (is_joined k flat) refl refl
-joined-after k who (Refresh asked) flat came = (keeps_refresh who flat).joined k ∙ unchanged (Refresh asked) (who == k) (is_joined k flat) refl refl
-joined-after k who Leave flat came = by (who == k) refl
+joined-after k who (Struck key) answers flat came = (keeps_key who key answers flat).joined k ∙ unchanged (Struck key) (who == k) (is_joined k flat) refl refl
+joined-after k who (Refresh asked) answers flat came = (keeps_refresh who flat).joined k ∙ unchanged (Refresh asked) (who == k) (is_joined k flat) refl refl
+joined-after k who Leave answers flat came = by (who == k) refl
   where
     by : (t : Bool) → (who == k) ≡ t → is_joined k (left_by who flat) ≡ there_after Leave t (is_joined k flat)
     by true e = subst (λ n. is_joined n (left_by who flat) ≡ false) (eqb-true who k e) (joined_goes who flat)
     by false e = joined_others_go k who flat e
 
 -- how many are there
-pub few-after : (who : ℕ) (event : Event) (flat : Flat) → CanRun event who flat → length flat.clients ≤ MAX_CLIENTS → length (after_event who event [] flat).clients ≤ MAX_CLIENTS
-few-after who Join flat can few = omega (arith, count_come who flat, can.few)
-few-after who (Struck key) flat can few = omega (arith, count_kept flat _ (keeps_key who key [] flat), few)
-few-after who (Refresh asked) flat can few = omega (arith, count_kept flat _ (keeps_refresh who flat), few)
-few-after who Leave flat can few = omega (arith, count_goes who flat (here_joined who flat can), few)
+pub few-after : (who : ℕ) (event : Event) (answers : List Answered) (flat : Flat) → CanRun event who flat → length flat.clients ≤ MAX_CLIENTS → length (after_event who event answers flat).clients ≤ MAX_CLIENTS
+few-after who Join answers flat can few = omega (arith, count_come who flat, can.few)
+few-after who (Struck key) answers flat can few = omega (arith, count_kept flat _ (keeps_key who key answers flat), few)
+few-after who (Refresh asked) answers flat can few = omega (arith, count_kept flat _ (keeps_refresh who flat), few)
+few-after who Leave answers flat can few = omega (arith, count_goes who flat (here_joined who flat can), few)
 
 -- a client that made an event, and didn't leave by it, has joined
-pub own-after : (who : ℕ) (event : Event) (flat : Flat) → CanRun event who flat → is_leave event ≡ false → (is_join event ≡ true → is_joined who (after_event who event [] flat) ≡ true)
-    → is_joined who (after_event who event [] flat) ≡ true
-own-after who Join flat can stays came = came refl
-own-after who (Struck key) flat can stays came = (keeps_key who key [] flat).joined who ∙ can
-own-after who (Refresh asked) flat can stays came = (keeps_refresh who flat).joined who ∙ can
-own-after who Leave flat can stays came = cc
+pub own-after : (who : ℕ) (event : Event) (answers : List Answered) (flat : Flat) → CanRun event who flat → is_leave event ≡ false → (is_join event ≡ true → is_joined who (after_event who event answers flat) ≡ true)
+    → is_joined who (after_event who event answers flat) ≡ true
+own-after who Join answers flat can stays came = came refl
+own-after who (Struck key) answers flat can stays came = (keeps_key who key answers flat).joined who ∙ can
+own-after who (Refresh asked) answers flat can stays came = (keeps_refresh who flat).joined who ∙ can
+own-after who Leave answers flat can stays came = cc
 
 -- the others stay
 pub others_stay : (who k : ℕ) (event : Event) (answers : List Answered) (flat : Flat) → who ≢ k → is_joined k (after_event who event answers flat) ≡ is_joined k flat

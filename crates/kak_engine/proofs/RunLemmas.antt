@@ -1,20 +1,22 @@
 -- The world after one more entry.
 use Rattle.std.proofs.Common.{◌≡◌, ℕ, zero, suc, ◌≤◌, true, false, List, [], ◌∷◌, ◌++◌, length, drop, refl, sym, ap, ◌∙◌, subst, arith, append-nil, Ok, Err}
-use Rattle.std.specs.Prelude.{Some, None, IfOk, OnOk, ◌==◌}
+use Rattle.std.specs.Prelude.{Some, None, IfOk, OnErr, ◌==◌}
 use Rattle.std.specs.declared.result.Result.{Result}
 use Rattle.std.specs.declared.option.Option.{Option}
 use Rattle.kak_world.specs.declared.world.TheConstants.{MAX_CLIENTS}
 use Rattle.kak_world.specs.Flat.{Flat, opening, is_here as is_among, is_joined}
 use Rattle.session_events.specs.declared.event.Event.{Event}
 use Rattle.session_events.specs.declared.event.Event.TheVariants.{Join, Key as Struck, Refresh, Leave}
+use Rattle.session_events.specs.declared.event.Answered.{Answered}
 use Rattle.session_events.specs.declared.event.Entry.{Entry}
 use Rattle.session_events.specs.declared.event.Output.{Output}
 use Rattle.session_events.specs.declared.fault.StepFault.{StepFault}
-use Rattle.session_events.specs.Seats.{Seated, Steps}
-use Rattle.session_events.specs.Entries.{is_join, is_leave, entry_of}
+use Rattle.session_events.specs.Seats.{Steps}
+use Rattle.session_events.specs.Entries.{is_join, is_leave, entry_of, entry_with, AreOf}
 use Rattle.session_events.specs.Legal.{Away, is_here, presence_from, AreLeavings, IsLegal}
-use Rattle.kak_engine.specs.Steps.{after_entry, after_event, output_of, run_from, run, given_by}
-use Rattle.kak_engine.specs.Held.{Stands, CanRun, refused_at, refused_by}
+use Rattle.kak_engine.specs.Steps.{after_entry, after_event, output_of, run_from, run, given_by, AreAskedFor, AllAskedFrom, AllAsked}
+use Rattle.kak_engine.specs.Held.{Held, Stands, CanRun, Takes, refused_at, refused_by}
+use Rattle.kak_engine.specs.Honesty.{Stood}
 use Rattle.kak_engine.proofs.LegalLemmas.{allowed, can-run, lives-more, within-more, presence-more}
 use Rattle.kak_engine.proofs.PresenceLemmas.{there_after, presence-after, here-after, joined-after, few-after, own-after}
 
@@ -22,8 +24,13 @@ pub run_from-append : (flat : Flat) (a b : List Entry) → run_from flat (a ++ b
 run_from-append flat [] b = refl
 run_from-append flat (e ∷ a) b = run_from-append (after_entry e flat) a b
 
-pub run-more : (history : List Entry) (who : ℕ) (event : Event) → run (history ++ entry_of who event ∷ []) ≡ after_event who event [] (run history)
-run-more history who event = run_from-append opening history (entry_of who event ∷ [])
+pub run-more : (history : List Entry) (who : ℕ) (event : Event) (answers : List Answered) → run (history ++ entry_with who event answers ∷ []) ≡ after_event who event answers (run history)
+run-more history who event answers = run_from-append opening history (entry_with who event answers ∷ [])
+
+-- one entry more, whose answers are what was asked for
+pub asked-more : (flat : Flat) (history : List Entry) (e : Entry) → AllAskedFrom flat history → AreAskedFor e.who e.event e.answers (run_from flat history) → AllAskedFrom flat (history ++ e ∷ [])
+asked-more flat [] e all one = (one, tt)
+asked-more flat (x ∷ history) e all one = (all.0, asked-more (after_entry x flat) history e all.1 one)
 
 -- an engine that refuses nothing isn't broken
 pub mark-none : (mark : Option ℕ) (history : List Entry) (limit who : ℕ) (event : Event) → refused_at mark history limit who event ≡ None → mark ≡ None
@@ -56,34 +63,36 @@ stands-first flat history limit e k = record {
   here = λ m q. ap (λ f. is_among q f.clients) e ∙ ap (λ h. is_here (presence_from q Away h)) (sym k);
   few = λ m. subst (λ f. length f.clients ≤ MAX_CLIENTS) (sym e) (omega arith);
   legal = subst (IsLegal limit) (sym k) (record { lives = λ q. refl; within = no-leavings limit });
+  asked = subst AllAsked (sym k) tt;
 }
 
 -- an engine goes on to stand
-pub stands-more : (before now : Flat) (history new : List Entry) (mark : Option ℕ) (limit who : ℕ) (event : Event) → Stands before history mark limit → refused_at mark history limit who event ≡ None
-    → (is_join event ≡ true → is_joined who now ≡ true) → now ≡ after_event who event [] before → new ≡ history ++ entry_of who event ∷ [] → Stands now new mark limit
-stands-more before now history new mark limit who event s r came n k =
+pub stands-more : (before now : Flat) (history new : List Entry) (mark : Option ℕ) (limit who : ℕ) (event : Event) (answers : List Answered) → Stands before history mark limit → refused_at mark history limit who event ≡ None
+    → (is_join event ≡ true → is_joined who now ≡ true) → now ≡ after_event who event answers before → AreAskedFor who event answers before → new ≡ history ++ entry_with who event answers ∷ [] → Stands now new mark limit
+stands-more before now history new mark limit who event answers s r came n asks k =
     let free : mark ≡ None = mark-none mark history limit who event r in
     let a = allowed history limit who event (refused-none mark history limit who event r) in
     let same : before ≡ run history = s.world free in
-    let came_after : is_join event ≡ true → is_joined who (after_event who event [] before) ≡ true = (λ j. ap (is_joined who) (sym n) ∙ came j) in
+    let came_after : is_join event ≡ true → is_joined who (after_event who event answers before) ≡ true = (λ j. ap (is_joined who) (sym n) ∙ came j) in
     record {
-      world = λ m. n ∙ ap (after_event who event []) same ∙ sym (run-more history who event) ∙ ap run (sym k);
-      known = λ m q. ap (is_joined q) n ∙ joined-after q who event before came_after ∙ ap (there_after event (who == q)) (s.known free q) ∙ behind q;
-      here = λ m q. ap (λ f. is_among q f.clients) n ∙ here-after q who event before ∙ ap (there_after event (who == q)) (s.here free q) ∙ behind q;
-      few = λ m. subst (λ f. length f.clients ≤ MAX_CLIENTS) (sym n) (few-after who event before (can-step before history mark limit who event s r) (s.few free));
+      world = λ m. n ∙ ap (after_event who event answers) same ∙ sym (run-more history who event answers) ∙ ap run (sym k);
+      known = λ m q. ap (is_joined q) n ∙ joined-after q who event answers before came_after ∙ ap (there_after event (who == q)) (s.known free q) ∙ behind q;
+      here = λ m q. ap (λ f. is_among q f.clients) n ∙ here-after q who event answers before ∙ ap (there_after event (who == q)) (s.here free q) ∙ behind q;
+      few = λ m. subst (λ f. length f.clients ≤ MAX_CLIENTS) (sym n) (few-after who event answers before (can-step before history mark limit who event s r) (s.few free));
       legal = subst (IsLegal limit) (sym k) (record {
-        lives = lives-more history limit who event s.legal.lives (λ q. ap (is_joined q) (sym same) ∙ s.known free q) a;
-        within = within-more history limit who event s.legal.within a;
+        lives = lives-more history limit who event answers s.legal.lives (λ q. ap (is_joined q) (sym same) ∙ s.known free q) a;
+        within = within-more history limit who event answers s.legal.within a;
       });
+      asked = subst AllAsked (sym k) (asked-more opening history (entry_with who event answers) s.asked (subst (AreAskedFor who event answers) same asks));
     }
   where
     behind : (q : ℕ) → there_after event (who == q) (is_here (presence_from q Away history)) ≡ is_here (presence_from q Away new)
-    behind q = sym (presence-after event (who == q) (presence_from q Away history)) ∙ ap is_here (sym (presence-more q who history event)) ∙ ap (λ h. is_here (presence_from q Away h)) (sym k)
+    behind q = sym (presence-after event (who == q) (presence_from q Away history)) ∙ ap is_here (sym (presence-more q who history event answers)) ∙ ap (λ h. is_here (presence_from q Away h)) (sym k)
 
 -- behind a going
 pub left-stands : (before now : Flat) (history new : List Entry) (mark : Option ℕ) (limit who : ℕ) (event : Event) → Stands before history mark limit → refused_at mark history limit who event ≡ None
     → is_leave event ≡ true → now ≡ after_event who Leave [] before → new ≡ history ++ entry_of who Leave ∷ [] → Stands now new mark limit
-left-stands before now history new mark limit who Leave s r goes n k = stands-more before now history new mark limit who Leave s r (λ j. let no : false ≡ true = j in cc) n k
+left-stands before now history new mark limit who Leave s r goes n k = stands-more before now history new mark limit who Leave [] s r (λ j. let no : false ≡ true = j in cc) n refl k
 left-stands before now history new mark limit who Join s r goes n k = cc
 left-stands before now history new mark limit who (Struck key) s r goes n k = cc
 left-stands before now history new mark limit who (Refresh asked) s r goes n k = cc
@@ -97,23 +106,36 @@ leaver-joined who (Refresh asked) flat goes can = cc
 
 -- an engine that broke
 pub stands-broken : (flat now : Flat) (history new : List Entry) (mark : Option ℕ) (limit at : ℕ) → Stands flat history mark limit → new ≡ history → Stands now new (Some at) limit
-stands-broken flat now history new mark limit at s e = record { world = λ m. cc; known = λ m. cc; here = λ m. cc; few = λ m. cc; legal = subst (IsLegal limit) (sym e) s.legal }
+stands-broken flat now history new mark limit at s e = record { world = λ m. cc; known = λ m. cc; here = λ m. cc; few = λ m. cc; legal = subst (IsLegal limit) (sym e) s.legal; asked = subst AllAsked (sym e) s.asked }
 
 -- a client that made an event, and didn't leave by it, has joined in the world that the longer history leads to
-pub joined-more : (before now : Flat) (history new : List Entry) (mark : Option ℕ) (limit who : ℕ) (event : Event) → Stands before history mark limit → refused_at mark history limit who event ≡ None
-    → (is_join event ≡ true → is_joined who now ≡ true) → now ≡ after_event who event [] before → new ≡ history ++ entry_of who event ∷ [] → is_leave event ≡ false → is_joined who (run new) ≡ true
-joined-more before now history new mark limit who event s r came n k stays =
-    ap (is_joined who) (ap run k ∙ run-more history who event ∙ ap (after_event who event []) (sym (s.world (mark-none mark history limit who event r))))
-    ∙ own-after who event before (can-step before history mark limit who event s r) stays (λ j. ap (is_joined who) (sym n) ∙ came j)
+pub joined-more : (before now : Flat) (history new : List Entry) (mark : Option ℕ) (limit who : ℕ) (event : Event) (answers : List Answered) → Stands before history mark limit → refused_at mark history limit who event ≡ None
+    → (is_join event ≡ true → is_joined who now ≡ true) → now ≡ after_event who event answers before → new ≡ history ++ entry_with who event answers ∷ [] → is_leave event ≡ false → is_joined who (run new) ≡ true
+joined-more before now history new mark limit who event answers s r came n k stays =
+    ap (is_joined who) (ap run k ∙ run-more history who event answers ∙ ap (after_event who event answers) (sym (s.world (mark-none mark history limit who event r))))
+    ∙ own-after who event answers before (can-step before history mark limit who event s r) stays (λ j. ap (is_joined who) (sym n) ∙ came j)
 
 -- the one client's step, as a seat tells it
-pub lone-steps : (r : Result Output StepFault) (x y : Seated) (event : Event) → IfOk r (λ o. o ≡ output_of x.number event [] (run x.seen)) → OnOk r (y.seen ≡ x.seen ++ entry_of x.number event ∷ [])
-    → IfOk r (λ o. Steps given_by x y event o)
-lone-steps (Ok o) x y event g k = record {
+pub lone-steps : (r : Result Output StepFault) (x y : Held) (who : ℕ) (event : Event) → IfOk r (λ o. Takes who event x y o)
+    → IfOk r (λ o. Steps given_by (record { number = who; limit = x.limit; mark = x.mark; seen = x.history }) (record { number = who; limit = y.limit; mark = y.mark; seen = y.history }) event o)
+lone-steps (Ok o) x y who event t = record {
   between = [];
-  answers = [];
+  answers = t.answers;
   foreign = refl;
-  stands = k ∙ ap (λ h. h ++ entry_of x.number event ∷ []) (sym (append-nil x.seen));
-  is = g ∙ ap (λ h. output_of x.number event [] (run h)) (sym (append-nil x.seen));
+  stands = t.keeps ∙ ap (λ h. h ++ entry_with who event t.answers ∷ []) (sym (append-nil x.history));
+  is = t.gives ∙ ap (λ h. output_of who event t.answers (run h)) (sym (append-nil x.history));
 }
-lone-steps (Err e) x y event g k = tt
+lone-steps (Err e) x y who event t = tt
+
+-- the one client's entries are its own still
+pub lone-alone : (r : Result Output StepFault) (x y : Held) (who : ℕ) (event : Event) → IfOk r (λ o. Takes who event x y o) → OnErr r ((y.history ≡ x.history) × Stood x.refusals y.refusals) → AreOf who x.history → AreOf who y.history
+lone-alone (Ok o) x y who event t e a = subst (AreOf who) (sym t.keeps) (one-more x.history a)
+  where
+    one-more : (h : List Entry) → AreOf who h → AreOf who (h ++ entry_with who event t.answers ∷ [])
+    one-more [] a = (refl, tt)
+    one-more (x ∷ h) a = (a.0, one-more h a.1)
+lone-alone (Err f) x y who event t e a = subst (AreOf who) (sym e.0) a
+
+-- nothing was asked for when the client came
+pub first-entry : (who : ℕ) (x y : Held) (o : Output) → Takes who Join x y o → x.history ≡ [] → y.history ≡ entry_of who Join ∷ []
+first-entry who x y o t none = t.keeps ∙ ap (λ h. h ++ entry_with who Join t.answers ∷ []) none ∙ ap (λ a. entry_with who Join a ∷ []) t.asked

@@ -1,16 +1,19 @@
 -- What a row asks for is done: the one recursion of the editor, bounded by the units that are left.
-use Rattle.std.specs.Prelude.{ℕ, zero, suc, Bool, true, List, [], ◌∷◌, codes}
+use Rattle.std.specs.Prelude.{ℕ, zero, suc, ◌+◌, ◌*◌, Bool, true, false, List, [], ◌∷◌, codes, encode_utf8_all, Some, None}
+use Rattle.std.specs.declared.option.Option.{Option}
 use Rattle.key_names.specs.declared.key.Key.{Key}
 use Rattle.kak_world.specs.declared.ask.Ask.{Ask}
-use Rattle.kak_world.specs.declared.ask.Ask.TheVariants.{Nothing, Commands, Leave}
+use Rattle.kak_world.specs.declared.ask.Ask.TheVariants.{Nothing, Commands, Make, Leave}
 use Rattle.kak_world.specs.declared.own.Mode.{Mode}
 use Rattle.kak_world.specs.declared.own.Mode.TheVariants.{Normal, Insert, Prompt}
 use Rattle.kak_world.specs.Flat.{Flat, mode_of, units_of, with_own, with_units}
-use Rattle.kak_world.specs.Rows.{Row, Asks, Fails, GivesUp, RowEnd}
+use Rattle.kak_world.specs.Rows.{Row, Asks, Fails, GivesUp, RowEnd, stages_of}
 use Rattle.normal_keys.specs.Rows.{row_normal}
 use Rattle.insert_prompt.specs.Rows.{row_insert, row_prompt}
 use Rattle.command_set.specs.Rows.{commands_of, row_command}
+use Rattle.command_set.specs.Finishing.{row_finish}
 use Rattle.session_events.specs.declared.event.Answered.{Answered}
+use Rattle.session_events.specs.declared.event.Answered.TheVariants.{Built, Refused}
 
 -- How doing something ended: well, with an error, or given up. Errors and giving up have a status text.
 pub data End : Type 0 where
@@ -36,6 +39,10 @@ Part = Moment → Outcome
 
 pub record Place : Type 0 where
   pub depth : ℕ
+
+-- the place where a step begins
+abbrev pub top : Place
+top = record { depth = 0 }
 
 abbrev pub Go : Type 0
 Go = Place → Row → Part
@@ -83,6 +90,13 @@ run_command go who p text m = with_unit (λ n. go_on go p (row_command text who 
 abbrev pub run_text : Go → ℕ → Place → List ℕ → Part
 run_text go who p text m = each (run_command go who p) (commands_of text) m
 
+-- a part behind the next answer, which is to tell whether the pattern of a text was built: the part is handed that text
+-- where it was, and none where it was refused; an answer that is wanting, or of another kind, fits not
+abbrev pub with_made : (Option (List ℕ) → Part) → List ℕ → List Answered → Part
+with_made part text (Built ∷ later) m = part (Some text) (record { world = m.world; answers = later; fit = m.fit })
+with_made part text (Refused ∷ later) m = part None (record { world = m.world; answers = later; fit = m.fit })
+with_made part text answers m = ends Fine (record { world = m.world; answers = answers; fit = false })
+
 -- the client is granted to leave
 abbrev pub granted : ℕ → Flat → Flat
 granted who flat = with_own who (λ o. record o { leaving = true }) flat
@@ -91,6 +105,7 @@ granted who flat = with_own who (λ o. record o { leaving = true }) flat
 abbrev pub do_ask : Go → ℕ → Place → Ask → Part
 do_ask go who p Nothing m = ends Fine m
 do_ask go who p (Commands text) m = run_text go who p text m
+do_ask go who p (Make wanted) m = with_made (λ made n. go_on go p (row_finish wanted.then made who n.world) n) (encode_utf8_all wanted.pattern) m.answers m
 do_ask go who p Leave m = ends Fine (in_world (granted who m.world) m)
 
 -- what comes after a row
@@ -104,9 +119,13 @@ unfoldable pub do_within : ℕ → ℕ → Go
 do_within zero who p row m = ends (GivenUp budget_spent) m
 do_within (suc n) who p row m = body (do_within n who) who p row m
 
--- the same, as deep as it goes: each nesting has taken a unit
+-- how deep a row may nest: each nesting has taken a unit, or is a later stage of its row
+abbrev pub depth_of : Row → Flat → ℕ
+depth_of row flat = 3 * units_of flat + stages_of row
+
+-- the same, as deep as it goes
 unfoldable pub Do : ℕ → Go
-Do who p row m = do_within (suc (suc (units_of m.world))) who p row m
+Do who p row m = do_within (suc (depth_of row m.world)) who p row m
 
 -- the row of a key, by the mode of the client
 abbrev pub row_in : Mode → Key → ℕ → Flat → RowEnd

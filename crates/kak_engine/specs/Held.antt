@@ -1,5 +1,5 @@
 -- What an engine holds, and which events it refuses.
-use Rattle.std.specs.Prelude.{◌≡◌, ◌≤◌, ◌<◌, ◌+◌, ℕ, true, false, not, ◌&&◌, nat_le, if◌then◌else◌, List, length, None, Some, Err}
+use Rattle.std.specs.Prelude.{◌≡◌, ◌≤◌, ◌<◌, ◌+◌, ℕ, true, false, not, ◌&&◌, nat_le, if◌then◌else◌, List, [], ◌∷◌, ◌++◌, length, None, Some, Err}
 use Rattle.std.specs.declared.option.Option.{Option}
 use Rattle.std.specs.declared.result.Result.{Result}
 use Rattle.session_events.specs.declared.event.Event.{Event}
@@ -8,17 +8,21 @@ use Rattle.session_events.specs.declared.event.Entry.{Entry}
 use Rattle.session_events.specs.declared.event.Output.{Output}
 use Rattle.session_events.specs.declared.fault.StepFault.{StepFault}
 use Rattle.session_events.specs.declared.fault.StepFault.TheVariants.{Broken, NoClient, Joined, HistoryFull, Full, NoMemory}
-use Rattle.session_events.specs.Entries.{is_join, is_leave}
+use Rattle.session_events.specs.declared.event.Answered.{Answered}
+use Rattle.session_events.specs.Entries.{entry_with, is_join, is_leave}
 use Rattle.session_events.specs.Legal.{Away, presence_from, is_here, IsLegal}
 use Rattle.kak_world.specs.declared.world.TheConstants.{MAX_CLIENTS}
 use Rattle.kak_world.specs.Flat.{Flat, is_here as is_among, is_joined}
-use Rattle.kak_engine.specs.Steps.{run, has_joined, is_full}
+use Rattle.kak_engine.specs.Steps.{run, output_of, has_joined, is_full, AreAskedFor, AllAsked}
+use Rattle.kak_engine.specs.Honesty.{IsHonest}
 
--- an engine: its history, the number of entries that stood when it broke, if it did, and how many it may have
+-- an engine: its history, the number of entries that stood when it broke, if it did, how many it may have, and how often
+-- its maker of patterns has refused
 pub record Held : Type 0 where
   pub history : List Entry
   pub mark : Option ℕ
   pub limit : ℕ
+  pub refusals : ℕ
 
 -- An engine that isn't broken has the world that its history leads to, in which those clients are, and have joined, that
 -- have come and not gone, and no more than there may be. Its history is one that there can be.
@@ -28,6 +32,7 @@ pub record Stands (flat : Flat) (history : List Entry) (mark : Option ℕ) (limi
   pub here : mark ≡ None → (who : ℕ) → is_among who flat.clients ≡ is_here (presence_from who Away history)
   pub few : mark ≡ None → length flat.clients ≤ MAX_CLIENTS
   pub legal : IsLegal limit history
+  pub asked : AllAsked history
 
 -- a place is kept for the going of each client that is here, in a history of so many entries, with room for so many
 abbrev pub KeepsPlaces : Option ℕ → Flat → ℕ → ℕ → Type 0
@@ -68,3 +73,12 @@ pub record CanCome (who : ℕ) (flat : Flat) : Type 0 where
 abbrev pub CanRun : Event → ℕ → Flat → Type 0
 CanRun Join who flat = CanCome who flat
 CanRun _ who flat = is_joined who flat ≡ true
+
+-- An event of a client was taken: its entry was added with what the outside answered, which is what was asked for, and the
+-- output is what it gives on the world that the history led to. A pattern was refused only where the maker had refused.
+pub record Takes (who : ℕ) (event : Event) (old new : Held) (output : Output) : Type 0 where
+  pub answers : List Answered
+  pub keeps : new.history ≡ old.history ++ entry_with who event answers ∷ []
+  pub gives : output ≡ output_of who event answers (run old.history)
+  pub asked : AreAskedFor who event answers (run old.history)
+  pub honest : IsHonest answers old.refusals new.refusals

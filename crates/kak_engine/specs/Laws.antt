@@ -1,17 +1,17 @@
 -- Laws of the definitions, each proved as the contract of a function of `laws`.
 use Rattle.std.specs.Prelude.{◌≡◌, ◌≢◌, ℕ, ◌<◌, List}
 use Rattle.key_names.specs.declared.key.Key.{Key}
-use Rattle.kak_world.specs.Flat.{Flat, is_joined, units_of}
+use Rattle.kak_world.specs.Flat.{Flat, is_joined}
 use Rattle.kak_world.specs.Keeping.{KeepsClients}
 use Rattle.kak_world.specs.Rows.{Row}
 use Rattle.session_events.specs.declared.event.Event.{Event}
 use Rattle.session_events.specs.declared.event.Answered.{Answered}
-use Rattle.kak_engine.specs.Doing.{Moment, Place, do_within, Do}
+use Rattle.kak_engine.specs.Doing.{Moment, Place, depth_of, do_within, Do}
 use Rattle.kak_engine.specs.Steps.{after_event, after_key}
 
--- with a bound above the units that are left, a row is done as deep as it goes: only want of units gives a step up
+-- with a bound above how deep it may nest, a row is done as deep as it goes: only want of units gives a step up
 abbrev pub BoundEndsNoStep : Type 0
-BoundEndsNoStep = (n who : ℕ) (p : Place) (row : Row) (m : Moment) → units_of m.world < n → do_within n who p row m ≡ Do who p row m
+BoundEndsNoStep = (n who : ℕ) (p : Place) (row : Row) (m : Moment) → depth_of row m.world < n → do_within n who p row m ≡ Do who p row m
 
 -- no key makes a client come or go, its own or another one
 abbrev pub KeysKeepClients : Type 0

@@ -1,5 +1,5 @@
 -- What the code of a step answers, as the definitions have it.
-use Rattle.std.specs.Prelude.{◌≡◌, true, List, Ok, Err}
+use Rattle.std.specs.Prelude.{◌≡◌, ℕ, true, List, ◌++◌, Ok, Err}
 use Rattle.std.specs.declared.result.Result.{Result}
 use Rattle.std.specs.declared.alloc.AllocError.{AllocError}
 use Rattle.kak_world.specs.declared.ask.EditError.{EditError}
@@ -9,7 +9,8 @@ use Rattle.kak_world.specs.Flat.{Flat}
 use Rattle.session_events.specs.declared.event.Answered.{Answered}
 use Rattle.kak_engine.specs.declared.doing.Ending.{Ending}
 use Rattle.kak_engine.specs.declared.doing.Ending.TheVariants as code
-use Rattle.kak_engine.specs.Doing.{End, Fine, Failed, GivenUp, Moment, Part, Place, budget_spent}
+use Rattle.kak_engine.specs.Doing.{End, Fine, Failed, GivenUp, Moment, Part, budget_spent}
+use Rattle.kak_engine.specs.Honesty.{Stood, IsHonest}
 
 -- how something ended
 abbrev pub end_seen : Ending → End
@@ -22,16 +23,28 @@ abbrev pub end_of : EditError → End
 end_of BudgetSpent = GivenUp budget_spent
 end_of error = Failed (error_text error)
 
--- a moment of a step that asks the outside for nothing
+-- a moment of a step whose answers so far were of the kind that was asked for
 abbrev pub moment_of : List Answered → Flat → Moment
 moment_of answers flat = record { world = flat; answers = answers; fit = true }
 
--- unless memory was wanting, the part leads from the old world to the new one, and ends as was answered
-abbrev pub Ends : Result Ending AllocError → Part → Flat → Flat → Type 0
-Ends (Err e) part old new = Unit {0}
-Ends (Ok ending) part old new =
-    (answers : List Answered) → part (moment_of answers old) ≡ record { moment = moment_of answers new; end = end_seen ending }
+-- a step under way: the world, what the outside answered so far, and how often the maker of patterns has refused
+pub record UnderWay : Type 0 where
+  pub world : Flat
+  pub had : List Answered
+  pub refusals : ℕ
 
--- the place where a step begins
-abbrev pub top : Place
-top = record { depth = 0 }
+abbrev pub under_way : Flat → List Answered → ℕ → UnderWay
+under_way world had refusals = record { world = world; had = had; refusals = refusals }
+
+-- A part was done: the outside answered what it was asked for and nothing else, whatever answers are still to come, and
+-- told of a refusal only where the maker had refused.
+pub record Does (part : Part) (old new : UnderWay) (end : End) : Type 0 where
+  pub used : List Answered
+  pub kept : new.had ≡ old.had ++ used
+  pub leads : (later : List Answered) → part (moment_of (used ++ later) old.world) ≡ record { moment = moment_of later new.world; end = end }
+  pub honest : IsHonest used old.refusals new.refusals
+
+-- unless memory was wanting, the part was done and ended as was answered; the count of refusals never falls
+abbrev pub Ends : Result Ending AllocError → Part → UnderWay → UnderWay → Type 0
+Ends (Err e) part old new = Stood old.refusals new.refusals
+Ends (Ok ending) part old new = Does part old new (end_seen ending)

@@ -1,5 +1,5 @@
 -- The steps of a session: what each entry of its history does to the world, and what it gives its client.
-use Rattle.std.specs.Prelude.{ℕ, Bool, true, false, not, ◌&&◌, ◌==◌, nat_le, if◌then◌else◌, List, [], ◌∷◌, length, None, Some}
+use Rattle.std.specs.Prelude.{◌≡◌, ℕ, Bool, true, false, not, ◌&&◌, ◌==◌, nat_le, if◌then◌else◌, List, [], ◌∷◌, length, None, Some, ⊤}
 use Rattle.std.specs.List.{list_any}
 use Rattle.key_names.specs.declared.key.Key.{Key}
 use Rattle.kak_world.specs.declared.own.Mode.{Mode}
@@ -15,7 +15,7 @@ use Rattle.session_events.specs.declared.event.Answered.{Answered}
 use Rattle.session_events.specs.declared.event.Entry.{Entry}
 use Rattle.session_events.specs.declared.event.Output.{Output}
 use Rattle.session_events.specs.Entries.{is_join}
-use Rattle.kak_engine.specs.Doing.{End, Fine, Failed, GivenUp, Moment, Outcome, strike}
+use Rattle.kak_engine.specs.Doing.{End, Fine, Failed, GivenUp, Moment, Outcome, strike, top}
 
 -- a client is told why its key was refused
 abbrev pub refused : ℕ → List ℕ → Flat → Flat
@@ -48,10 +48,14 @@ group_ended who flat = ends_group (mode_of who flat) who flat
 abbrev pub ended : ℕ → Outcome → Flat
 ended who o = with_units 0 (group_ended who (told who o.end o.moment.world))
 
+-- the run of a key that its client's step began
+abbrev pub struck : ℕ → Key → List Answered → Flat → Outcome
+struck who key answers flat = strike who top key (first_moment who flat answers)
+
 -- the world after a key; once a client was granted to leave, its keys do nothing
 unfoldable pub after_key : ℕ → Key → List Answered → Flat → Flat
 after_key who key answers flat =
-    if is_leaving who flat then flat else ended who (strike who (record { depth = 0 }) key (first_moment who flat answers))
+    if is_leaving who flat then flat else ended who (struck who key answers flat)
 
 -- a client was drawn
 abbrev pub noted_drawn : ℕ → Flat → Flat
@@ -93,6 +97,29 @@ has_joined who history = list_any (is_join_of who) history
 -- whether no further client may join
 abbrev pub is_full : Flat → Bool
 is_full flat = nat_le MAX_CLIENTS (length flat.clients)
+
+-- What the outside answered is what it was asked for: no answer is left, and each was of the kind that was asked for.
+pub record AreUsed (m : Moment) : Type 0 where
+  pub all : m.answers ≡ []
+  pub fit : m.fit ≡ true
+
+-- the same of a key, by whether its client was granted to leave, whose keys ask for nothing
+abbrev pub AreAskedByKey : Bool → ℕ → Key → List Answered → Flat → Type 0
+AreAskedByKey true who key answers flat = answers ≡ []
+AreAskedByKey false who key answers flat = AreUsed (struck who key answers flat).moment
+
+-- the same of an event; nothing but a key asks the outside for anything
+abbrev pub AreAskedFor : ℕ → Event → List Answered → Flat → Type 0
+AreAskedFor who (Struck key) answers flat = AreAskedByKey (is_leaving who flat) who key answers flat
+AreAskedFor who _ answers flat = answers ≡ []
+
+-- the same of each entry of a history, on the world that the entries before it lead to
+abbrev pub AllAskedFrom : Flat → List Entry → Type 0
+AllAskedFrom flat [] = ⊤
+AllAskedFrom flat (entry ∷ entries) = AreAskedFor entry.who entry.event entry.answers flat × AllAskedFrom (after_entry entry flat) entries
+
+abbrev pub AllAsked : List Entry → Type 0
+AllAsked history = AllAskedFrom opening history
 
 -- what an entry gives its client, behind the entries before it
 abbrev pub given_by : List Entry → Entry → Output

@@ -5,10 +5,11 @@ ghost use Rattle.std.specs.Prelude.{◌≡◌, ◌<◌, ◌≤◌, ◌^◌, [], 
 ghost use Rattle.kak_world.specs.Flat.{is_here, is_joined, is_leaving};
 ghost use Rattle.kak_world.specs.Settled.{AllListsSettled};
 ghost use Rattle.kak_world.specs.declared.world.TheConstants.{MAX_CLIENTS};
-ghost use Rattle.kak_engine.specs.Steps.{after_key, after_event, output_of, has_joined, run, begun, told, refused, group_ended, noted_drawn};
+ghost use Rattle.kak_engine.specs.Steps.{after_key, after_event, output_of, has_joined, run, begun, told, refused, group_ended, noted_drawn, AreAskedFor, AllAsked};
 ghost use Rattle.kak_engine.specs.Seen.{end_seen};
-ghost use Rattle.kak_engine.specs.Held.{refusal_of, refused_by, marked_after, marked_by, CanRun};
-ghost use Rattle.session_events.specs.declared.event.Event.TheVariants.{Leave};
+ghost use Rattle.kak_engine.specs.Honesty.{Stood, IsHonest};
+ghost use Rattle.kak_engine.specs.Held.{refusal_of, refused_by, marked_after, marked_by, CanRun, Takes};
+ghost use Rattle.session_events.specs.declared.event.Event.TheVariants.{Leave, Key as Struck};
 ghost use Rattle.session_events.specs.declared.fault.StepFault.TheVariants.{NoMemory};
 ghost use Rattle.session_events.specs.Entries.{entry_of, is_join, is_leave};
 ghost use Rattle.session_events.specs.Legal.{IsLegal};
@@ -20,26 +21,35 @@ use json_writing::Drawing;
 use kak_text::Chars;
 use kak_world::{MAX_CLIENTS, Mode, Status, World};
 use key_names::Key;
+use regex_ports::PatternMaker;
 use session_events::{Answers, Entry, Event, Output, StepFault, is_join, is_leave};
 use std::alloc::{AllocError, Global};
 use std::marker::Model;
 
-/// The engine. Contracts see its history, its mark and its limit; the world follows from the history.
+/// No engine could be made, since memory was wanting; its maker of patterns is given back.
 #[derive(Drop, Debug)]
-pub struct Engine {
+pub struct NoEngine<M> {
+    pub patterns: M,
+}
+
+/// The engine. Contracts see its history, its mark, its limit and how often its maker of patterns has refused; the world
+/// follows from the history.
+#[derive(Drop, Debug)]
+pub struct Engine<M: PatternMaker> {
     world: World,
+    patterns: M,
     history: Vec<Entry>,
     limit: u64,
     mark: Option<u64>,
 }
 
-impl Model for Engine {
+impl<M: PatternMaker> Model for Engine<M> {
     ghost use Rattle.std.specs.Prelude.{vec_len, vec_capacity};
     ghost use Rattle.kak_engine.specs.Held.{Held, Stands, KeepsPlaces};
 
     ghost Value = { Held };
 
-    ghost view = { λ e. record { history = e.history.items; mark = e.mark; limit = e.limit } };
+    ghost view = { λ e. record { history = e.history.items; mark = e.mark; limit = e.limit; refusals = M.refusals e.patterns } };
 
     ghost invariant = { λ e. Stands e.world.flat e.history.items e.mark e.limit × KeepsPlaces e.mark e.world.flat (vec_len e.history) (vec_capacity e.history) };
 }
@@ -91,13 +101,24 @@ fn begin(world: &mut World, who: u32)
 }
 
 // Runs a key of a client that wasn't granted to leave.
-fn run_struck(alloc: Global, world: &mut World, who: u32, key: Key) -> Result<(), AllocError>
+fn run_struck<M: PatternMaker>(
+    alloc: Global,
+    world: &mut World,
+    maker: &mut M,
+    answers: &mut Answers,
+    who: u32,
+    key: Key,
+) -> Result<(), AllocError>
     requires joined { is_joined who world.old.flat ≡ true }
     requires stays { is_leaving who world.old.flat ≡ false }
-    ensures { OnOk result (world.new.flat ≡ after_key who key [] world.old.flat) }
+    requires fresh { answers.old ≡ [] }
+    ensures leads { OnOk result (world.new.flat ≡ after_key who key answers.new world.old.flat) }
+    ensures asked { OnOk result (AreAskedFor who (Struck key) answers.new world.old.flat) }
+    ensures honest { OnOk result (IsHonest answers.new (M.refusals maker.old) (M.refusals maker.new)) }
+    ensures err { OnErr result (Stood (M.refusals maker.old) (M.refusals maker.new)) }
 {
     begin(world, who);
-    let ending = strike(alloc, world, who, key)?;
+    let ending = strike(alloc, world, maker, answers, who, key)?;
     tell(alloc, world, who, ending)?;
     end_group(world, who);
     world.set_units(0);
@@ -105,16 +126,27 @@ fn run_struck(alloc: Global, world: &mut World, who: u32, key: Key) -> Result<()
 }
 
 // Runs a key of a client, and tells whether it was granted to leave by it. Once it was, its keys do nothing.
-fn run_key(alloc: Global, world: &mut World, who: u32, key: Key) -> Result<bool, AllocError>
-    requires { is_joined who world.old.flat ≡ true }
-    ensures does { OnOk result (world.new.flat ≡ after_key who key [] world.old.flat) }
-    ensures leaving { IfOk result (λ leaving. leaving ≡ (is_leaving who (after_key who key [] world.old.flat) && not (is_leaving who world.old.flat))) }
+fn run_key<M: PatternMaker>(
+    alloc: Global,
+    world: &mut World,
+    maker: &mut M,
+    answers: &mut Answers,
+    who: u32,
+    key: Key,
+) -> Result<bool, AllocError>
+    requires joined { is_joined who world.old.flat ≡ true }
+    requires fresh { answers.old ≡ [] }
+    ensures leads { OnOk result (world.new.flat ≡ after_key who key answers.new world.old.flat) }
+    ensures leaving { IfOk result (λ leaving. leaving ≡ (is_leaving who (after_key who key answers.new world.old.flat) && not (is_leaving who world.old.flat))) }
+    ensures asked { OnOk result (AreAskedFor who (Struck key) answers.new world.old.flat) }
+    ensures honest { OnOk result (IsHonest answers.new (M.refusals maker.old) (M.refusals maker.new)) }
+    ensures err { OnErr result (Stood (M.refusals maker.old) (M.refusals maker.new)) }
 {
     let own = world.own(who);
     if own.leaving {
         return Ok(false);
     }
-    run_struck(alloc, world, who, key)?;
+    run_struck(alloc, world, maker, answers, who, key)?;
     let own = world.own(who);
     Ok(own.leaving)
 }
@@ -131,12 +163,23 @@ fn redraw(alloc: Global, world: &mut World, who: u32) -> Result<Drawing, AllocEr
     Ok(drawing)
 }
 
-// Runs an event that is not refused. A client that comes has joined then.
-fn run_event(alloc: Global, world: &mut World, who: u32, event: Event) -> Result<Output, AllocError>
-    requires { CanRun event who world.old.flat }
-    ensures gives { IfOk result (λ output. output ≡ output_of who event [] world.old.flat) }
-    ensures leads { OnOk result (world.new.flat ≡ after_event who event [] world.old.flat) }
+// Runs an event that is not refused. What the outside answers is added to the answers. A client that comes has joined then.
+fn run_event<M: PatternMaker>(
+    alloc: Global,
+    world: &mut World,
+    maker: &mut M,
+    answers: &mut Answers,
+    who: u32,
+    event: Event,
+) -> Result<Output, AllocError>
+    requires runs { CanRun event who world.old.flat }
+    requires fresh { answers.old ≡ [] }
+    ensures gives { IfOk result (λ output. output ≡ output_of who event answers.new world.old.flat) }
+    ensures leads { OnOk result (world.new.flat ≡ after_event who event answers.new world.old.flat) }
+    ensures asked { OnOk result (AreAskedFor who event answers.new world.old.flat) }
+    ensures honest { OnOk result (IsHonest answers.new (M.refusals maker.old) (M.refusals maker.new)) }
     ensures joined { OnOk result (is_join event ≡ true → is_joined who world.new.flat ≡ true) }
+    ensures err { OnErr result (Stood (M.refusals maker.old) (M.refusals maker.new)) }
 {
     match event {
         Event::Join => {
@@ -145,7 +188,7 @@ fn run_event(alloc: Global, world: &mut World, who: u32, event: Event) -> Result
         }
         Event::Key(key) => Ok(Output {
             drawing: None,
-            leaving: run_key(alloc, world, who, key)?,
+            leaving: run_key(alloc, world, maker, answers, who, key)?,
         }),
         Event::Refresh(_) => Ok(Output {
             drawing: Some(redraw(alloc, world, who)?),
@@ -210,52 +253,72 @@ fn keep_leaving(alloc: Global, world: &mut World, history: &mut Vec<Entry>, who:
     Output::nothing()
 }
 
-// Runs an event that is not refused, and adds its entry. A place is kept for the going of each client that is here then.
-fn keep(
+// Runs an event that is not refused. Places are kept for its entry, and for the going of each client that is here then.
+fn run_with_places<M: PatternMaker>(
     alloc: Global,
     world: &mut World,
+    maker: &mut M,
+    answers: &mut Answers,
     history: &mut Vec<Entry>,
     who: u32,
     event: Event,
 ) -> Result<Output, AllocError>
     requires runs { CanRun event who world.old.flat }
-    requires stays { is_leave event ≡ false }
+    requires fresh { answers.old ≡ [] }
     requires few { length world.old.flat.clients ≤ MAX_CLIENTS }
-    ensures gives { IfOk result (λ output. output ≡ output_of who event [] world.old.flat) }
-    ensures leads { OnOk result (world.new.flat ≡ after_event who event [] world.old.flat) }
-    ensures keeps { OnOk result (history.new.items ≡ history.old.items ++ entry_of who event ∷ []) }
+    ensures gives { IfOk result (λ output. output ≡ output_of who event answers.new world.old.flat) }
+    ensures leads { OnOk result (world.new.flat ≡ after_event who event answers.new world.old.flat) }
+    ensures asked { OnOk result (AreAskedFor who event answers.new world.old.flat) }
+    ensures honest { OnOk result (IsHonest answers.new (M.refusals maker.old) (M.refusals maker.new)) }
     ensures joined { OnOk result (is_join event ≡ true → is_joined who world.new.flat ≡ true) }
-    ensures places { OnOk result (vec_len history.new + length world.new.flat.clients ≤ vec_capacity history.new) }
-    ensures err { OnErr result (history.new.items ≡ history.old.items) }
+    ensures places { OnOk result (vec_len history.new + 1 + length world.new.flat.clients ≤ vec_capacity history.new) }
+    ensures same { history.new.items ≡ history.old.items }
+    ensures err { OnErr result (Stood (M.refusals maker.old) (M.refusals maker.new)) }
 {
-    let output = run_event(alloc, world, who, event)?;
+    let output = run_event(alloc, world, maker, answers, who, event)?;
     history.reserve(1 + world.client_count())?;
-    history.push_reserved(Entry {
-        who,
-        event,
-        answers: Answers::none(alloc),
-    });
     Ok(output)
 }
 
-impl Engine {
-    /// An engine with an empty history, which may have so many entries (leaving aside).
-    pub fn new(alloc: Global, limit: u64) -> Result<Engine, AllocError>
-        ensures { IfOk result (λ e. e ≡ record { history = []; mark = None; limit = limit }) }
+impl<M: PatternMaker> Engine<M> {
+    /// An engine with an empty history, which may have so many entries (leaving aside), and with a maker of patterns.
+    pub fn new(alloc: Global, patterns: M, limit: u64) -> Result<Engine<M>, NoEngine<M>>
+        ensures new { IfOk result (λ e. e ≡ record { history = []; mark = None; limit = limit; refusals = M.refusals patterns }) }
+        ensures none { IfErr result (λ none. none.patterns ≡ patterns) }
     {
-        Ok(Engine {
-            world: World::new(alloc)?,
-            history: Vec::new(alloc),
-            limit,
-            mark: None,
-        })
+        match World::new(alloc) {
+            Ok(world) => Ok(Engine {
+                world,
+                patterns,
+                history: Vec::new(alloc),
+                limit,
+                mark: None,
+            }),
+            Err(_) => Err(NoEngine { patterns }),
+        }
+    }
+
+    /// The maker of patterns.
+    pub fn into_patterns(self) -> M
+        ensures refusals { M.refusals result ≡ self.refusals }
+        ensures asked { AllAsked self.history }
+    {
+        let Engine {
+            world: _,
+            patterns,
+            history: _,
+            limit: _,
+            mark: _,
+        } = self;
+        patterns
     }
 
     /// The entries, in order. Each client comes first and once, and makes nothing behind its going; behind as many entries
-    /// as there may be, there are leavings alone.
+    /// as there may be, there are leavings alone. In each the outside answered what it was asked for.
     pub fn history(&self) -> &[Entry]
         ensures value { result.now ≡ self.now.history }
         ensures legal { IsLegal self.now.limit self.now.history }
+        ensures asked { AllAsked self.now.history }
     {
         self.history.as_slice()
     }
@@ -290,18 +353,36 @@ impl Engine {
     // Runs an event that is not refused, and keeps its entry. It can't fail where a client leaves.
     fn run_and_keep(&mut self, alloc: Global, who: u32, event: Event) -> Result<Output, AllocError>
         requires allowed { refusal_of self.old who event ≡ None }
-        ensures gives { IfOk result (λ output. output ≡ output_of who event [] (run self.old.history)) }
-        ensures keeps { OnOk result (self.new ≡ record { history = self.old.history ++ entry_of who event ∷ []; mark = self.old.mark; limit = self.old.limit }) }
+        ensures takes { IfOk result (λ output. Takes who event self.old self.new output) }
+        ensures marked { OnOk result (self.new.mark ≡ self.old.mark) }
         ensures joined { OnOk result (is_leave event ≡ false → is_joined who (run self.new.history) ≡ true) }
-        ensures err { OnErr result (self.new ≡ record { history = self.old.history; mark = marked_by self.old.mark (length self.old.history); limit = self.old.limit }) }
+        ensures err { OnErr result ((self.new.history ≡ self.old.history) × (self.new.mark ≡ marked_by self.old.mark (length self.old.history)) × Stood self.old.refusals self.new.refusals) }
         ensures leaves { is_leave event ≡ true → IsOk result }
+        ensures limit { self.new.limit ≡ self.old.limit }
         ensures legal { IsLegal self.new.limit self.new.history }
     {
         if is_leave(event) {
             return Ok(keep_leaving(alloc, &mut self.world, &mut self.history, who));
         }
-        match keep(alloc, &mut self.world, &mut self.history, who, event) {
-            Ok(output) => Ok(output),
+        let mut answers = Answers::none(alloc);
+        let ran = run_with_places(
+            alloc,
+            &mut self.world,
+            &mut self.patterns,
+            &mut answers,
+            &mut self.history,
+            who,
+            event,
+        );
+        match ran {
+            Ok(output) => {
+                self.history.push_reserved(Entry {
+                    who,
+                    event,
+                    answers,
+                });
+                Ok(output)
+            }
             Err(error) => {
                 self.mark = Some(self.history.len() as u64);
                 Err(error)
@@ -309,17 +390,16 @@ impl Engine {
         }
     }
 
-    /// Takes one event of a client. On Ok it stands as the last entry of the history, and the output is what the event
-    /// gives on the world that the history led to; unless it left, the client is joined. Refusals are tested in the order
-    /// `Broken`, `NoClient`, `Joined`, `HistoryFull`, `Full`; they change nothing. `NoMemory` adds no entry, and breaks the
-    /// engine; a client's going never wants memory.
+    /// Takes one event of a client. On Ok it stands as the last entry of the history, with what the outside answered, and the
+    /// output is what it gives on the world that the history led to; unless it left, the client is joined. Refusals are tested
+    /// in the order `Broken`, `NoClient`, `Joined`, `HistoryFull`, `Full`; they change nothing. `NoMemory` adds no entry, and
+    /// breaks the engine; a client's going never wants memory.
     pub fn step(&mut self, alloc: Global, who: u32, event: Event) -> Result<Output, StepFault>
-        ensures refused { IfSome (refusal_of self.old who event) (λ fault. result ≡ Err fault) }
+        ensures refused { IfSome (refusal_of self.old who event) (λ fault. (result ≡ Err fault) × (self.new.refusals ≡ self.old.refusals)) }
         ensures answered { refusal_of self.old who event ≡ None → IfErr result (λ fault. (fault ≡ NoMemory) × (is_leave event ≡ false)) }
-        ensures gives { IfOk result (λ output. output ≡ output_of who event [] (run self.old.history)) }
-        ensures keeps { OnOk result (self.new.history ≡ self.old.history ++ entry_of who event ∷ []) }
+        ensures takes { IfOk result (λ output. Takes who event self.old self.new output) }
         ensures joined { OnOk result (is_leave event ≡ false → is_joined who (run self.new.history) ≡ true) }
-        ensures err { OnErr result (self.new.history ≡ self.old.history) }
+        ensures err { OnErr result ((self.new.history ≡ self.old.history) × Stood self.old.refusals self.new.refusals) }
         ensures mark { self.new.mark ≡ marked_after result self.old }
         ensures limit { self.new.limit ≡ self.old.limit }
         ensures legal { IsLegal self.new.limit self.new.history }

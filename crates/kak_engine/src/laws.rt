@@ -1,7 +1,9 @@
 //! The laws of the definitions: each is the contract of a function that does nothing.
+ghost use Rattle.kak_engine.specs.Examples.{Examples};
 ghost use Rattle.kak_engine.specs.Laws.{BoundEndsNoStep, KeysKeepClients, OthersStay};
 
-/// The bound on nesting ends no step by itself: with a bound above the units that are left, more of it makes no difference.
+/// The bound on nesting ends no step by itself: with a bound above how deep a row may
+/// nest by its units and stages, more of it makes no difference.
 pub fn bound_ends_no_step()
     ensures { BoundEndsNoStep }
 {}
@@ -14,4 +16,9 @@ pub fn keys_keep_clients()
 /// No event of a client makes another one come or go.
 pub fn others_stay()
     ensures { OthersStay }
+{}
+
+/// Worked examples of rows that ask for a pattern.
+pub fn worked_examples()
+    ensures { Examples }
 {}

@@ -6,7 +6,7 @@ pub mod engine;
 pub mod laws;
 pub mod seat;
 
-pub use engine::Engine;
+pub use engine::{Engine, NoEngine};
 pub use seat::LoneSeat;
 
 #[cfg(test)]

@@ -61,7 +61,7 @@ pub record ComingExamples : Type 0 where
   pub others_are_not_there : is_joined 9 one_client ≡ false
   pub sees_the_scratch_buffer : name_of 7 one_client ≡ codes "*scratch*"
   pub begins_at_the_first_character : sels_of 7 one_client ≡ at 0
-  pub tab_stops_at_each_eighth : tabstop_of 7 one_client ≡ 8
+  pub tab_stops_at_each_eighth : tabstop_of one_client ≡ 8
   pub names_of_two : numbers_of two_clients.clients ≡ 0 ∷ 1 ∷ []
   pub second_stays : is_joined 9 (left_by 7 two_clients) ≡ true
   pub first_is_gone : is_joined 7 (left_by 7 two_clients) ≡ false

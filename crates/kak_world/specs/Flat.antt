@@ -17,6 +17,8 @@ use Rattle.kak_world.specs.declared.own.Mode.TheVariants.{Normal}
 use Rattle.kak_world.specs.declared.own.Status.{Status}
 use Rattle.kak_world.specs.declared.own.Status.TheVariants.{Quiet}
 use Rattle.kak_world.specs.declared.own.Own.{Own}
+use Rattle.kak_world.specs.declared.purpose.Purpose.{Purpose}
+use Rattle.kak_world.specs.declared.purpose.Purpose.TheVariants.{Commands}
 use Rattle.kak_world.specs.declared.clients.Client.{Client}
 use Rattle.kak_world.specs.declared.world.Rest.{Rest}
 
@@ -64,7 +66,7 @@ scratch = made (codes "*scratch*") false (10 ∷ [])
 
 -- what a client that has just come has of its own
 abbrev pub first_own : Own
-first_own = record { mode = Normal; count = 0; register = None; pending = None; status = Quiet; appending = false; prompt = empty; leaving = false; drawn = false }
+first_own = record { mode = Normal; count = 0; register = None; pending = None; status = Quiet; appending = false; purpose = Commands; prompt = empty; leaving = false; drawn = false }
 
 -- a client that has just come: its number in the history, the number in its name, and that of the buffer that it sees
 abbrev pub newcomer : ℕ → ℕ → ℕ → Client
@@ -207,8 +209,8 @@ unfoldable pub view_of : ℕ → Flat → View
 view_of who flat = (list_of who flat).view
 
 -- how many cells lie between tab stops where a client looks: as many as everywhere
-unfoldable pub tabstop_of : ℕ → Flat → ℕ
-tabstop_of who flat = flat.rest.tabstop
+unfoldable pub tabstop_of : Flat → ℕ
+tabstop_of flat = flat.rest.tabstop
 
 -- how many keys and commands the step may still run
 unfoldable pub units_of : Flat → ℕ
@@ -235,6 +237,10 @@ status_of who flat = (own_of who flat).status
 
 abbrev pub is_appending : ℕ → Flat → Bool
 is_appending who flat = (own_of who flat).appending
+
+-- what the line of its prompt is taken as
+abbrev pub purpose_of : ℕ → Flat → Purpose
+purpose_of who flat = (own_of who flat).purpose
 
 -- the line of its prompt, with the cursor there
 abbrev pub prompt_of : ℕ → Flat → Halves

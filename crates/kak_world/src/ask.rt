@@ -4,6 +4,7 @@ ghost use Rattle.std.specs.Prelude.{◌≡◌, ◌++◌, ◌∷◌, [], chars, I
 ghost use Rattle.kak_world.specs.declared.ask.EditError.TheVariants.{NoMemory};
 ghost use Rattle.kak_world.specs.Refusals.{of_edit, of_move, of_register};
 
+use crate::purpose::PatternUse;
 use buffer_store::{BufferError, MoveError};
 use kak_registers::RegisterError;
 use kak_text::Chars;
@@ -16,6 +17,8 @@ pub enum Ask {
     Nothing,
     /// Run a text as commands.
     Commands(Chars),
+    /// Make a pattern, and go on with it.
+    Make(PatternUse),
     /// Let the client leave.
     Leave,
 }
@@ -43,6 +46,8 @@ pub enum EditError {
     SharedLine,
     /// There is no such command.
     NoSuchCommand(Chars),
+    /// The text of a pattern is none, or that of one that is too big.
+    BadPattern,
     /// No selection would be left.
     NothingSelected,
     /// There would be more selections than there may be.
@@ -122,6 +127,7 @@ impl EditError {
             EditError::NothingToUndo => Chars::from_str(alloc, "nothing to undo"),
             EditError::NothingToRedo => Chars::from_str(alloc, "nothing to redo"),
             EditError::NoSuchNode => Chars::from_str(alloc, "no such undo node"),
+            EditError::BadPattern => Chars::from_str(alloc, "bad pattern"),
             EditError::NothingSelected => Chars::from_str(alloc, "nothing selected"),
             EditError::TooManySelections => Chars::from_str(alloc, "too many selections"),
             EditError::BudgetSpent => Chars::from_str(alloc, "given up: budget spent"),

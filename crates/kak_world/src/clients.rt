@@ -10,6 +10,7 @@ ghost use Rattle.kak_world.specs.Showing.{seeing};
 ghost use Rattle.kak_world.specs.Dropping.{moved_on};
 
 use crate::own::{Mode, Own, Status};
+use crate::purpose::Purpose;
 use edit_line::EditLine;
 use std::alloc::{AllocError, Global};
 use std::marker::Model;
@@ -167,6 +168,7 @@ impl Clients {
                 pending: None,
                 status: Status::Quiet,
                 appending: false,
+                purpose: Purpose::Commands,
                 prompt: EditLine::new(alloc),
                 leaving: false,
                 drawn: false,

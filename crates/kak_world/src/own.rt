@@ -1,5 +1,6 @@
 //! What is a client's own: all that no change of a text reads or changes.
 
+use crate::purpose::Purpose;
 use edit_line::EditLine;
 use kak_text::Chars;
 use key_names::Key;
@@ -36,6 +37,8 @@ pub struct Own {
     pub status: Status,
     /// Whether insert mode was entered behind the selections, so that leaving it takes their cursors back.
     pub appending: bool,
+    /// What the line of the prompt is taken as.
+    pub purpose: Purpose,
     /// What was typed into the prompt, with the cursor there.
     pub prompt: EditLine,
     /// Whether the client was granted to leave.

@@ -100,8 +100,8 @@ impl World {
 
     /// How many cells lie between tab stops where a client looks.
     #[tactic(auto, unfolding(crate::specs::Flat::tabstop_of))]
-    pub fn tabstop(&self, who: u32) -> u32
-        ensures value { result ≡ tabstop_of who self.now.flat }
+    pub fn tabstop(&self) -> u32
+        ensures value { result ≡ tabstop_of self.now.flat }
         ensures some { 1 ≤ result }
         ensures few { result ≤ MAX_TABSTOP }
     {

@@ -3,6 +3,7 @@ pub mod ListLemmas
 pub mod EachLemmas
 pub mod ObjectLemmas
 pub mod ShapeLemmas
+pub mod PatternLemmas
 pub mod PlaceLemmas
 pub mod BackLemmas
 pub mod LeavingLemmas

@@ -52,7 +52,7 @@ indentwidth = 4
 
 -- the lines that the selections touch are indented, or less so; the list is mapped
 abbrev pub indent_row : Indent → ℕ → Flat → RowEnd
-indent_row how who flat = edit_row (indents (text_of who flat) how indentwidth (tabstop_of who flat) (sels_of who flat).list) who flat
+indent_row how who flat = edit_row (indents (text_of who flat) how indentwidth (tabstop_of flat) (sels_of who flat).list) who flat
 
 -- the lines that the selections touch are joined; the list is mapped
 abbrev pub join_row : ℕ → Flat → RowEnd
@@ -62,7 +62,7 @@ join_row who flat = edit_row (joins (text_of who flat) (sels_of who flat).list) 
 abbrev pub align_row : ℕ → Flat → RowEnd
 align_row who flat =
     if shares_line (text_of who flat) (sels_of who flat).list then fails SharedLine flat
-    else edit_row (alignments (text_of who flat) (tabstop_of who flat) (sels_of who flat).list) who flat
+    else edit_row (alignments (text_of who flat) (tabstop_of flat) (sels_of who flat).list) who flat
 
 -- a character takes the place of each one in the selections
 abbrev pub fill_row : ℕ → ℕ → Flat → RowEnd

@@ -2,6 +2,7 @@ pub mod Sequence
 pub mod Each
 pub mod Naming
 pub mod Reading
+pub mod Patterns
 pub mod Edits
 pub mod Entering
 pub mod Handing

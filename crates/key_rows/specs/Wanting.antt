@@ -54,9 +54,9 @@ splices_of edit.Erase register who flat = erasures Selection (sels_of who flat).
 splices_of edit.Keep register who flat = []
 splices_of edit.Replace register who flat = puts_read Over (strings_read (used register) who flat) who flat
 splices_of (edit.Rotate way) register who flat = rotations (text_of who flat) way (sels_of who flat).list
-splices_of (edit.Indent how) register who flat = indents (text_of who flat) how indentwidth (tabstop_of who flat) (sels_of who flat).list
+splices_of (edit.Indent how) register who flat = indents (text_of who flat) how indentwidth (tabstop_of flat) (sels_of who flat).list
 splices_of edit.Join register who flat = joins (text_of who flat) (sels_of who flat).list
-splices_of edit.Align register who flat = alignments (text_of who flat) (tabstop_of who flat) (sels_of who flat).list
+splices_of edit.Align register who flat = alignments (text_of who flat) (tabstop_of flat) (sels_of who flat).list
 
 -- an edit came part of the way
 abbrev pub IsPartOfEdit : Edit → Option ℕ → ℕ → Flat → Flat → Type 0

@@ -97,7 +97,7 @@ fn indent(alloc: Global, world: &mut World, who: u32, how: Indent) -> Result<(),
         world.sels(who),
         how,
         indentwidth(),
-        world.tabstop(who),
+        world.tabstop(),
     )?;
     world.edit(alloc, who, splices.as_slice())?;
     Ok(())
@@ -121,7 +121,7 @@ fn alignment(alloc: Global, world: &World, who: u32) -> Result<Vec<Splice>, Edit
     ensures refused { IfErr result (λ error. IsUnaligned error who world.now.flat) }
 {
     let lines = world.lines(who);
-    match edit_ops::align(alloc, lines, world.sels(who), world.tabstop(who)) {
+    match edit_ops::align(alloc, lines, world.sels(who), world.tabstop()) {
         Ok(splices) => Ok(splices),
         Err(AlignError::SameLine) => Err(EditError::SharedLine),
         Err(AlignError::TooLong) => {

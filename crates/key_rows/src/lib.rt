@@ -7,6 +7,7 @@ pub mod entries;
 pub mod laws;
 pub mod leaving;
 pub mod naming;
+pub mod patterns;
 pub mod reading;
 pub mod shapes;
 
@@ -15,5 +16,6 @@ pub use edits::{Edit, edit_texts, fill, put};
 pub use entries::{Entry, enter_insert};
 pub use leaving::edit_leaving;
 pub use naming::register_named;
+pub use patterns::{Bounds, ask_for_last, remember_main};
 pub use reading::{keep, register_puts, register_text, string_of};
 pub use shapes::Shape;

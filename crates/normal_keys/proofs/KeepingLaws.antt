@@ -18,7 +18,7 @@ use Rattle.kak_world.specs.declared.ask.EditError.TheVariants.{TooManySelections
 use Rattle.kak_world.specs.Flat.{Flat, text_of, sels_of, node_of, units_of, with_units, pending_of}
 use Rattle.kak_world.specs.Rows.{RowEnd, fails}
 use Rattle.kak_world.specs.Keeping.{KeepsClients}
-use Rattle.kak_world.proofs.KeepingLaws.{keeps_same, keeps_after, keeps_own, keeps_sels, keeps_units, keeps_travel_row}
+use Rattle.kak_world.proofs.KeepingLaws.{keeps_same, keeps_after, keeps_own, keeps_sels, keeps_units, keeps_travel_row, keeps_set_row}
 use Rattle.normal_keys.specs.declared.actions.Action.{Action}
 use Rattle.normal_keys.specs.declared.actions.Action.TheVariants as action
 use Rattle.normal_keys.specs.declared.actions.Repeated.{Repeated}
@@ -27,11 +27,11 @@ use Rattle.normal_keys.specs.declared.prefixes.Prefix.{Prefix}
 use Rattle.text_objects.specs.declared.kinds.Object.{Object}
 use Rattle.key_rows.specs.declared.each.Extent.{Extent}
 use Rattle.key_rows.specs.Each.{moved}
-use Rattle.key_rows.specs.Sequence.{then_row}
+use Rattle.key_rows.specs.Sequence.{then_row, after_unit}
 use Rattle.key_rows.specs.Naming.{register_named}
 use Rattle.key_rows.proofs.KeepingLaws.{KeepsIn, keeps_behind, keeps_leaving, keeps_put, keeps_edit, keeps_entry}
 use Rattle.normal_keys.specs.Actions.{action_of}
-use Rattle.normal_keys.specs.Running.{after_unit, further_runs, runs}
+use Rattle.normal_keys.specs.Running.{further_runs, runs}
 use Rattle.normal_keys.specs.Listing.{taken_if_any, taken}
 use Rattle.normal_keys.specs.Repeating.{node_below, node_row, once}
 use Rattle.normal_keys.specs.Rows.{prefix_of, cleared, waiting, go_to_line, acted, character_of, place_of, sought_character, sought_place, object_of, sought_object, filled, chosen_register, answered, row_pending, row_normal}
@@ -100,7 +100,10 @@ keeps-acted key (action.Edits edit) prefix who flat = keeps_edit edit prefix.reg
 keeps-acted key (action.SelectsObject extent) prefix who flat = keeps_own who _ flat
 keeps-acted key action.Fills prefix who flat = keeps_own who _ flat
 keeps-acted key (action.Inserts entry) prefix who flat = keeps_entry entry prefix.register who flat
-keeps-acted key action.Prompts prefix who flat = keeps_own who _ flat
+keeps-acted key (action.Prompts purpose) prefix who flat = keeps_own who _ flat
+keeps-acted key (action.StepsToMatch toward) prefix who flat = keeps_same flat
+keeps-acted key (action.AddsMatch toward) prefix who flat = keeps_same flat
+keeps-acted key (action.Remembers bounds) prefix who flat = keeps_set_row _ _ flat
 
 keeps-character : (search : Search) (reach : Reach) (count who : ℕ) (c : Option ℕ) → KeepsIn (sought_character search reach count who c)
 keeps-character search reach count who None flat = keeps_same flat

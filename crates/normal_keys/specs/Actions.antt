@@ -9,7 +9,7 @@ use Rattle.motion_keys.specs.declared.direction.Direction.{Direction}
 use Rattle.motion_keys.specs.declared.direction.Direction.TheVariants.{Forward, Backward}
 use Rattle.motion_keys.specs.declared.char_moves.Until.{Until}
 use Rattle.motion_keys.specs.declared.char_moves.Until.TheVariants.{On, Before}
-use Rattle.motion_keys.specs.declared.words.WordMove.TheVariants.{Next, End, Back}
+use Rattle.motion_keys.specs.declared.words.WordMove.TheVariants.{Next as NextWord, End, Back}
 use Rattle.motion_keys.specs.declared.words.WordKind.TheVariants.{Small, Big}
 use Rattle.motion_keys.specs.declared.landmarks.LinePart.TheVariants.{ToStart, ToEnd}
 use Rattle.motion_keys.specs.declared.finding.Motion.{Motion}
@@ -20,6 +20,11 @@ use Rattle.undo_model.specs.declared.travel.Travel.TheVariants.{Undo, Redo}
 use Rattle.list_keys.specs.declared.cuts.Cut.TheVariants as cut
 use Rattle.list_keys.specs.declared.parts.Split.TheVariants as split
 use Rattle.list_keys.specs.declared.changes.ListChange.TheVariants as list
+use Rattle.kak_world.specs.declared.purpose.Toward.TheVariants.{Next, Former}
+use Rattle.kak_world.specs.declared.purpose.Use.{Use}
+use Rattle.kak_world.specs.declared.purpose.Use.TheVariants as pattern
+use Rattle.kak_world.specs.declared.purpose.Purpose.TheVariants.{Commands, Pattern}
+use Rattle.key_rows.specs.declared.patterns.Bounds.TheVariants.{Anywhere, AtWordEnds}
 use Rattle.key_rows.specs.declared.shapes.Shape.TheVariants as shape
 use Rattle.edit_ops.specs.declared.kinds.Put.TheVariants.{Before as PutBefore, After as PutAfter}
 use Rattle.edit_ops.specs.declared.kinds.Side.TheVariants.{Below, Above}
@@ -49,6 +54,10 @@ moves motion reach = action.Repeats (repeated.Moves motion reach)
 abbrev pub seeks : Direction → Until → Reach → Action
 seeks direction until reach = action.Seeks (record { direction = direction; until = until }) reach
 
+-- a prompt for a pattern, of which a use is made
+abbrev pub asks : Use → Action
+asks wanted = action.Prompts (Pattern wanted)
+
 -- small letters; their capitals do the same and extend
 abbrev pub letters : Reach → List (ℕ × Action)
 letters reach =
@@ -56,7 +65,7 @@ letters reach =
     ∷ (code "j", moves (Line Forward) reach)
     ∷ (code "k", moves (Line Backward) reach)
     ∷ (code "l", moves (Step Forward) reach)
-    ∷ (code "w", moves (Word Next Small) reach)
+    ∷ (code "w", moves (Word NextWord Small) reach)
     ∷ (code "e", moves (Word End Small) reach)
     ∷ (code "b", moves (Word Back Small) reach)
     ∷ (code "f", seeks Forward On reach)
@@ -67,7 +76,7 @@ letters reach =
 -- small letters with alt; their capitals too
 abbrev pub alt_letters : Reach → List (ℕ × Action)
 alt_letters reach =
-    (code "w", moves (Word Next Big) reach)
+    (code "w", moves (Word NextWord Big) reach)
     ∷ (code "e", moves (Word End Big) reach)
     ∷ (code "b", moves (Word Back Big) reach)
     ∷ (code "f", seeks Backward On reach)
@@ -107,7 +116,14 @@ signs =
     ∷ (code "O", action.Inserts (entry.Open Above))
     ∷ (code "c", action.Inserts entry.Cut)
     ∷ (34, action.ChoosesRegister)
-    ∷ (code ":", action.Prompts)
+    ∷ (code ":", action.Prompts Commands)
+    ∷ (code "s", asks pattern.Select)
+    ∷ (code "S", asks pattern.Split)
+    ∷ (code "/", asks (pattern.Search Next))
+    ∷ (code "?", asks (pattern.Reach Next))
+    ∷ (code "n", action.StepsToMatch Next)
+    ∷ (code "N", action.AddsMatch Next)
+    ∷ (code "*", action.Remembers AtWordEnds)
     ∷ []
 
 -- the same with alt
@@ -127,6 +143,13 @@ alt_signs =
     ∷ (code "a", action.SelectsObject Around)
     ∷ (code "s", action.Lists (list.Split split.AtLineEnds))
     ∷ (code "S", action.Lists (list.Split split.IntoEnds))
+    ∷ (code "k", asks pattern.Keep)
+    ∷ (code "K", asks pattern.Drop)
+    ∷ (code "/", asks (pattern.Search Former))
+    ∷ (code "?", asks (pattern.Reach Former))
+    ∷ (code "n", action.StepsToMatch Former)
+    ∷ (code "N", action.AddsMatch Former)
+    ∷ (code "*", action.Remembers Anywhere)
     ∷ []
 
 -- characters with control

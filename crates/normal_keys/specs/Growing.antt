@@ -1,11 +1,11 @@
--- The keys that can change the text, or add selections to a list.
+-- The keys that can change the text, add selections to a list, or handle a pattern.
 use Rattle.std.specs.Prelude.{Bool, true, false, None, Some}
 use Rattle.std.specs.declared.option.Option.{Option}
 use Rattle.key_names.specs.declared.key.Key.{Key}
 use Rattle.list_keys.specs.Changes.{change_adds}
 use Rattle.key_rows.specs.Entering.{edits_first}
 use Rattle.normal_keys.specs.declared.actions.Action.{Action}
-use Rattle.normal_keys.specs.declared.actions.Action.TheVariants.{Lists, Repeats, Edits, Inserts, Fills}
+use Rattle.normal_keys.specs.declared.actions.Action.TheVariants.{Lists, Repeats, Edits, Inserts, Fills, StepsToMatch, AddsMatch, Remembers}
 use Rattle.normal_keys.specs.Actions.{action_of}
 use Rattle.normal_keys.specs.Repeating.{repeated_grows}
 
@@ -15,6 +15,9 @@ action_grows (Lists change) = change_adds change
 action_grows (Repeats what) = repeated_grows what
 action_grows (Edits edit) = true
 action_grows (Inserts entry) = edits_first entry
+action_grows (StepsToMatch toward) = true
+action_grows (AddsMatch toward) = true
+action_grows (Remembers bounds) = true
 action_grows _ = false
 
 -- whether what a key does for which another one waited can, by the action of that one

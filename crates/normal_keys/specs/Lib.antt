@@ -9,3 +9,4 @@ pub mod Examples
 pub mod EditExamples
 pub mod ObjectExamples
 pub mod Laws
+pub mod PatternExamples

@@ -12,6 +12,8 @@ use Rattle.motion_keys.specs.declared.finding.Motion.TheVariants.{Character, To}
 use Rattle.motion_keys.specs.declared.finding.Reach.{Reach}
 use Rattle.edit_line.specs.Halves.{empty}
 use Rattle.kak_world.specs.declared.own.Mode.TheVariants.{Prompt}
+use Rattle.kak_world.specs.declared.purpose.Purpose.{Purpose}
+use Rattle.kak_world.specs.declared.purpose.Use.TheVariants.{Step, Add}
 use Rattle.kak_world.specs.Flat.{Flat, count_of, register_of, pending_of, with_own}
 use Rattle.kak_world.specs.Rows.{RowEnd, does}
 use Rattle.text_objects.specs.declared.kinds.Object.{Object}
@@ -20,6 +22,7 @@ use Rattle.key_rows.specs.declared.each.Extent.{Extent}
 use Rattle.key_rows.specs.declared.each.Each.TheVariants as each
 use Rattle.key_rows.specs.Each.{each_changed, moved}
 use Rattle.key_rows.specs.Naming.{register_named}
+use Rattle.key_rows.specs.Patterns.{asks_for_last, main_remembered}
 use Rattle.key_rows.specs.Edits.{fill_row, edit_done}
 use Rattle.key_rows.specs.Entering.{enter_row}
 use Rattle.normal_keys.specs.declared.prefixes.Prefix.{Prefix}
@@ -52,8 +55,8 @@ abbrev pub waiting : Key → ℕ → ℕ → Flat → Flat
 waiting key count who flat = with_own who (λ o. record o { count = count; pending = Some key }) flat
 
 -- an empty prompt
-abbrev pub open_prompt : ℕ → Flat → Flat
-open_prompt who flat = with_own who (λ o. record o { mode = Prompt; prompt = empty }) flat
+abbrev pub open_prompt : Purpose → ℕ → Flat → Flat
+open_prompt purpose who flat = with_own who (λ o. record o { mode = Prompt; purpose = purpose; prompt = empty }) flat
 
 -- the first character of the line that the count says, or, without one, waiting for the name of a place
 abbrev pub go_to_line : Key → Reach → ℕ → ℕ → Flat → Flat
@@ -76,7 +79,10 @@ acted key (action.Edits edit) prefix who flat = edit_done edit prefix.register w
 acted key (action.SelectsObject extent) prefix who flat = does (waiting key prefix.count who flat)
 acted key action.Fills prefix who flat = does (waiting key prefix.count who flat)
 acted key (action.Inserts entry) prefix who flat = enter_row entry prefix.register who flat
-acted key action.Prompts prefix who flat = does (open_prompt who flat)
+acted key (action.Prompts purpose) prefix who flat = does (open_prompt purpose who flat)
+acted key (action.StepsToMatch toward) prefix who flat = asks_for_last (Step toward (prefix.count - 1)) flat
+acted key (action.AddsMatch toward) prefix who flat = asks_for_last (Add toward (prefix.count - 1)) flat
+acted key (action.Remembers bounds) prefix who flat = main_remembered bounds who flat
 
 -- the character that a key without modifiers stands for
 abbrev pub base_character : Base → Option ℕ

@@ -1,13 +1,8 @@
 -- What is done as often as a count says.
 use Rattle.std.specs.Prelude.{ℕ, zero, suc, ◌-◌}
-use Rattle.kak_world.specs.Flat.{Flat, units_of, with_units}
-use Rattle.kak_world.specs.Rows.{RowEnd, GivesUp, does}
-use Rattle.key_rows.specs.Sequence.{then_row}
-
--- what comes next where a unit is left, which is taken; else the step is given up
-abbrev pub after_unit : ℕ → (Flat → RowEnd) → Flat → RowEnd
-after_unit zero next flat = record { world = flat; row = GivesUp }
-after_unit (suc left) next flat = next (with_units left flat)
+use Rattle.kak_world.specs.Flat.{Flat, units_of}
+use Rattle.kak_world.specs.Rows.{RowEnd, does}
+use Rattle.key_rows.specs.Sequence.{then_row, after_unit}
 
 -- so many further runs, each of which takes a unit, up to the first that fails
 abbrev pub further_runs : ℕ → (Flat → RowEnd) → Flat → RowEnd

@@ -1,11 +1,12 @@
 //! The table of normal mode: what each key does.
 
 ghost use Rattle.std.specs.Prelude.{◌≡◌};
-ghost use Rattle.normal_keys.specs.Actions.{moves, seeks, letter_action, alt_letter_action, sign_action, alt_sign_action, otherwise, reach_of, character_action, arrow_action, plain_action, control_action, alt_action, action_of};
+ghost use Rattle.normal_keys.specs.Actions.{moves, seeks, asks, letter_action, alt_letter_action, sign_action, alt_sign_action, otherwise, reach_of, character_action, arrow_action, plain_action, control_action, alt_action, action_of};
 
 use edit_ops::{Indent, Put, Rotation, Side};
+use kak_world::{Purpose, Toward, Use};
 use key_names::{Base, Key};
-use key_rows::{Edit, Entry, Extent, Shape};
+use key_rows::{Bounds, Edit, Entry, Extent, Shape};
 use list_keys::{Cut, ListChange, Split};
 use motion_keys::{Direction, LinePart, Motion, Reach, Search, Until, WordKind, WordMove};
 use undo_model::Travel;
@@ -54,8 +55,14 @@ pub enum Action {
     Fills,
     /// Insert mode.
     Inserts(Entry),
-    /// An empty prompt for commands.
-    Prompts,
+    /// An empty prompt.
+    Prompts(Purpose),
+    /// The main selection becomes a match of the pattern that was looked for last, as often as the count says.
+    StepsToMatch(Toward),
+    /// A match of it is added as the new main selection, as often as the count says.
+    AddsMatch(Toward),
+    /// The text of the main selection becomes the pattern that was looked for last.
+    Remembers(Bounds),
 }
 
 // A motion of each selection, as often as the count says.
@@ -70,6 +77,13 @@ fn seeks(direction: Direction, until: Until, reach: Reach) -> Action
     ensures { result ≡ seeks direction until reach }
 {
     Action::Seeks(Search { direction, until }, reach)
+}
+
+// A prompt for a pattern, of which a use is made.
+fn asks(wanted: Use) -> Action
+    ensures { result ≡ asks wanted }
+{
+    Action::Prompts(Purpose::Pattern(wanted))
 }
 
 // What a small letter does, and its capital.
@@ -140,7 +154,14 @@ fn sign_action(c: char) -> Action
         'O' => Action::Inserts(Entry::Open(Side::Above)),
         'c' => Action::Inserts(Entry::Cut),
         '"' => Action::ChoosesRegister,
-        ':' => Action::Prompts,
+        ':' => Action::Prompts(Purpose::Commands),
+        's' => asks(Use::Select),
+        'S' => asks(Use::Split),
+        '/' => asks(Use::Search(Toward::Next)),
+        '?' => asks(Use::Reach(Toward::Next)),
+        'n' => Action::StepsToMatch(Toward::Next),
+        'N' => Action::AddsMatch(Toward::Next),
+        '*' => Action::Remembers(Bounds::AtWordEnds),
         _ => Action::Nothing,
     }
 }
@@ -164,6 +185,13 @@ fn alt_sign_action(c: char) -> Action
         'a' => Action::SelectsObject(Extent::Around),
         's' => Action::Lists(ListChange::Split(Split::AtLineEnds)),
         'S' => Action::Lists(ListChange::Split(Split::IntoEnds)),
+        'k' => asks(Use::Keep),
+        'K' => asks(Use::Drop),
+        '/' => asks(Use::Search(Toward::Former)),
+        '?' => asks(Use::Reach(Toward::Former)),
+        'n' => Action::StepsToMatch(Toward::Former),
+        'N' => Action::AddsMatch(Toward::Former),
+        '*' => Action::Remembers(Bounds::Anywhere),
         _ => Action::Nothing,
     }
 }

@@ -15,9 +15,11 @@ use crate::lists::change_list;
 use crate::prefixes::{Prefix, set_prefix, take_prefix, wait, with_digit};
 use crate::runs::run_often;
 use edit_line::EditLine;
-use kak_world::{Ask, EditError, Mode, World};
+use kak_world::{Ask, EditError, Mode, Purpose, Use, World};
 use key_names::Key;
-use key_rows::{Each, change_each, edit_texts, enter_insert, fill, register_named};
+use key_rows::{
+    Each, ask_for_last, change_each, edit_texts, enter_insert, fill, register_named, remember_main,
+};
 use motion_keys::{Motion, Place, Reach, Search};
 use std::alloc::Global;
 
@@ -32,13 +34,14 @@ fn change(alloc: Global, world: &mut World, who: u32, change: Each) -> Result<As
     Ok(Ask::Nothing)
 }
 
-// Opens an empty prompt for commands.
-fn begin_prompt(alloc: Global, world: &mut World, who: u32)
+// Opens an empty prompt.
+fn begin_prompt(alloc: Global, world: &mut World, who: u32, purpose: Purpose)
     requires { is_joined who world.old.flat ≡ true }
-    ensures { world.new.flat ≡ open_prompt who world.old.flat }
+    ensures { world.new.flat ≡ open_prompt purpose who world.old.flat }
 {
     let own = world.own_mut(who);
     own.mode = Mode::Prompt;
+    own.purpose = purpose;
     own.prompt = EditLine::new(alloc);
 }
 
@@ -105,8 +108,18 @@ fn act(
             enter_insert(alloc, world, who, entry, register)?;
             Ok(Ask::Nothing)
         }
-        Action::Prompts => {
-            begin_prompt(alloc, world, who);
+        Action::Prompts(purpose) => {
+            begin_prompt(alloc, world, who, purpose);
+            Ok(Ask::Nothing)
+        }
+        Action::StepsToMatch(toward) => {
+            ask_for_last(alloc, world, Use::Step(toward, count.saturating_sub(1)))
+        }
+        Action::AddsMatch(toward) => {
+            ask_for_last(alloc, world, Use::Add(toward, count.saturating_sub(1)))
+        }
+        Action::Remembers(bounds) => {
+            remember_main(alloc, world, who, bounds)?;
             Ok(Ask::Nothing)
         }
     }

@@ -3,6 +3,7 @@
 ghost use Rattle.normal_keys.specs.Examples.{Examples};
 ghost use Rattle.normal_keys.specs.EditExamples.{AllEditExamples};
 ghost use Rattle.normal_keys.specs.ObjectExamples.{ObjectExamples};
+ghost use Rattle.normal_keys.specs.PatternExamples.{PatternExamples};
 ghost use Rattle.normal_keys.specs.Laws.{RowsKeepClients};
 
 /// No key of normal mode makes a client come or go.
@@ -23,4 +24,9 @@ pub fn edit_examples()
 /// Worked examples of the rows that select objects.
 pub fn object_examples()
     ensures { ObjectExamples }
+{}
+
+/// Worked examples of the rows that handle patterns.
+pub fn pattern_examples()
+    ensures { PatternExamples }
 {}

@@ -1,12 +1,12 @@
 //! What happens in a session, and what it gives.
 
-ghost use Rattle.std.specs.Prelude.{◌≡◌, [], None, false};
+ghost use Rattle.std.specs.Prelude.{◌≡◌, [], ◌∷◌, ◌++◌, OnOk, OnErr, None, false};
 ghost use Rattle.session_events.specs.Entries.{is_join, is_leave};
 
 use json_writing::Drawing;
 use kak_ports::Octets;
 use key_names::Key;
-use std::alloc::Global;
+use std::alloc::{AllocError, Global};
 use std::marker::Model;
 
 /// One event of a client.
@@ -66,6 +66,15 @@ impl Answers {
         Answers {
             items: Vec::new(alloc),
         }
+    }
+
+    /// Adds an answer behind the others.
+    pub fn push(&mut self, answered: Answered) -> Result<(), AllocError>
+        ensures ok { OnOk result (self.new ≡ self.old ++ answered ∷ []) }
+        ensures err { OnErr result (self.new ≡ self.old) }
+    {
+        self.items.push(answered)?;
+        Ok(())
     }
 }
 

@@ -4,7 +4,7 @@ use Rattle.list_model.specs.Ranges.{Selected}
 use Rattle.text_model.specs.declared.coords.Coord.{Coord}
 use Rattle.window_view.specs.Views.{view_of as window_seen}
 use Rattle.json_writing.specs.declared.drawing.DrawnLine.{DrawnLine}
-use Rattle.kak_world.specs.Flat.{Flat, text_of, number_of, name_of, mode_of, sels_of, view_of, tabstop_of, status_of, prompt_of, is_drawn}
+use Rattle.kak_world.specs.Flat.{Flat, text_of, number_of, name_of, mode_of, sels_of, view_of, tabstop_of, status_of, purpose_of, prompt_of, is_drawn}
 use Rattle.kak_world.specs.declared.own.Mode.{Mode}
 use Rattle.kak_world.specs.declared.own.Own.{Own}
 use Rattle.json_writing.specs.declared.drawing.Drawing.{Drawing}
@@ -32,29 +32,28 @@ returns c =
     let flat : Flat = c.args.world.now.flat in
     let text : List ℕ = text_of who flat in
     let sels : Selected = sels_of who flat in
-    let tabstop : ℕ = tabstop_of who flat in
+    let tabstop : ℕ = tabstop_of flat in
     let mode : Mode = mode_of who flat in
     let drawn : c.own-own.result.now.drawn ≡ is_drawn who flat = ap (λ (o : Own). o.drawn) c.own-own.ensures in
     let is_mode : c.own-own.result.now.mode ≡ mode = ap (λ (o : Own). o.mode) c.own-own.ensures in
-    let is_prompt : c.own-own.result.now.prompt ≡ prompt_of who flat = ap (λ (o : Own). o.prompt) c.own-own.ensures in
     let lines : c.in_ok-draw_lines.field-0 ≡ drawn_lines tabstop text sels (view_of who flat) =
     c.in_ok-draw_lines.ensures
     ∙ ap (λ t. drawn_lines c.tabstop-tabstop.result t (selected t c.sels-sels.result.now) (window_seen c.window-window.result)) c.lines.ensures
     ∙ ap₂ (λ s v. drawn_lines c.tabstop-tabstop.result text s v) (sym c.sels-sels.ensures.sels) c.window-window.ensures
     ∙ ap (λ n. drawn_lines n text sels (view_of who flat)) c.tabstop-tabstop.ensures.value in
-    let status : c.in_ok-draw_status.field-0 ≡ record { atoms = atoms_of (status_line mode (status_of who flat) (prompt_of who flat)) } =
+    let status : c.in_ok-draw_status.field-0 ≡ record { atoms = atoms_of (status_line mode (status_of who flat) (purpose_of who flat) (prompt_of who flat)) } =
     c.in_ok-draw_status.ensures
-    ∙ ap₂ (λ m (o : Own). line_of (status_line m o.status o.prompt)) is_mode c.own-own.ensures in
+    ∙ ap₂ (λ m (o : Own). line_of (status_line m o.status o.purpose o.prompt)) is_mode c.own-own.ensures in
     let mode_line : c.in_ok-draw_mode.field-0 ≡ line_of (mode_shown (name_of who flat) (main_cursor text sels) mode sels (number_of who flat)) =
     c.in_ok-draw_mode.ensures sels (ap (λ (s : Selected). s.main) c.sels-sels.ensures.sels)
     (ap (λ (s : Selected). length s.list) c.sels-sels.ensures.sels ∙ ranges-length text c.sels-sels.result.now.list)
     ∙ ap₂ (λ a m. line_of (mode_shown c.buffer_name.result.now a m sels c.number.result)) c.find_cursor-main.ensures.at is_mode
     ∙ ap₂ (λ b n. line_of (mode_shown b (main_cursor text sels) mode sels n)) c.buffer_name.ensures c.number.ensures in
-    let cursor : c.in_ok-cursor_of.field-0 ≡ cursor_drawn tabstop mode (main_cursor text sels).line (main_column tabstop text sels) (view_of who flat) (prompt_of who flat) =
+    let cursor : c.in_ok-cursor_of.field-0 ≡ cursor_drawn tabstop mode (main_cursor text sels).line (main_column tabstop text sels) (view_of who flat) (purpose_of who flat) (prompt_of who flat) =
     c.in_ok-cursor_of.ensures
-    ∙ ap₂ (λ m (a : Coord). cursor_drawn c.tabstop-tabstop.result m a.line c.find_cursor-main.result.column (window_seen c.window-window.result) c.own-own.result.now.prompt) is_mode c.find_cursor-main.ensures.at
-    ∙ ap₂ (λ k v. cursor_drawn c.tabstop-tabstop.result mode (main_cursor text sels).line k v c.own-own.result.now.prompt) c.find_cursor-main.ensures.column c.window-window.ensures
-    ∙ ap₂ (λ n t. cursor_drawn n mode (main_cursor text sels).line (main_column tabstop text sels) (view_of who flat) t) c.tabstop-tabstop.ensures.value is_prompt in
+    ∙ ap₂ (λ m (a : Coord). cursor_drawn c.tabstop-tabstop.result m a.line c.find_cursor-main.result.column (window_seen c.window-window.result) c.own-own.result.now.purpose c.own-own.result.now.prompt) is_mode c.find_cursor-main.ensures.at
+    ∙ ap₂ (λ k v. cursor_drawn c.tabstop-tabstop.result mode (main_cursor text sels).line k v c.own-own.result.now.purpose c.own-own.result.now.prompt) c.find_cursor-main.ensures.column c.window-window.ensures
+    ∙ ap₂ (λ n (o : Own). cursor_drawn n mode (main_cursor text sels).line (main_column tabstop text sels) (view_of who flat) o.purpose o.prompt) c.tabstop-tabstop.ensures.value c.own-own.ensures in
     let a : Drawing = record {
       first = not c.own-own.result.now.drawn;
       lines = c.in_ok-draw_lines.field-0;

@@ -1,14 +1,14 @@
-use Rattle.std.proofs.Common.{sym, ap, ◌∙◌}
+use Rattle.std.proofs.Common.{sym, ap, ◌∙◌, length}
 use Rattle.std.proofs.lemmas.List.{take_all}
 use Rattle.draw_model.specs.Drawings.{prompt_column}
-use Rattle.draw_model.proofs.PromptLemmas.{colon, prompt-more}
+use Rattle.draw_model.proofs.PromptLemmas.{name-cells, prompt-more}
 use Rattle.draw_model.proofs.drawing.prompt_cursor.Goals as goal
 
 pub loop-c-init : goal.loop-c-init
-loop-c-init c = sym (colon c.args.tabstop)
+loop-c-init c = ap length c.prompt_name.ensures ∙ sym (name-cells c.args.tabstop c.args.purpose)
 
 pub loop-c-preserved : goal.loop-c-preserved
-loop-c-preserved c = prompt-more c.args.tabstop c.args.before.now c.loop-c.c-index c.loop-c.column c.c-item.result c.cells-column.result c.loop-c-test.true c.c-item.is c.loop-c.invariant c.cells-column.ensures.value
+loop-c-preserved c = prompt-more c.args.tabstop c.args.purpose c.args.before.now c.loop-c.c-index c.loop-c.column c.c-item.result c.cells-column.result c.loop-c-test.true c.c-item.is c.loop-c.invariant c.cells-column.ensures.value
 
 pub returns : goal.returns
-returns c = c.loop-c.invariant ∙ ap (prompt_column c.args.tabstop) (take_all c.loop-c.c-index c.args.before.now c.loop-c-test.false)
+returns c = c.loop-c.invariant ∙ ap (prompt_column c.args.tabstop c.args.purpose) (take_all c.loop-c.c-index c.args.before.now c.loop-c-test.false)

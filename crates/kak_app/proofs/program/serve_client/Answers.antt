@@ -1,11 +1,8 @@
-use Rattle.std.proofs.lemmas.Result.{err_from_is_err_and}
 use Rattle.kak_app.proofs.RunLemmas.{nothing-ran, served-ran}
 use Rattle.kak_app.proofs.program.serve_client.Goals as goal
 
-pub returns-in_err-seat : goal.returns-in_err-seat
-returns-in_err-seat g c =
-    let p = err_from_is_err_and c.from_residual.result c.from_residual.ensures.1 in
-    rw (p.1, p.2) (nothing-ran _ _)
+pub returns-in-Err : goal.returns-in-Err
+returns-in-Err g c = nothing-ran _ _
 
-pub returns : goal.returns
-returns g c = served-ran c.serve.result _ _ _ _ _ _ c.in_ok-seat.ensures.who c.in_ok-seat.ensures.limit c.serve.ensures.same c.serve.new.seat.alone c.serve.ensures.legal c.serve.ensures.served c.serve.ensures.fault c.serve.ensures.cause
+pub returns-in-Ok : goal.returns-in-Ok
+returns-in-Ok g c = served-ran c.serve-ended.result _ _ _ _ _ _ c.in-Ok.ensures.who c.in-Ok.ensures.limit c.serve-ended.ensures.same c.serve-ended.new.seat.alone c.serve-ended.ensures.legal c.serve-ended.ensures.served c.serve-ended.ensures.fault c.serve-ended.ensures.cause c.into_patterns.ensures.asked

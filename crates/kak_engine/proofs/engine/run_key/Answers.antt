@@ -1,6 +1,9 @@
-use Rattle.std.proofs.Common.{sym, ap, ◌∙◌, []}
-use Rattle.kak_engine.proofs.KeyLemmas.{after-leaving}
+use Rattle.std.proofs.Common.{sym, ap, ◌∙◌}
+use Rattle.kak_engine.proofs.KeyLemmas.{after-leaving, asked-leaving}
 use Rattle.kak_engine.proofs.engine.run_key.Goals as goal
 
-pub returns-then-own-clause-does : goal.returns-then-own-clause-does
-returns-then-own-clause-does c = sym (after-leaving c.args.who c.args.key [] c.args.world.now.flat (ap (λ o. o.leaving) (sym c.own-own.ensures) ∙ c.if-own.true))
+pub returns-then-own-clause-leads : goal.returns-then-own-clause-leads
+returns-then-own-clause-leads g c = sym (after-leaving c.args.who c.args.key _ c.args.world.now.flat (ap (λ o. o.leaving) (sym c.own-own.ensures) ∙ c.if-own.true))
+
+pub returns-then-own-clause-asked : goal.returns-then-own-clause-asked
+returns-then-own-clause-asked g c = asked-leaving c.args.who c.args.key _ c.args.world.now.flat (ap (λ o. o.leaving) (sym c.own-own.ensures) ∙ c.if-own.true) c.requires.fresh

@@ -1,6 +1,12 @@
-use Rattle.kak_engine.proofs.KeyLemmas.{after-struck}
+use Rattle.kak_engine.proofs.KeyLemmas.{after-struck, asked-struck, honest-struck}
 use Rattle.kak_engine.proofs.engine.run_struck.Goals as goal
 
-pub returns : goal.returns
-returns c = after-struck c.args.who c.args.key c.args.world.now.flat c.begin.new.world.flat c.strike.new.world.flat c.tell.new.world.flat c.end_group.new.world.flat c.set_units.new.self.flat c.in_ok-ending.ending
-    c.requires.stays c.begin.ensures c.in_ok-ending.ensures.does c.in_ok-tell.ensures c.end_group.ensures c.set_units.ensures
+pub returns-clause-leads : goal.returns-clause-leads
+returns-clause-leads g c = after-struck c.args.who c.args.key c.args.world.now.flat c.begin.new.world.flat c.tell.new.world.flat c.end_group.new.world.flat c.set_units.new.self.flat _ _ _ c.in_ok-ending.ending
+    c.requires.stays c.begin.ensures c.requires.fresh c.in_ok-ending.ensures.does c.in_ok-tell.ensures c.end_group.ensures c.set_units.ensures
+
+pub returns-clause-asked : goal.returns-clause-asked
+returns-clause-asked g c = asked-struck c.args.who c.args.key c.args.world.now.flat c.begin.new.world.flat _ _ _ c.in_ok-ending.ending c.requires.stays c.begin.ensures c.requires.fresh c.in_ok-ending.ensures.does
+
+pub returns-clause-honest : goal.returns-clause-honest
+returns-clause-honest g c = honest-struck c.args.who c.args.key c.begin.new.world.flat _ _ _ c.in_ok-ending.ending c.requires.fresh c.in_ok-ending.ensures.does

@@ -1,4 +1,4 @@
-use Rattle.kak_engine.proofs.DeepLemmas.{within-deep}
+use Rattle.kak_engine.proofs.DoingLemmas.{within-deep}
 use Rattle.kak_engine.proofs.laws.bound_ends_no_step.Goals as goal
 
 pub returns : goal.returns

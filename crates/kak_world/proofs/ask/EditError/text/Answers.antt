@@ -11,6 +11,10 @@ pub returns-in_ok-extend_from_slice-in-NoSuchCommand-clause-text :
 unfolding chars
 returns-in_ok-extend_from_slice-in-NoSuchCommand-clause-text c = rw c.in-NoSuchCommand.is (c.in_ok-extend_from_slice-in-NoSuchCommand.ensures.ok ∙ ap (λ t. t ++ c.as_slice.result.now) c.in_ok-text-in-NoSuchCommand.ensures ∙ (rw c.as_slice.ensures refl))
 
+pub returns-in-BadPattern-clause-text : goal.returns-in-BadPattern-clause-text
+unfolding chars
+returns-in-BadPattern-clause-text c = rw c.in-BadPattern.is c.from_str-in-BadPattern.ensures
+
 pub returns-in-NothingSelected-clause-text : goal.returns-in-NothingSelected-clause-text
 unfolding chars
 returns-in-NothingSelected-clause-text c = rw c.in-NothingSelected.is c.from_str-in-NothingSelected.ensures

@@ -4,28 +4,32 @@ use Rattle.edit_line.specs.Halves.{whole}
 use Rattle.kak_world.specs.declared.own.Own.{Own}
 use Rattle.kak_world.specs.Flat.{own_of}
 use Rattle.kak_world.specs.Registers.{set_row}
-use Rattle.kak_world.specs.Rows.{Gives, row_of}
+use Rattle.kak_world.specs.Rows.{row_of}
 use Rattle.kak_world.proofs.WorldLaws.{own_registers}
-use Rattle.insert_prompt.specs.Rows.{accepted}
-use Rattle.insert_prompt.proofs.AcceptLemmas.{typed_strings, accepted-set, accepted-refused, refused-joined}
-use Rattle.insert_prompt.proofs.prompts.accept.Goals as goal
+use Rattle.insert_prompt.proofs.AcceptLemmas.{typed_strings, kept-set, kept-refused, refused-joined}
+use Rattle.insert_prompt.proofs.prompts.keep_typed.Goals as goal
 
 pub returns-in-Ok-clause-row : goal.returns-in-Ok-clause-row
 returns-in-Ok-clause-row c =
     let who = c.args.who in
     let flat = c.args.world.now.flat in
     let given : c.push.new.self ≡ typed_strings who flat = c.in_ok-push.ensures.ok ∙ ap₂ (λ (xs : List (List ℕ)) (w : List ℕ). xs ++ w ∷ []) c.new-strings.ensures (c.in_ok-string_of.ensures ∙ ap encode_utf8_all (c.whole.ensures ∙ ap (λ (o : Own). whole o.prompt) c.own.ensures)) in
+    sym (kept-set c.args.name who flat c.set_register.new.self.flat c.leave-typed.new.world.flat (ap (λ s. set_row c.args.name s flat) (sym given) ∙ c.in-Ok.ensures.row) c.leave-typed.ensures.left)
+
+pub returns-in-Ok-clause-typed : goal.returns-in-Ok-clause-typed
+returns-in-Ok-clause-typed c =
+    let who = c.args.who in
+    let flat = c.args.world.now.flat in
     let same : own_of who c.set_register.new.self.flat ≡ own_of who flat = ap (own_of who) c.in-Ok.ensures.sets ∙ own_registers who _ flat in
-    accepted-set who flat c.set_register.new.self.flat c.leave-typed.new.world.flat c.of_vec.result (ap (λ s. set_row 58 s flat) (sym given) ∙ c.in-Ok.ensures.row) c.leave-typed.ensures.left
-    (c.of_vec.ensures ∙ c.into_vec.ensures ∙ ap whole c.leave-typed.ensures.typed ∙ ap (λ (o : Own). whole o.prompt) same)
+    c.of_vec.ensures ∙ c.into_vec.ensures ∙ ap whole c.leave-typed.ensures.typed ∙ ap (λ (o : Own). whole o.prompt) same
 
 pub refuse-requires : goal.refuse-requires
-refuse-requires c = refused-joined c.in-Err.error 58 c.push.new.self c.args.who c.args.world.now.flat c.set_register.new.self.flat c.in-Err.ensures.row (λ e. c.in-Err.ensures.wanting (ap Err e)) ∙ c.requires
+refuse-requires c = refused-joined c.in-Err.error c.args.name c.push.new.self c.args.who c.args.world.now.flat c.set_register.new.self.flat c.in-Err.ensures.row (λ e. c.in-Err.ensures.wanting (ap Err e)) ∙ c.requires
 
 pub returns-clause-row : goal.returns-clause-row
 returns-clause-row c =
     let who = c.args.who in
     let flat = c.args.world.now.flat in
     let given : c.push.new.self ≡ typed_strings who flat = c.in_ok-push.ensures.ok ∙ ap₂ (λ (xs : List (List ℕ)) (w : List ℕ). xs ++ w ∷ []) c.new-strings.ensures (c.in_ok-string_of.ensures ∙ ap encode_utf8_all (c.whole.ensures ∙ ap (λ (o : Own). whole o.prompt) c.own.ensures)) in
-    let row = subst (λ s. IfSome (row_of c.in-Err.error) (λ row. set_row 58 s flat ≡ record { world = c.set_register.new.self.flat; row = row })) given c.in-Err.ensures.row in
-    subst (λ r. Gives r c.refuse.new.world.flat (accepted who flat)) (sym c.refuse.ensures.refused) (accepted-refused c.in-Err.error who flat c.set_register.new.self.flat c.refuse.new.world.flat row c.refuse.ensures.left)
+    let row = subst (λ s. IfSome (row_of c.in-Err.error) (λ row. set_row c.args.name s flat ≡ record { world = c.set_register.new.self.flat; row = row })) given c.in-Err.ensures.row in
+    kept-refused c.in-Err.error c.args.name who flat c.set_register.new.self.flat c.refuse.new.world.flat row c.refuse.ensures.left

@@ -1,0 +1,152 @@
+//! What is made of a pattern that was asked for, once the outside has answered.
+#![tactic(auto, using(kak_world::proofs::WorldLaws::world_laws))]
+
+ghost use Rattle.std.specs.Prelude.{◌≡◌, true, IfOk, IsErrOf};
+ghost use Rattle.selection_set.specs.Held.{IsHeld, selected};
+ghost use Rattle.kak_world.specs.declared.ask.EditError.TheVariants.{NoMemory};
+ghost use Rattle.kak_world.specs.Flat.{is_joined, text_of, with_sels};
+ghost use Rattle.kak_world.specs.Rows.{Gives, does};
+ghost use Rattle.command_set.specs.Finishing.{source_of, way_of, list_used, next_use, further_asked, used, row_finish};
+ghost use Rattle.command_set.specs.Refusing.{refusal_of, IsListOf};
+
+use kak_world::{Ask, EditError, Toward, Use, World};
+use key_rows::ask_for_last;
+use regex_ports::{Made, Pattern};
+use regex_select::{
+    Search, SelectError, Way, add_match, keep, matches_in, search, search_main, split_in,
+};
+use selection_set::Sels;
+use std::alloc::Global;
+
+// The way on which a match is looked for.
+fn way_of(toward: Toward) -> Way
+    ensures { result ≡ way_of toward }
+{
+    match toward {
+        Toward::Next => Way::Forward,
+        Toward::Former => Way::Backward,
+    }
+}
+
+// By what the client is told why nothing was selected.
+fn refusal_of(error: SelectError) -> EditError
+    ensures { result ≡ refusal_of error }
+{
+    match error {
+        SelectError::NoMatch => EditError::NothingSelected,
+        SelectError::TooMany => EditError::TooManySelections,
+        SelectError::NoMemory => EditError::NoMemory,
+    }
+}
+
+// The list that a use of a pattern leaves to a client.
+fn list_used<P: Pattern>(
+    alloc: Global,
+    world: &World,
+    who: u32,
+    wanted: Use,
+    pattern: &P,
+) -> Result<Sels, SelectError>
+    requires { is_joined who world.now.flat ≡ true }
+    ensures held { IfOk result (λ sels. IsHeld (text_of who world.now.flat) sels) }
+    ensures lists { IsListOf result (list_used wanted (P.source pattern.now) who world.now.flat) who world.now.flat }
+{
+    let lines = world.lines(who);
+    let sels = world.sels(who);
+    match wanted {
+        Use::Select => matches_in(alloc, lines, sels, pattern),
+        Use::Split => split_in(alloc, lines, sels, pattern),
+        Use::Keep => keep(alloc, lines, sels, pattern, true),
+        Use::Drop => keep(alloc, lines, sels, pattern, false),
+        Use::Search(toward) => {
+            let way = way_of(toward);
+            search(alloc, lines, sels, pattern, Search { way, extend: false })
+        }
+        Use::Reach(toward) => {
+            let way = way_of(toward);
+            search(alloc, lines, sels, pattern, Search { way, extend: true })
+        }
+        Use::Step(toward, _) => search_main(alloc, lines, sels, pattern, way_of(toward)),
+        Use::Add(toward, _) => add_match(alloc, lines, sels, pattern, way_of(toward)),
+    }
+}
+
+// What comes behind a use: a further one where it is to be made more often.
+fn next_use(wanted: Use) -> Option<Use>
+    ensures { result ≡ next_use wanted }
+{
+    match wanted {
+        Use::Step(toward, further) if further > 0 => Some(Use::Step(toward, further - 1)),
+        Use::Add(toward, further) if further > 0 => Some(Use::Add(toward, further - 1)),
+        _ => None,
+    }
+}
+
+// Takes a list for a client, and asks for the further use that comes behind it, for which a unit is taken.
+fn take_list(
+    alloc: Global,
+    world: &mut World,
+    who: u32,
+    sels: Sels,
+    next: Option<Use>,
+) -> Result<Ask, EditError>
+    requires joined { is_joined who world.old.flat ≡ true }
+    requires held { IsHeld (text_of who world.old.flat) sels }
+    ensures row { Gives result world.new.flat (further_asked next (with_sels who (selected (text_of who world.old.flat) sels) world.old.flat)) }
+    ensures wanting { IsErrOf result NoMemory → world.new.flat ≡ world.old.flat }
+{
+    match next {
+        None => {
+            world.set_sels(who, sels);
+            Ok(Ask::Nothing)
+        }
+        Some(next) => {
+            let ask = ask_for_last(alloc, world, next)?;
+            world.set_sels(who, sels);
+            if !world.take_unit() {
+                return Err(EditError::BudgetSpent);
+            }
+            Ok(ask)
+        }
+    }
+}
+
+// Makes use of a pattern.
+fn make_use<P: Pattern>(
+    alloc: Global,
+    world: &mut World,
+    who: u32,
+    wanted: Use,
+    pattern: &P,
+) -> Result<Ask, EditError>
+    requires { is_joined who world.old.flat ≡ true }
+    ensures row { Gives result world.new.flat (used wanted (P.source pattern.now) who world.old.flat) }
+    ensures wanting { IsErrOf result NoMemory → world.new.flat ≡ world.old.flat }
+{
+    match list_used(alloc, world, who, wanted, pattern) {
+        Ok(sels) => take_list(alloc, world, who, sels, next_use(wanted)),
+        Err(error) => Err(refusal_of(error)),
+    }
+}
+
+/// Makes use of a pattern that was asked for, or tells that it was refused: `BadPattern`. `NothingSelected` comes where nothing
+/// would be selected, `TooManySelections` where there would be more selections than there may be; both leave the world, and so
+/// does want of memory. A use that is to be made more often takes a unit for each further time, and asks for the pattern again;
+/// `BudgetSpent` comes where none is left.
+#[tactic(auto, unfolding(crate::specs::Finishing::row_finish))]
+pub fn finish<P: Pattern>(
+    alloc: Global,
+    world: &mut World,
+    who: u32,
+    wanted: Use,
+    made: Made<P>,
+) -> Result<Ask, EditError>
+    requires { is_joined who world.old.flat ≡ true }
+    ensures row { Gives result world.new.flat (row_finish wanted (source_of P.source made) who world.old.flat) }
+    ensures wanting { IsErrOf result NoMemory → world.new.flat ≡ world.old.flat }
+{
+    match made {
+        Made::Built(pattern) => make_use(alloc, world, who, wanted, &pattern),
+        Made::Refused => Err(EditError::BadPattern),
+    }
+}

@@ -1,0 +1,5 @@
+use Rattle.std.proofs.Common.{rules, inr}
+use Rattle.kak_app.proofs.program.status_of.Goals as goal
+
+pub returns-in-Ok-Ended-clause-answers : goal.returns-in-Ok-Ended-clause-answers
+returns-in-Ok-Ended-clause-answers c = λ left rest before now ran. inr (search rules)
