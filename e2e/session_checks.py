@@ -4,8 +4,8 @@ import pathlib
 from processes import run_whole
 
 HERE = pathlib.Path(__file__).resolve().parent
-# letters and lines in and out; motions, counts and lists of selections, on any text; undo and redo; keys that edit
-TOPICS = ["first_path", "lists_motions", "undo", "edits"]
+# letters and lines in and out; motions, counts and lists of selections, on any text; undo and redo; keys that edit; objects, patterns and searches
+TOPICS = ["first_path", "lists_motions", "undo", "edits", "patterns"]
 
 
 def run(program, report):
