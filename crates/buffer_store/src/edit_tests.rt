@@ -94,22 +94,3 @@ fn changes_of_a_client_are_one_node(rt: HostRuntime) -> Result<(), Fail> {
     assert_eq!(rt; whole(alloc, buffer.lines())?.as_str(), "abc\n");
     Ok(())
 }
-
-#[test]
-fn noted_shifts_are_dropped(rt: HostRuntime) -> Result<(), Fail> {
-    let alloc = rt.alloc();
-    let mut buffer = Buffer::new(alloc, lines(alloc, "\n")?)?;
-    let shifts = edited(alloc, &mut buffer, 0, &[(0, 0, "a")])?;
-    for shift in &shifts {
-        if buffer.log().stamp() < MAX_STAMP {
-            buffer.note(alloc, *shift)?;
-        }
-    }
-    let stamp = buffer.log().stamp();
-    assert_eq!(rt; stamp, 1);
-    buffer.trim(stamp);
-    assert_eq!(rt; buffer.log().first(), 1);
-    buffer.restart();
-    assert_eq!(rt; buffer.log().stamp(), 0);
-    Ok(())
-}

@@ -92,43 +92,6 @@ fn moves_go_over_the_common_ancestor(rt: HostRuntime) -> Result<(), Fail> {
 }
 
 #[test]
-fn each_parent_on_the_way_remembers(rt: HostRuntime) -> Result<(), Fail> {
-    let alloc = rt.alloc();
-    let mut buffer = Buffer::new(alloc, lines(alloc, "\n")?)?;
-    put(alloc, &mut buffer, 0, "a")?;
-    put(alloc, &mut buffer, 1, "b")?;
-    let undone: [Row<'_>; 2] = [
-        (Travel::Undo, "a\n", 1, &[(1, 1)], 0),
-        (Travel::Undo, "\n", 0, &[(0, 0)], 0),
-    ];
-    assert_moved(&rt, alloc, &mut buffer, undone.as_slice())?;
-    put(alloc, &mut buffer, 0, "x")?;
-    put(alloc, &mut buffer, 1, "yz")?;
-    let rows: [Row<'_>; 6] = [
-        (Travel::Node(2), "ab\n", 2, &[(0, 0), (1, 1), (2, 2)], 1),
-        (Travel::Node(0), "\n", 0, &[(0, 0)], 0),
-        (Travel::Redo, "a\n", 1, &[(0, 0)], 0),
-        (Travel::Redo, "ab\n", 2, &[(1, 1)], 0),
-        (Travel::Node(3), "x\n", 3, &[(0, 0), (1, 1)], 0),
-        (Travel::Redo, "xyz\n", 4, &[(1, 2)], 0),
-    ];
-    assert_moved(&rt, alloc, &mut buffer, rows.as_slice())
-}
-
-#[test]
-fn what_is_pending_is_committed_first(rt: HostRuntime) -> Result<(), Fail> {
-    let alloc = rt.alloc();
-    let mut buffer = Buffer::new(alloc, lines(alloc, "\n")?)?;
-    typed(alloc, &mut buffer, 1, 0, "a")?;
-    typed(alloc, &mut buffer, 1, 1, "b")?;
-    let rows: [Row<'_>; 2] = [
-        (Travel::Undo, "\n", 0, &[(0, 0)], 0),
-        (Travel::Redo, "ab\n", 1, &[(0, 0), (1, 1)], 1),
-    ];
-    assert_moved(&rt, alloc, &mut buffer, rows.as_slice())
-}
-
-#[test]
 fn moves_to_nowhere_are_refused(rt: HostRuntime) -> Result<(), Fail> {
     let alloc = rt.alloc();
     let mut buffer = Buffer::new(alloc, lines(alloc, "\n")?)?;

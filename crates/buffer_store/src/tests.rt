@@ -42,28 +42,3 @@ fn an_insertion_is_taken_back_and_made_again(rt: HostRuntime) -> Result<(), Fail
     }
     Ok(())
 }
-
-#[test]
-fn an_erasure_is_taken_back_and_made_again(rt: HostRuntime) -> Result<(), Fail> {
-    let alloc = rt.alloc();
-    let rows = [
-        ("ab\ncd\n", 1, 4, "ad\n"),
-        ("ab\ncd\n", 3, 6, "ab\n"),
-        ("ab\n", 1, 3, "a\n"),
-        ("\n", 0, 1, "\n"),
-    ];
-    for (before, from, to, after) in &rows {
-        let mut text = lines(alloc, before)?;
-        assert!(rt; *from <= *to);
-        assert!(rt; *to <= text.len());
-        let from = text.coord_of(*from);
-        let to = text.coord_of(*to);
-        if let Some(change) = erase(&mut text, alloc, from, to)? {
-            take_back(&mut text, alloc, &change)?;
-            assert_eq!(rt; whole(alloc, &text)?.as_str(), *before);
-            make(&mut text, alloc, &change)?;
-        }
-        assert_eq!(rt; whole(alloc, &text)?.as_str(), *after);
-    }
-    Ok(())
-}

@@ -30,27 +30,3 @@ fn touched_lines_get_blanks_once(rt: HostRuntime) -> Result<(), Fail> {
     let expected = [(at(0, 0), at(0, 0), "\t"), (at(2, 0), at(2, 0), "\t")];
     assert_splices(&rt, alloc, tabs.as_slice(), expected.as_slice())
 }
-
-#[test]
-fn lines_lose_blanks_by_columns(rt: HostRuntime) -> Result<(), Fail> {
-    let alloc = rt.alloc();
-    let text = lines(alloc, "      a\n\tb\n  \tc\nd\n")?;
-    let pairs = [pair(&rt, &text, 0, 16)];
-    let sels = listed(&rt, alloc, &text, pairs.as_slice())?;
-    let narrow = indent(alloc, &text, &sels, Indent::Less, 4, 8)?;
-    let expected = [
-        (at(0, 0), at(0, 4), ""),
-        (at(1, 0), at(1, 0), ""),
-        (at(2, 0), at(2, 2), ""),
-        (at(3, 0), at(3, 0), ""),
-    ];
-    assert_splices(&rt, alloc, narrow.as_slice(), expected.as_slice())?;
-    let wide = indent(alloc, &text, &sels, Indent::Less, 0, 8)?;
-    let expected = [
-        (at(0, 0), at(0, 6), ""),
-        (at(1, 0), at(1, 1), ""),
-        (at(2, 0), at(2, 3), ""),
-        (at(3, 0), at(3, 0), ""),
-    ];
-    assert_splices(&rt, alloc, wide.as_slice(), expected.as_slice())
-}

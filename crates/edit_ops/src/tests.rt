@@ -76,31 +76,6 @@ pub(crate) fn assert_splices<R: Abort>(
 }
 
 #[test]
-fn selections_are_erased(rt: HostRuntime) -> Result<(), Fail> {
-    let alloc = rt.alloc();
-    let text = lines(alloc, "ab\nc\n")?;
-    let pairs = [pair(&rt, &text, 1, 0), pair(&rt, &text, 2, 4)];
-    let sels = listed(&rt, alloc, &text, pairs.as_slice())?;
-    let splices = erase(alloc, &text, &sels, Erase::Selection)?;
-    let expected = [(at(0, 0), at(0, 2), ""), (at(0, 2), at(2, 0), "")];
-    assert_splices(&rt, alloc, splices.as_slice(), expected.as_slice())
-}
-
-#[test]
-fn characters_beside_cursors_are_erased(rt: HostRuntime) -> Result<(), Fail> {
-    let alloc = rt.alloc();
-    let text = lines(alloc, "ab\nc\n")?;
-    let pairs = [pair(&rt, &text, 1, 0), pair(&rt, &text, 2, 3)];
-    let sels = listed(&rt, alloc, &text, pairs.as_slice())?;
-    let before = erase(alloc, &text, &sels, Erase::BeforeCursor)?;
-    let expected = [(at(0, 0), at(0, 0), ""), (at(0, 2), at(1, 0), "")];
-    assert_splices(&rt, alloc, before.as_slice(), expected.as_slice())?;
-    let there = erase(alloc, &text, &sels, Erase::AtCursor)?;
-    let expected = [(at(0, 0), at(0, 1), ""), (at(1, 0), at(1, 1), "")];
-    assert_splices(&rt, alloc, there.as_slice(), expected.as_slice())
-}
-
-#[test]
 fn strings_are_put_in_order(rt: HostRuntime) -> Result<(), Fail> {
     let alloc = rt.alloc();
     let text = lines(alloc, "abcd\n")?;
@@ -125,21 +100,6 @@ fn strings_are_put_in_order(rt: HostRuntime) -> Result<(), Fail> {
         (at(0, 1), at(0, 1), ""),
         (at(0, 2), at(0, 2), ""),
     ];
-    assert_splices(&rt, alloc, before.as_slice(), expected.as_slice())
-}
-
-#[test]
-fn one_line_makes_all_lines(rt: HostRuntime) -> Result<(), Fail> {
-    let alloc = rt.alloc();
-    let text = lines(alloc, "ab\ncd\n")?;
-    let pairs = [pair(&rt, &text, 1, 3), pair(&rt, &text, 4, 4)];
-    let sels = listed(&rt, alloc, &text, pairs.as_slice())?;
-    let strings = words(alloc, ["x", "y\n"].as_slice())?;
-    let behind = put(alloc, &text, &sels, &strings, Put::After)?;
-    let expected = [(at(2, 0), at(2, 0), "x"), (at(2, 0), at(2, 0), "y\n")];
-    assert_splices(&rt, alloc, behind.as_slice(), expected.as_slice())?;
-    let before = put(alloc, &text, &sels, &strings, Put::Before)?;
-    let expected = [(at(0, 0), at(0, 0), "x"), (at(1, 0), at(1, 0), "y\n")];
     assert_splices(&rt, alloc, before.as_slice(), expected.as_slice())
 }
 
@@ -172,43 +132,6 @@ fn lines_are_opened(rt: HostRuntime) -> Result<(), Fail> {
     let above = open(alloc, &text, &sels, Side::Above)?;
     let expected = [(at(0, 0), at(0, 0), "\n"), (at(0, 0), at(0, 0), "\n")];
     assert_splices(&rt, alloc, above.as_slice(), expected.as_slice())
-}
-
-#[test]
-fn texts_go_round(rt: HostRuntime) -> Result<(), Fail> {
-    let alloc = rt.alloc();
-    let text = lines(alloc, "a bc\nd\n")?;
-    let pairs = [
-        pair(&rt, &text, 0, 0),
-        pair(&rt, &text, 3, 2),
-        pair(&rt, &text, 4, 5),
-    ];
-    let sels = listed(&rt, alloc, &text, pairs.as_slice())?;
-    let forward = rotate(alloc, &text, &sels, Rotation::Forward)?;
-    let expected = [
-        (at(0, 0), at(0, 1), "\nd"),
-        (at(0, 2), at(0, 4), "a"),
-        (at(0, 4), at(1, 1), "bc"),
-    ];
-    assert_splices(&rt, alloc, forward.as_slice(), expected.as_slice())?;
-    let backward = rotate(alloc, &text, &sels, Rotation::Backward)?;
-    let expected = [
-        (at(0, 0), at(0, 1), "bc"),
-        (at(0, 2), at(0, 4), "\nd"),
-        (at(0, 4), at(1, 1), "a"),
-    ];
-    assert_splices(&rt, alloc, backward.as_slice(), expected.as_slice())
-}
-
-#[test]
-fn selections_are_filled(rt: HostRuntime) -> Result<(), Fail> {
-    let alloc = rt.alloc();
-    let text = lines(alloc, "ab\ncd\n")?;
-    let pairs = [pair(&rt, &text, 0, 0), pair(&rt, &text, 3, 1)];
-    let sels = listed(&rt, alloc, &text, pairs.as_slice())?;
-    let filled = fill(alloc, &text, &sels, 'é')?;
-    let expected = [(at(0, 0), at(0, 1), "é"), (at(0, 1), at(1, 1), "ééé")];
-    assert_splices(&rt, alloc, filled.as_slice(), expected.as_slice())
 }
 
 #[test]
