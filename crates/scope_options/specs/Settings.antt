@@ -6,7 +6,7 @@ use Rattle.scope_options.specs.declared.scope.Scope.TheVariants.{Global, Buffer,
 use Rattle.scope_options.specs.declared.value.OptionValue.{OptionValue}
 use Rattle.scope_options.specs.declared.value.OptionValue.TheVariants.{Int, Str}
 use Rattle.scope_options.specs.declared.setting.Setting.{Setting}
-use Rattle.scope_options.specs.Scopes.{is_same_scope}
+use Rattle.scope_options.specs.Scopes.{is_same_scope, is_of_client, is_of_buffer}
 
 -- whether a row is that of a scope and a name
 abbrev pub is_at : Scope → List ℕ → Setting → Bool
@@ -35,6 +35,14 @@ without scope name rows = filter (λ r. not (is_at scope name r)) rows
 -- without all that is set at a scope
 abbrev pub cleared : Scope → List Setting → List Setting
 cleared scope rows = filter (λ r. not (is_same_scope r.scope scope)) rows
+
+-- without all that is set in windows of a client
+abbrev pub without_client : ℕ → List Setting → List Setting
+without_client client rows = filter (λ r. not (is_of_client client r.scope)) rows
+
+-- without all that is set in a buffer, and in windows on it
+abbrev pub without_buffer : ℕ → List Setting → List Setting
+without_buffer buffer rows = filter (λ r. not (is_of_buffer buffer r.scope)) rows
 
 -- the row of an option at a scope
 abbrev pub setting : Scope → List ℕ → OptionValue → Setting

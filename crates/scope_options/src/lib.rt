@@ -3,6 +3,7 @@
 
 pub mod changing;
 pub mod laws;
+pub mod numbers;
 pub mod options;
 pub mod scope;
 pub mod setting;

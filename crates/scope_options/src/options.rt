@@ -1,6 +1,6 @@
 //! The options of a session.
 
-ghost use Rattle.std.specs.Prelude.{◌≡◌, ◌↔◌, false, List, Ok, Err, None, option_map, is_some, IsNone, IfOk, IfErr, OnOk, OnErr};
+ghost use Rattle.std.specs.Prelude.{◌≡◌, ◌↔◌, ◌≤◌, false, List, Ok, Err, None, option_map, is_some, IsNone, IfOk, IfErr, OnOk, OnErr};
 ghost use Rattle.std.specs.Option.{option_copied};
 ghost use Rattle.tables.specs.Tables.{put_where};
 ghost use Rattle.scope_options.specs.declared.scope.Scope.TheVariants.{Global as GlobalScope, Window};
@@ -9,11 +9,13 @@ ghost use Rattle.scope_options.specs.Scopes.{is_same_scope};
 ghost use Rattle.scope_options.specs.declared.value.OptionValue.TheVariants.{Str};
 ghost use Rattle.scope_options.specs.declared.setting.Setting.{Setting};
 ghost use Rattle.scope_options.specs.Values.{kind_of, read_value};
-ghost use Rattle.scope_options.specs.Settings.{is_at, value_at, seen_from, declared_as, cleared, given};
+ghost use Rattle.scope_options.specs.Settings.{is_at, value_at, seen_from, declared_as, cleared, without_client, without_buffer, given};
+ghost use Rattle.scope_options.specs.Numbers.{number_within};
 ghost use Rattle.scope_options.specs.Changes.{declare_in, declare_by, declare_typed, set_in, unset_in, IsDue};
 
 use crate::changing::{is_at, new_value, place, seen_over, value_at};
-use crate::scope::{Scope, is_same};
+use crate::numbers::number_of;
+use crate::scope::{Scope, is_of_buffer, is_of_client, is_same};
 use crate::setting::Setting;
 use crate::value::{OptionType, OptionValue, is_same_type, kind_of, read_value};
 use kak_ports::Words;
@@ -147,15 +149,52 @@ impl Options {
         self.rows.retain(|row| !is_same(row.scope, scope));
     }
 
+    /// Takes away all that is set in windows of a client, which is gone.
+    pub fn clear_client(&mut self, client: u32)
+        ensures { self.new ≡ without_client client self.old }
+    {
+        self.rows.retain(|row| !is_of_client(row.scope, client));
+    }
+
+    /// Takes away all that is set in a buffer, and in windows on it, which is gone.
+    pub fn clear_buffer(&mut self, buffer: u32)
+        ensures { self.new ≡ without_buffer buffer self.old }
+    {
+        self.rows.retain(|row| !is_of_buffer(row.scope, buffer));
+    }
+
     /// The value of an option that counts for a client in a buffer: that of the window, else of the buffer, else the
     /// global one. None exactly where the option isn't declared.
     pub fn look(&self, buffer: u32, client: u32, name: &str) -> Option<&OptionValue>
         ensures value { option_copied result ≡ seen_from (Window client buffer) name.now self.now }
         ensures none { IsNone result ↔ (value_at GlobalScope name.now self.now ≡ None) }
     {
+        self.seen(Scope::Window(client, buffer), name)
+    }
+
+    /// The value of an option that is seen from a scope outward. None exactly where the option isn't declared.
+    pub fn seen(&self, scope: Scope, name: &str) -> Option<&OptionValue>
+        ensures value { option_copied result ≡ seen_from scope name.now self.now }
+        ensures none { IsNone result ↔ (value_at GlobalScope name.now self.now ≡ None) }
+    {
         let rows = self.rows.as_slice();
         let global = value_at(rows, Scope::Global, name)?;
-        Some(seen_over(global, Scope::Window(client, buffer), name, rows))
+        Some(seen_over(global, scope, name, rows))
+    }
+
+    /// The number that an option is seen to have from a scope outward, where that is none below `low` and none above
+    /// `high`; else another one, which is given.
+    pub fn number_seen(&self, scope: Scope, name: &str, low: u32, high: u32, otherwise: u32) -> u32
+        requires least { low ≤ otherwise }
+        requires most { otherwise ≤ high }
+        ensures value { result ≡ number_within low high otherwise (seen_from scope name.now self.now) }
+        ensures least { low ≤ result }
+        ensures most { result ≤ high }
+    {
+        match self.seen(scope, name) {
+            None => otherwise,
+            Some(value) => number_of(value, low, high).unwrap_or(otherwise),
+        }
     }
 }
 

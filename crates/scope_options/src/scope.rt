@@ -1,7 +1,7 @@
 //! Where an option is set.
 
 ghost use Rattle.std.specs.Prelude.{◌≡◌};
-ghost use Rattle.scope_options.specs.Scopes.{is_same_scope};
+ghost use Rattle.scope_options.specs.Scopes.{is_same_scope, is_of_client, is_of_buffer};
 
 /// Where an option is set: everywhere, in a buffer by its number, or in a window by the numbers of its client and of
 /// its buffer.
@@ -21,5 +21,26 @@ pub(crate) fn is_same(a: Scope, b: Scope) -> bool
         (Scope::Buffer(m), Scope::Buffer(n)) => m == n,
         (Scope::Window(k, m), Scope::Window(l, n)) => k == l && m == n,
         _ => false,
+    }
+}
+
+/// Whether a scope is a window of a client.
+pub(crate) fn is_of_client(scope: Scope, client: u32) -> bool
+    ensures { result ≡ is_of_client client scope }
+{
+    match scope {
+        Scope::Window(who, _) => who == client,
+        _ => false,
+    }
+}
+
+/// Whether a scope is a buffer, or a window on it.
+pub(crate) fn is_of_buffer(scope: Scope, buffer: u32) -> bool
+    ensures { result ≡ is_of_buffer buffer scope }
+{
+    match scope {
+        Scope::Global => false,
+        Scope::Buffer(n) => n == buffer,
+        Scope::Window(_, n) => n == buffer,
     }
 }
