@@ -1,0 +1,3 @@
+pub mod NameLemmas
+pub mod ExchangeLemmas
+pub mod PieceLemmas

@@ -1,0 +1,28 @@
+-- What files in memory hold.
+use Rattle.std.specs.Prelude.{ℕ, ◌+◌, Bool, List, ◌++◌, map, take, drop, nat_le}
+use Rattle.std.specs.List.{list_all}
+use Rattle.kak_files.specs.declared.kept.MemFile.{MemFile}
+use Rattle.kak_files.specs.declared.kept.Piece.{Piece}
+use Rattle.kak_files.specs.Files.{Holds, FileRow}
+
+-- a file that was there from the beginning
+abbrev pub opening_row : MemFile → FileRow
+opening_row file = record { name = file.name; content = Holds file.bytes }
+
+-- a file that was written: its name, and then what it holds, are a piece of all bytes that were written
+abbrev pub written_row : List ℕ → Piece → FileRow
+written_row bytes piece = record {
+  name = take piece.name (drop piece.at bytes);
+  content = Holds (take piece.count (drop (piece.at + piece.name) bytes));
+}
+
+-- what is held: what was written last comes first, and what was there from the beginning last
+abbrev pub held_rows : List ℕ → List Piece → List MemFile → List FileRow
+held_rows bytes pieces opening = map (written_row bytes) pieces ++ map opening_row opening
+
+-- a piece lies among so many bytes
+abbrev pub is_within : ℕ → Piece → Bool
+is_within total piece = nat_le (piece.at + piece.name + piece.count) total
+
+abbrev pub are_within : ℕ → List Piece → Bool
+are_within total pieces = list_all (is_within total) pieces
