@@ -1,0 +1,4 @@
+pub mod FormLemmas
+pub mod LoadLemmas
+pub mod SaveLemmas
+pub mod InverseLemmas

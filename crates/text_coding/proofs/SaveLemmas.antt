@@ -1,0 +1,47 @@
+-- What a text is saved as, one part after another.
+use Rattle.std.proofs.Common.{◌≡◌, ℕ, ◌+◌, ◌<◌, ◌≤◌, Bool, true, false, cond, ◌==◌, List, [], ◌∷◌, ◌++◌, length, get_or, take, refl, sym, ap, ap₂, ◌∙◌, append_assoc, encode_utf8_all}
+use Rattle.std.proofs.lemmas.Str.{encodes-append}
+use Rattle.std.proofs.lemmas.List.{append-nil, take_more}
+use Rattle.text_model.specs.Texts.{joined, lines_of}
+use Rattle.line_buffer.proofs.FlatLemmas.{joined-more, joined-all}
+use Rattle.text_coding.specs.declared.form.Eol.{Eol}
+use Rattle.text_coding.specs.declared.form.Eol.TheVariants.{Lf, Crlf}
+use Rattle.text_coding.specs.Coding.{to_form, with_returns}
+
+with-append : (a b : List ℕ) → with_returns (a ++ b) ≡ with_returns a ++ with_returns b
+with-append [] b = refl
+with-append (c ∷ a) b = each (c == 10) (with-append a b) where
+  each : (r : Bool) → with_returns (a ++ b) ≡ with_returns a ++ with_returns b → cond r (13 ∷ (10 ∷ with_returns (a ++ b))) (c ∷ with_returns (a ++ b)) ≡ cond r (13 ∷ (10 ∷ with_returns a)) (c ∷ with_returns a) ++ with_returns b
+  each true inner = ap (λ t. 13 ∷ (10 ∷ t)) inner
+  each false inner = ap (λ t. c ∷ t) inner
+
+form-append : (eol : Eol) (a b : List ℕ) → to_form eol (a ++ b) ≡ to_form eol a ++ to_form eol b
+form-append Lf a b = refl
+form-append Crlf a b = with-append a b
+
+-- the bytes of two parts
+pub coded-append : (eol : Eol) (a b : List ℕ) → encode_utf8_all (to_form eol (a ++ b)) ≡ encode_utf8_all (to_form eol a) ++ encode_utf8_all (to_form eol b)
+coded-append eol a b = ap encode_utf8_all (form-append eol a b) ∙ encodes-append (to_form eol a) (to_form eol b)
+
+-- one character more
+pub coded-more : (eol : Eol) (cs : List ℕ) (i c : ℕ) (old mid new : List ℕ) → i < length cs → get_or cs i 0 ≡ c → mid ≡ old ++ encode_utf8_all (to_form eol (take i cs)) → new ≡ mid ++ encode_utf8_all (to_form eol (c ∷ [])) → new ≡ old ++ encode_utf8_all (to_form eol (take (i + 1) cs))
+coded-more eol cs i c old mid new inside here so_far added =
+    added ∙ ap (λ m. m ++ encode_utf8_all (to_form eol (c ∷ []))) so_far
+    ∙ append_assoc old (encode_utf8_all (to_form eol (take i cs))) (encode_utf8_all (to_form eol (c ∷ [])))
+    ∙ ap (λ t. old ++ t) (sym (ap (λ t. encode_utf8_all (to_form eol t)) (take_more cs i 0 inside ∙ ap (λ x. take i cs ++ x ∷ []) here) ∙ coded-append eol (take i cs) (c ∷ [])))
+
+-- one line more
+pub line-more : (eol : Eol) (ls : List (List ℕ)) (n : ℕ) (line old mid new : List ℕ) → n < length ls → line ≡ get_or ls n [] → mid ≡ old ++ encode_utf8_all (to_form eol (joined (take n ls))) → new ≡ mid ++ encode_utf8_all (to_form eol line) → new ≡ old ++ encode_utf8_all (to_form eol (joined (take (n + 1) ls)))
+line-more eol ls n line old mid new inside here so_far added =
+    added ∙ ap₂ (λ x y. x ++ encode_utf8_all (to_form eol y)) so_far here
+    ∙ append_assoc old (encode_utf8_all (to_form eol (joined (take n ls)))) (encode_utf8_all (to_form eol (get_or ls n [])))
+    ∙ ap (λ t. old ++ t) (sym (coded-append eol (joined (take n ls)) (get_or ls n [])))
+    ∙ ap (λ t. old ++ encode_utf8_all (to_form eol t)) (sym (joined-more ls n inside))
+
+pub lines-all : (eol : Eol) (text old : List ℕ) (n : ℕ) (new : List ℕ) → length (lines_of text) ≤ n → new ≡ old ++ encode_utf8_all (to_form eol (joined (take n (lines_of text)))) → new ≡ old ++ encode_utf8_all (to_form eol text)
+lines-all eol text old n new all so_far = so_far ∙ ap (λ t. old ++ encode_utf8_all (to_form eol t)) (joined-all text n all)
+
+-- before the first line there is what stands before the text
+pub begun : (eol : Eol) (mark here new : List ℕ) → new ≡ [] ++ here → here ≡ mark → new ≡ mark ++ encode_utf8_all (to_form eol [])
+begun Lf mark here new added same = added ∙ same ∙ sym (append-nil mark)
+begun Crlf mark here new added same = added ∙ same ∙ sym (append-nil mark)

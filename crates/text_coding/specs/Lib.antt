@@ -1,0 +1,4 @@
+pub mod Coding
+pub mod Surveying
+pub mod Laws
+pub mod Examples
