@@ -1,0 +1,50 @@
+use crate::error::OrderError;
+use crate::reading::read_order;
+use std::alloc::{AllocError, Global};
+use std::test::Fail;
+
+// The words of a text with spaces between.
+fn words_in(alloc: Global, text: &str) -> Result<Vec<String>, AllocError> {
+    let mut words = Vec::new(alloc);
+    for word in text.split(' ') {
+        words.push(String::from_str(alloc, word)?)?;
+    }
+    Ok(words)
+}
+
+// What the words of a text order, or what the error tells.
+fn answer(alloc: Global, text: &str) -> Result<String, AllocError> {
+    let words = words_in(alloc, text)?;
+    match read_order(alloc, words.as_slice()) {
+        Ok(order) => format!(in alloc; "{order:?}"),
+        Err(OrderError::NoSuchCommand(word)) => format!(in alloc; "none: {}", word.as_str()),
+        Err(OrderError::WrongArgumentCount) => String::from_str(alloc, "count"),
+        Err(OrderError::UnknownSwitch(word)) => format!(in alloc; "switch: {}", word.as_str()),
+        Err(OrderError::BadValue) => String::from_str(alloc, "value"),
+        Err(OrderError::BadSelection(word)) => format!(in alloc; "selection: {}", word.as_str()),
+        Err(OrderError::NoMemory) => String::from_str(alloc, "no memory"),
+    }
+}
+
+#[test]
+fn words_give_their_order_or_the_error(rt: HostRuntime) -> Result<(), Fail> {
+    let alloc = rt.alloc();
+    let rows = [
+        ("q!", "QuitForced"),
+        ("e é", "Edit(Utf8Text { text: \"é\" })"),
+        (
+            "select -codepoint 1.02,99999999999.4",
+            "Select(Selection { columns: Characters, ranges: Descriptions { list: [Described { anchor: Place { line: 1, column: 2 }, cursor: Place { line: 4294967295, column: 4 } }] } })",
+        ),
+        ("edits", "none: edits"),
+        ("quit now", "count"),
+        ("echo -n x", "switch: -n"),
+        ("decl -docstring t float f", "value"),
+        ("select 1.1,1.0", "selection: 1.1,1.0"),
+    ];
+    for (text, wanted) in rows {
+        let given = answer(alloc, text)?;
+        assert_eq!(rt; given.as_str(), wanted, "from {text}");
+    }
+    Ok(())
+}
