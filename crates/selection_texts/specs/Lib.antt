@@ -1,0 +1,4 @@
+pub mod Telling
+pub mod Meaning
+pub mod Laws
+pub mod Examples
