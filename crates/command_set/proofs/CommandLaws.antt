@@ -1,16 +1,185 @@
--- No command changes the world itself.
-use Rattle.std.proofs.Common.{◌≡◌, ℕ, Bool, true, false, List, refl}
-use Rattle.std.specs.Prelude.{if◌then◌else◌}
-use Rattle.kak_world.specs.declared.ask.Ask.TheVariants.{Leave}
-use Rattle.kak_world.specs.declared.ask.EditError.TheVariants.{NoSuchCommand}
-use Rattle.kak_world.specs.Flat.{Flat}
-use Rattle.kak_world.specs.Rows.{RowEnd, Asks, Fails, error_text}
-use Rattle.command_set.specs.Rows.{is_quit, row_command}
+-- Commands and what is made of files take no units, and keep those that have joined.
+use Rattle.std.proofs.Common.{◌≡◌, ◌<◌, ◌+◌, ◌*◌, ℕ, zero, suc, Bool, true, false, List, [], ◌∷◌, refl, sym, ap, ◌∙◌, arith}
+use Rattle.std.specs.Prelude.{if◌then◌else◌, is_some, unwrap_or, slice_index_or, encode_utf8_all, chars, Some, None, Ok, Err}
+use Rattle.std.specs.declared.option.Option.{Option}
+use Rattle.std.specs.declared.result.Result.{Result}
+use Rattle.tables.proofs.TableLemmas.{by_test}
+use Rattle.kak_words.specs.declared.parts.Command.{Command}
+use Rattle.kak_words.specs.Expanding.{expanded}
+use Rattle.command_forms.specs.declared.order.Order.{Order}
+use Rattle.command_forms.specs.declared.order.Order.TheVariants as order
+use Rattle.command_forms.specs.declared.error.OrderError.{OrderError}
+use Rattle.command_forms.specs.declared.places.Columns.{Columns}
+use Rattle.command_forms.specs.declared.places.Described.{Described}
+use Rattle.command_forms.specs.Orders.{order_of}
+use Rattle.kak_registers.specs.declared.names.RegisterError.{RegisterError}
+use Rattle.kak_registers.specs.Names.{named}
+use Rattle.kak_registers.specs.Contents.{set_in as set_in_registers}
+use Rattle.kak_registers.specs.Refusals.{refusal_of}
+use Rattle.scope_options.specs.declared.scope.Scope.{Scope}
+use Rattle.scope_options.specs.declared.scope.Scope.TheVariants.{Buffer as InBuffer}
+use Rattle.scope_options.specs.declared.setting.Setting.{Setting}
+use Rattle.scope_options.specs.declared.options.OptionError.{OptionError}
+use Rattle.scope_options.specs.Changes.{declare_in, set_in, unset_in}
+use Rattle.kak_world.specs.declared.ask.Saving.{Saving}
+use Rattle.kak_world.specs.Flat.{Buffer, Flat, shown_of, name_of, units_of, registers_of, options_of, is_there, with_own, with_sels, with_options}
+use Rattle.kak_world.specs.Registers.{set_unless, set_row}
+use Rattle.kak_world.specs.Dropping.{KeepsJoined, dropped}
+use Rattle.kak_world.specs.Showing.{first_gap, placed, has_all_buffers, opened, shows}
+use Rattle.kak_world.specs.Saving.{is_named, number_from, number_named, unsaved_names, others_leave, saved_in}
+use Rattle.kak_world.specs.Rows.{Row, RowEnd, Asks, does, stages_of}
+use Rattle.kak_world.proofs.WorldLaws.{units_own, units_sels, units_registers}
+use Rattle.kak_world.proofs.KeepingLaws.{keeps_own, keeps_sels, keeps_set_row}
+use Rattle.kak_world.proofs.ShownLaws.{units_shows, units_opened, units_dropped}
+use Rattle.kak_world.proofs.StayingLemmas.{keeps_dropped}
+use Rattle.kak_world.proofs.GapLemmas.{gaps_are_taken, keeps_opened}
+use Rattle.kak_world.proofs.SavingLemmas.{named-some}
+use Rattle.kak_world.proofs.JoinedLemmas.{joined_kept, joined_same, joined_then, stays_shows, keeps_options, units_options, keeps_saved, units_saved}
+use Rattle.command_set.specs.Buffers.{shown_if, show_row, edited_by_number, edit_row, dropped_unless, drop_at, drop_if, drop_row, quit_unless, quit_row, write_row, unsaved_in}
+use Rattle.command_set.specs.Options.{scope_named, is_declared, options_row, declare_row, set_scoped, set_option_row, unset_scoped, unset_option_row}
+use Rattle.command_set.specs.Registers.{register_set, register_row, echo_row}
+use Rattle.command_set.specs.Selecting.{described_selected}
+use Rattle.command_set.specs.Expanding.{table_of}
+use Rattle.command_set.specs.Rows.{row_order, row_read_order, row_words, row_expanded, row_command}
+use Rattle.command_set.specs.Laws.{IsTame}
 
-chosen : (t : Bool) (a b : RowEnd) (flat : Flat) → a.world ≡ flat → b.world ≡ flat → (if t then a else b).world ≡ flat
-chosen true a b flat e f = e
-chosen false a b flat e f = f
+-- a row that leaves the world
+tame-same : (flat : Flat) (row : Row) → IsTame flat (record { world = flat; row = row })
+tame-same flat row = record { units = refl; keeps = joined_same flat }
 
-pub command_world : (text : List ℕ) (who : ℕ) (flat : Flat) → (row_command text who flat).world ≡ flat
+-- whichever of two rows
+tame-if : (flat : Flat) (t : Bool) (a b : RowEnd) → IsTame flat a → IsTame flat b → IsTame flat (if t then a else b)
+tame-if flat true a b h g = h
+tame-if flat false a b h g = g
+
+-- a number that is found by a name is a buffer's
+named-from : (k : ℕ) (name : List ℕ) (bs : List (Option Buffer)) (n : ℕ) → number_from k name bs ≡ Some n → (m : ℕ) × (n ≡ k + m) × (is_there m bs ≡ true)
+named-from k name [] n e = absurd (let no : is_some (Some n) ≡ false = sym (ap is_some e) in cc)
+named-from k name (b ∷ bs) n e =
+    by_test (λ t. t ≡ is_named name b → (if t then Some k else number_from (k + 1) name bs) ≡ Some n → (m : ℕ) × (n ≡ k + m) × (is_there m (b ∷ bs) ≡ true)) (is_named name b)
+    (λ _ s h. (0, (let same : k ≡ n = ap (λ o. unwrap_or o 0) h in omega arith), named-some name b (sym s)))
+    (λ _ _ h. let later = named-from (k + 1) name bs n h in (suc later.0, omega (arith, later.1), later.2))
+    refl e
+
+named-there : (name : List ℕ) (flat : Flat) (n : ℕ) → number_named name flat ≡ Some n → is_there n flat.buffers ≡ true
+named-there name flat n e =
+    let found = named-from 0 name flat.buffers n e in
+    ap (λ k. is_there k flat.buffers) (let same : n ≡ found.0 = omega (arith, found.1) in same) ∙ found.2
+
+tame-shows : (who n : ℕ) (flat : Flat) → is_there n flat.buffers ≡ true → IsTame flat (does (shows who n flat))
+tame-shows who n flat t = record { units = units_shows who n flat; keeps = stays_shows who n flat t }
+
+tame-show : (name : List ℕ) (who : ℕ) (flat : Flat) → IsTame flat (show_row name who flat)
+tame-show name who flat = by (number_named (chars name) flat) refl
+  where
+    by : (o : Option ℕ) → number_named (chars name) flat ≡ o → IsTame flat (shown_if o name who flat)
+    by None e = tame-same flat _
+    by (Some n) e = tame-shows who n flat (named-there (chars name) flat n e)
+
+tame-edit : (name : List ℕ) (who : ℕ) (flat : Flat) → IsTame flat (edit_row name who flat)
+tame-edit name who flat = by (number_named (chars name) flat) refl
+  where
+    by : (o : Option ℕ) → number_named (chars name) flat ≡ o → IsTame flat (edited_by_number o name who flat)
+    by None e = tame-if flat (has_all_buffers flat) _ _ (tame-same flat _) (tame-same flat _)
+    by (Some n) e = tame-shows who n flat (named-there (chars name) flat n e)
+
+tame-dropped : (o : Option (List ℕ)) (n : ℕ) (flat : Flat) → IsTame flat (dropped_unless o n flat)
+tame-dropped None n flat = record { units = units_dropped n flat; keeps = keeps_dropped n flat }
+tame-dropped (Some name) n flat = tame-same flat _
+
+tame-drop_at : (forced : Bool) (n : ℕ) (flat : Flat) → IsTame flat (drop_at forced n flat)
+tame-drop_at forced n flat = tame-dropped (if forced then None else unsaved_in (slice_index_or flat.buffers n None)) n flat
+
+tame-drop_if : (o : Option ℕ) (forced : Bool) (name : List ℕ) (flat : Flat) → IsTame flat (drop_if o forced name flat)
+tame-drop_if None forced name flat = tame-same flat _
+tame-drop_if (Some n) forced name flat = tame-drop_at forced n flat
+
+tame-drop : (forced : Bool) (o : Option (List ℕ)) (who : ℕ) (flat : Flat) → IsTame flat (drop_row forced o who flat)
+tame-drop forced None who flat = tame-drop_at forced (shown_of who flat) flat
+tame-drop forced (Some name) who flat = tame-drop_if (number_named (chars name) flat) forced name flat
+
+-- a client leaves
+tame-quit_unless : (o : Option (List ℕ)) (flat : Flat) → IsTame flat (quit_unless o flat)
+tame-quit_unless None flat = tame-same flat _
+tame-quit_unless (Some names) flat = tame-same flat _
+
+tame-quit : (who : ℕ) (flat : Flat) → IsTame flat (quit_row who flat)
+tame-quit who flat = tame-if flat (others_leave who flat) _ _ (tame-quit_unless (unsaved_names flat) flat) (tame-same flat _)
+
+-- options
+tame-options : (name word : List ℕ) (r : Result (List Setting) OptionError) (flat : Flat) → IsTame flat (options_row name word r flat)
+tame-options name word (Ok rows) flat = record { units = units_options rows flat; keeps = joined_kept flat (with_options rows flat) (keeps_options rows flat) }
+tame-options name word (Err e) flat = tame-same flat _
+
+tame-set_scoped : (o : Option Scope) (add : Bool) (word name : List ℕ) (values : List (List ℕ)) (flat : Flat) → IsTame flat (set_scoped o add word name values flat)
+tame-set_scoped None add word name values flat = tame-same flat _
+tame-set_scoped (Some scope) add word name values flat = tame-options name word (set_in scope name values add (options_of flat)) flat
+
+tame-unset_scoped : (o : Option Scope) (word name : List ℕ) (flat : Flat) → IsTame flat (unset_scoped o word name flat)
+tame-unset_scoped None word name flat = tame-same flat _
+tame-unset_scoped (Some scope) word name flat = tame-options name word (unset_in scope name (options_of flat)) flat
+
+-- registers
+units-set : (o : Option RegisterError) (c : ℕ) (values : List (List ℕ)) (flat : Flat) → units_of (set_unless o c values flat).world ≡ units_of flat
+units-set None c values flat = units_registers (set_in_registers c values (registers_of flat)) flat
+units-set (Some e) c values flat = refl
+
+units-row : (c : ℕ) (values : List (List ℕ)) (flat : Flat) → units_of (set_row c values flat).world ≡ units_of flat
+unfolding set_row
+units-row c values flat = units-set (refusal_of c values) c values flat
+
+tame-register : (o : Option ℕ) (name : List ℕ) (values : List (List ℕ)) (flat : Flat) → IsTame flat (register_set o name values flat)
+tame-register None name values flat = tame-same flat _
+tame-register (Some c) name values flat = record { units = units-row c values flat; keeps = joined_kept flat (set_row c values flat).world (keeps_set_row c values flat) }
+
+-- selections
+tame-selected : (columns : Columns) (ds : List Described) (who : ℕ) (flat : Flat) → IsTame flat (described_selected columns ds who flat)
+tame-selected columns [] who flat = tame-same flat _
+tame-selected columns (d ∷ ds) who flat =
+    tame-if flat _ _ _ (tame-same flat _) (record { units = units_sels who _ flat; keeps = joined_kept flat (with_sels who _ flat) (keeps_sels who _ flat) })
+
+-- what is said
+tame-echo : (words : List (List ℕ)) (who : ℕ) (flat : Flat) → IsTame flat (echo_row words who flat)
+tame-echo words who flat = record { units = units_own who _ flat; keeps = joined_kept flat (with_own who _ flat) (keeps_own who _ flat) }
+
+-- all orders
+tame-order : (o : Order) (who : ℕ) (flat : Flat) → IsTame flat (row_order o who flat)
+tame-order order.Nothing who flat = tame-same flat _
+tame-order (order.Edit name) who flat = tame-edit name who flat
+tame-order (order.Write file) who flat = tame-same flat _
+tame-order order.WriteQuit who flat = tame-same flat _
+tame-order order.Quit who flat = tame-quit who flat
+tame-order order.QuitForced who flat = tame-same flat _
+tame-order (order.Buffer name) who flat = tame-show name who flat
+tame-order (order.Delete name) who flat = tame-drop false name who flat
+tame-order (order.DeleteForced name) who flat = tame-drop true name who flat
+tame-order (order.Declare d) who flat = tame-options d.name [] (declare_in d.kind d.name d.values (options_of flat)) flat
+tame-order (order.Set s) who flat =
+    tame-if flat (is_declared s.option.name flat) _ _ (tame-set_scoped (scope_named s.option.scope who flat) s.add s.option.scope s.option.name s.values flat) (tame-same flat _)
+tame-order (order.Unset o) who flat = tame-if flat (is_declared o.name flat) _ _ (tame-unset_scoped (scope_named o.scope who flat) o.scope o.name flat) (tame-same flat _)
+tame-order (order.SetRegister r) who flat = tame-register (named r.name) r.name r.values flat
+tame-order (order.Select s) who flat = tame-selected s.columns s.ranges who flat
+tame-order (order.Echo words) who flat = tame-echo words who flat
+tame-order (order.Fail text) who flat = tame-same flat _
+
+tame-read_order : (r : Result Order OrderError) (who : ℕ) (flat : Flat) → IsTame flat (row_read_order r who flat)
+tame-read_order (Ok o) who flat = tame-order o who flat
+tame-read_order (Err e) who flat = tame-same flat _
+
+tame-words : (words : List (List ℕ)) (who : ℕ) (flat : Flat) → IsTame flat (row_words words who flat)
+unfolding row_words
+tame-words words who flat = tame-read_order (order_of words) who flat
+
+tame-expanded : (r : Result (List (List ℕ)) (List ℕ)) (who : ℕ) (flat : Flat) → IsTame flat (row_expanded r who flat)
+tame-expanded (Ok words) who flat = tame-words words who flat
+tame-expanded (Err name) who flat = tame-same flat _
+
+pub tame_command : (command : Command) (who : ℕ) (flat : Flat) → IsTame flat (row_command command who flat)
 unfolding row_command
-command_world text who flat = chosen (is_quit text) (record { world = flat; row = Asks Leave }) (record { world = flat; row = Fails (error_text (NoSuchCommand text)) }) flat refl refl
+tame_command command who flat = tame-expanded (expanded (table_of who flat) command) who flat
+
+pub command_units : (command : Command) (who : ℕ) (flat : Flat) → units_of (row_command command who flat).world ≡ units_of flat
+command_units command who flat = (tame_command command who flat).units
+
+pub keeps_command : (command : Command) (who : ℕ) (flat : Flat) → KeepsJoined flat (row_command command who flat).world
+keeps_command command who flat = (tame_command command who flat).keeps

@@ -1,3 +1,5 @@
 pub mod CommandLaws
+pub mod ExpandingLemmas
+pub mod FileLaws
 pub mod FinishLaws
 pub mod UseLemmas

@@ -1,16 +1,34 @@
 -- Laws of the commands, each proved as the contract of a function of `laws`.
 use Rattle.std.specs.Prelude.{◌≡◌, ◌<◌, ◌+◌, ◌*◌, ℕ, List}
 use Rattle.std.specs.declared.option.Option.{Option}
+use Rattle.kak_ports.specs.declared.sink.Put.{Put}
+use Rattle.kak_files.specs.declared.files.FileRead.{FileRead}
+use Rattle.kak_words.specs.declared.parts.Command.{Command}
+use Rattle.kak_world.specs.declared.ask.Saving.{Saving}
 use Rattle.kak_world.specs.declared.purpose.Use.{Use}
 use Rattle.kak_world.specs.Flat.{Flat, units_of}
 use Rattle.kak_world.specs.Keeping.{KeepsClients}
-use Rattle.kak_world.specs.Rows.{stages_of}
+use Rattle.kak_world.specs.Dropping.{KeepsJoined}
+use Rattle.kak_world.specs.Rows.{RowEnd, stages_of}
 use Rattle.command_set.specs.Rows.{row_command}
+use Rattle.command_set.specs.Files.{row_read, row_saved}
 use Rattle.command_set.specs.Finishing.{row_finish}
 
--- for now, no command changes the world itself: what it is to change is asked for
-abbrev pub CommandsAsk : Type 0
-CommandsAsk = (text : List ℕ) (who : ℕ) (flat : Flat) → (row_command text who flat).world ≡ flat
+-- A row takes and gives no units; the same clients are there behind it, and each that had joined has joined still.
+pub record IsTame (flat : Flat) (end : RowEnd) : Type 0 where
+  pub units : units_of end.world ≡ units_of flat
+  pub keeps : KeepsJoined flat end.world
+
+-- no command takes units, or lets a client come or go
+abbrev pub CommandsAreTame : Type 0
+CommandsAreTame = (command : Command) (who : ℕ) (flat : Flat) → IsTame flat (row_command command who flat)
+
+-- nor does what is made of a file, behind which no row comes without a unit
+pub record FilesAreTame : Type 0 where
+  pub read : (name : List ℕ) (answer : FileRead) (who : ℕ) (flat : Flat) → IsTame flat (row_read name answer who flat)
+  pub saved : (saving : Saving) (put : Put) (who : ℕ) (flat : Flat) → IsTame flat (row_saved saving put who flat)
+  pub read_ends : (name : List ℕ) (answer : FileRead) (who : ℕ) (flat : Flat) → stages_of (row_read name answer who flat).row ≡ 0
+  pub saved_ends : (saving : Saving) (put : Put) (who : ℕ) (flat : Flat) → stages_of (row_saved saving put who flat).row ≡ 0
 
 -- a use of a pattern takes a unit where it asks for more: what may come behind it is less than what might have come before
 abbrev pub FinishFalls : Type 0

@@ -1,3 +1,10 @@
+pub mod Reading
+pub mod Buffers
+pub mod Options
+pub mod Registers
+pub mod Selecting
+pub mod Expanding
+pub mod Files
 pub mod Rows
 pub mod Finishing
 pub mod Refusing

@@ -1,12 +1,13 @@
 -- Why no list was made by a pattern, as the client is told.
-use Rattle.std.specs.Prelude.{◌≡◌, ℕ, Ok, Err, IfSome}
+use Rattle.std.specs.Prelude.{◌≡◌, ℕ, List, Ok, Err, IfSome}
 use Rattle.std.specs.declared.result.Result.{Result}
 use Rattle.selection_set.specs.Listing.{Listed}
 use Rattle.selection_set.specs.Held.{selected}
 use Rattle.regex_select.specs.declared.error.SelectError.{SelectError}
 use Rattle.regex_select.specs.declared.error.SelectError.TheVariants.{NoMatch, TooMany, NoMemory as Wanting}
 use Rattle.kak_world.specs.declared.ask.EditError.{EditError}
-use Rattle.kak_world.specs.declared.ask.EditError.TheVariants.{NothingSelected, TooManySelections, NoMemory}
+use Rattle.kak_world.specs.declared.ask.EditError.TheVariants.{NothingSelected, TooManySelections, NoMemory, Command as OfCommand}
+use Rattle.kak_world.specs.declared.command_error.CommandError.TheVariants.{UnknownExpansion}
 use Rattle.kak_world.specs.Flat.{Flat, text_of, with_sels}
 use Rattle.kak_world.specs.Rows.{RowEnd, does, row_of}
 
@@ -20,3 +21,7 @@ refusal_of Wanting = NoMemory
 abbrev pub IsListOf : Result Listed SelectError → RowEnd → ℕ → Flat → Type 0
 IsListOf (Ok sels) row who flat = row ≡ does (with_sels who (selected (text_of who flat) sels) flat)
 IsListOf (Err error) row who flat = IfSome (row_of (refusal_of error)) (λ r. row ≡ record { world = flat; row = r })
+
+-- an expansion that there isn't is told by its name; memory may run out at any time
+abbrev pub IsUnexpanded : EditError → Result (List (List ℕ)) (List ℕ) → Type 0
+IsUnexpanded error expansion = IfSome (row_of error) (λ row. (name : List ℕ) × (expansion ≡ Err name) × (error ≡ OfCommand (UnknownExpansion name)))

@@ -1,23 +1,67 @@
--- The commands: how a text is cut into them, and what each does.
-use Rattle.std.specs.Prelude.{ℕ, Bool, ◌||◌, nat_eq, if◌then◌else◌, List, [], ◌∷◌, codes}
-use Rattle.std.specs.Cmp.Lexicographic.{pointwise}
+-- The commands: what each does.
+use Rattle.std.specs.Prelude.{ℕ, true, false, List, None, Some, Ok, Err}
+use Rattle.std.specs.declared.result.Result.{Result}
+use Rattle.kak_words.specs.declared.parts.Command.{Command}
+use Rattle.kak_words.specs.Expanding.{expanded}
+use Rattle.command_forms.specs.declared.order.Order.{Order}
+use Rattle.command_forms.specs.declared.order.Order.TheVariants as order
+use Rattle.command_forms.specs.declared.error.OrderError.{OrderError}
+use Rattle.command_forms.specs.declared.error.OrderError.TheVariants as forms
+use Rattle.command_forms.specs.Orders.{order_of}
 use Rattle.kak_world.specs.declared.ask.Ask.TheVariants.{Leave}
-use Rattle.kak_world.specs.declared.ask.EditError.TheVariants.{NoSuchCommand}
+use Rattle.kak_world.specs.declared.ask.EditError.{EditError}
+use Rattle.kak_world.specs.declared.ask.EditError.TheVariants.{Command as OfCommand, NoMemory}
+use Rattle.kak_world.specs.declared.command_error.CommandError.TheVariants.{NoSuchCommand, WrongArgumentCount, UnknownSwitch, BadValue, BadSelection, UnknownExpansion}
 use Rattle.kak_world.specs.Flat.{Flat}
-use Rattle.kak_world.specs.Rows.{RowEnd, Asks, Fails, error_text}
+use Rattle.kak_world.specs.Rows.{RowEnd, does, fails}
+use Rattle.command_set.specs.Buffers.{asks, refuses, show_row, edit_row, drop_row, quit_row, write_row}
+use Rattle.command_set.specs.Options.{declare_row, set_option_row, unset_option_row}
+use Rattle.command_set.specs.Registers.{register_row, echo_row, failing}
+use Rattle.command_set.specs.Selecting.{select_row}
+use Rattle.command_set.specs.Expanding.{table_of}
 
--- the commands of a text: for now the whole text is one, and the empty text has none
-abbrev pub commands_of : List ℕ → List (List ℕ)
-commands_of [] = []
-commands_of (c ∷ cs) = (c ∷ cs) ∷ []
+-- the row of an order
+abbrev pub row_order : Order → ℕ → Flat → RowEnd
+row_order order.Nothing who flat = does flat
+row_order (order.Edit name) who flat = edit_row name who flat
+row_order (order.Write file) who flat = write_row file false who flat
+row_order order.WriteQuit who flat = write_row None true who flat
+row_order order.Quit who flat = quit_row who flat
+row_order order.QuitForced who flat = asks Leave flat
+row_order (order.Buffer name) who flat = show_row name who flat
+row_order (order.Delete name) who flat = drop_row false name who flat
+row_order (order.DeleteForced name) who flat = drop_row true name who flat
+row_order (order.Declare d) who flat = declare_row d.kind d.name d.values flat
+row_order (order.Set s) who flat = set_option_row s.add s.option.scope s.option.name s.values who flat
+row_order (order.Unset o) who flat = unset_option_row o.scope o.name who flat
+row_order (order.SetRegister r) who flat = register_row r.name r.values flat
+row_order (order.Select s) who flat = select_row s who flat
+row_order (order.Echo words) who flat = echo_row words who flat
+row_order (order.Fail text) who flat = fails (failing text) flat
 
--- whether a text is the command that leaves
-abbrev pub is_quit : List ℕ → Bool
-is_quit text = pointwise nat_eq text (codes "quit") || pointwise nat_eq text (codes "q")
+-- by what a client is told why words are no order
+abbrev pub order_refusal : OrderError → EditError
+order_refusal (forms.NoSuchCommand word) = OfCommand (NoSuchCommand word)
+order_refusal forms.WrongArgumentCount = OfCommand WrongArgumentCount
+order_refusal (forms.UnknownSwitch word) = OfCommand (UnknownSwitch word)
+order_refusal forms.BadValue = OfCommand BadValue
+order_refusal (forms.BadSelection word) = OfCommand (BadSelection word)
+order_refusal forms.NoMemory = NoMemory
 
--- the row of a command
-unfoldable pub row_command : List ℕ → ℕ → Flat → RowEnd
-row_command text who flat =
-    if is_quit text
-    then record { world = flat; row = Asks Leave }
-    else record { world = flat; row = Fails (error_text (NoSuchCommand text)) }
+-- the row of an order, or why words are none
+abbrev pub row_read_order : Result Order OrderError → ℕ → Flat → RowEnd
+row_read_order (Ok o) who flat = row_order o who flat
+row_read_order (Err e) who flat = fails (order_refusal e) flat
+
+-- the row of a command's words
+unfoldable pub row_words : List (List ℕ) → ℕ → Flat → RowEnd
+row_words words who flat = row_read_order (order_of words) who flat
+
+-- the row of the words that a command stands for, or the name of an expansion that there isn't
+abbrev pub row_expanded : Result (List (List ℕ)) (List ℕ) → ℕ → Flat → RowEnd
+row_expanded (Ok words) who flat = row_words words who flat
+row_expanded (Err name) who flat = refuses (UnknownExpansion name) flat
+
+-- the row of a command, whose words are expanded first
+unfoldable pub row_command : Command → ℕ → Flat → RowEnd
+row_command command who flat = row_expanded (expanded (table_of who flat) command) who flat

@@ -1,30 +1,129 @@
-//! The rows of commands.
+//! The commands: how a text is read as them, and the row of each.
+#![tactic(auto, using(kak_world::proofs::WorldLaws::world_laws))]
 
-ghost use Rattle.std.specs.Prelude.{◌≡◌, true};
-ghost use Rattle.kak_world.specs.Flat.{is_joined, units_of};
-ghost use Rattle.kak_world.specs.Rows.{Gives};
-ghost use Rattle.command_set.specs.Rows.{is_quit, row_command};
+ghost use Rattle.std.specs.Prelude.{◌≡◌, true, map, string_bytes, Ok, Err, IfOk, IfErr, IfSome};
+ghost use Rattle.kak_words.specs.Expanding.{expanded as words_expanded};
+ghost use Rattle.kak_world.specs.Flat.{is_joined};
+ghost use Rattle.kak_world.specs.Rows.{Gives, row_of};
+ghost use Rattle.command_set.specs.Reading.{commands_of};
+ghost use Rattle.command_set.specs.Expanding.{table_of};
+ghost use Rattle.command_set.specs.Refusing.{IsUnexpanded};
+ghost use Rattle.command_set.specs.Rows.{row_order, order_refusal, row_words, row_command};
 
-use kak_text::Chars;
-use kak_world::{Ask, EditError, World};
+use crate::expansions::Expansions;
+use crate::{buffers, options, registers, selecting};
+use command_forms::{Order, OrderError, read_order};
+use kak_words::{Command, WordError, expand, read_commands};
+use kak_world::{Ask, CommandError, EditError, World};
+use key_rows::string_of;
 use std::alloc::Global;
 
-// Whether a text is the command that leaves.
-fn is_quit(text: &[char]) -> bool
-    ensures { result ≡ is_quit text.now }
+/// The commands of a text. `Unclosed` tells the character, from 0, at which a quote or a bracket opens that isn't closed.
+pub fn read(alloc: Global, text: &[char]) -> Result<Vec<Command>, EditError>
+    ensures commands { IfOk result (λ v. commands_of text.now ≡ Ok v.items) }
+    ensures why { IfErr result (λ error. IfSome (row_of error) (λ row. commands_of text.now ≡ Err error)) }
 {
-    text == ['q', 'u', 'i', 't'].as_slice() || text == ['q'].as_slice()
+    let text = string_of(alloc, text)?;
+    match read_commands(alloc, text.as_str()) {
+        Ok(commands) => Ok(commands),
+        Err(WordError::Unclosed(at)) => Err(EditError::Command(CommandError::Unclosed(at))),
+        Err(WordError::UnknownExpansion(name)) => {
+            Err(EditError::Command(CommandError::UnknownExpansion(name)))
+        }
+        Err(WordError::NoMemory) => Err(EditError::NoMemory),
+    }
 }
 
-/// Runs one command, which is the whole text. `NoSuchCommand` comes exactly where the text is none; it leaves the world.
-#[tactic(auto, unfolding(crate::specs::Rows::row_command))]
-pub fn command(alloc: Global, world: &mut World, who: u32, text: &[char]) -> Result<Ask, EditError>
+// Does what a command orders.
+fn run_order(alloc: Global, world: &mut World, who: u32, order: Order) -> Result<Ask, EditError>
     requires { is_joined who world.old.flat ≡ true }
-    ensures row { Gives result world.new.flat (row_command text.now who world.old.flat) }
-    ensures units { units_of world.new.flat ≡ units_of world.old.flat }
+    ensures row { Gives result world.new.flat (row_order order who world.old.flat) }
 {
-    if is_quit(text) {
-        return Ok(Ask::Leave);
+    match order {
+        Order::Nothing => {}
+        Order::Edit(name) => return buffers::edit(alloc, world, who, name),
+        Order::Write(file) => return buffers::write(alloc, world, who, file, false),
+        Order::WriteQuit => return buffers::write(alloc, world, who, None, true),
+        Order::Quit => return buffers::quit(alloc, world, who),
+        Order::QuitForced => return Ok(Ask::Leave),
+        Order::Buffer(name) => buffers::show(alloc, world, who, name)?,
+        Order::Delete(name) => buffers::drop_buffer(alloc, world, who, name, false)?,
+        Order::DeleteForced(name) => buffers::drop_buffer(alloc, world, who, name, true)?,
+        Order::Declare(declaration) => options::declare(alloc, world, declaration)?,
+        Order::Set(setting) => options::set(alloc, world, who, setting)?,
+        Order::Unset(option) => options::unset(world, who, option)?,
+        Order::SetRegister(register) => registers::set(alloc, world, register)?,
+        Order::Select(selection) => selecting::select(alloc, world, who, &selection)?,
+        Order::Echo(words) => registers::echo(alloc, world, who, &words)?,
+        Order::Fail(text) => return Err(registers::fail(alloc, text)),
     }
-    Err(EditError::NoSuchCommand(Chars::from_slice(alloc, text)?))
+    Ok(Ask::Nothing)
+}
+
+// By what a client is told why words are no order.
+fn order_refusal(error: OrderError) -> EditError
+    ensures { result ≡ order_refusal error }
+{
+    match error {
+        OrderError::NoSuchCommand(word) => EditError::Command(CommandError::NoSuchCommand(word)),
+        OrderError::WrongArgumentCount => EditError::Command(CommandError::WrongArgumentCount),
+        OrderError::UnknownSwitch(word) => EditError::Command(CommandError::UnknownSwitch(word)),
+        OrderError::BadValue => EditError::Command(CommandError::BadValue),
+        OrderError::BadSelection(word) => EditError::Command(CommandError::BadSelection(word)),
+        OrderError::NoMemory => EditError::NoMemory,
+    }
+}
+
+/// Runs one command, by its words. A refusal leaves the world.
+#[tactic(auto, using(kak_world::proofs::WorldLaws::world_laws), unfolding(crate::specs::Rows::row_words))]
+pub fn command(
+    alloc: Global,
+    world: &mut World,
+    who: u32,
+    words: &[String],
+) -> Result<Ask, EditError>
+    requires { is_joined who world.old.flat ≡ true }
+    ensures row { Gives result world.new.flat (row_words (map (λ w. string_bytes w) words.now) who world.old.flat) }
+{
+    match read_order(alloc, words) {
+        Ok(order) => run_order(alloc, world, who, order),
+        Err(error) => Err(order_refusal(error)),
+    }
+}
+
+// The words that a command stands for, for a client.
+fn expanded(
+    alloc: Global,
+    world: &World,
+    who: u32,
+    command: &Command,
+) -> Result<Vec<String>, EditError>
+    requires { is_joined who world.now.flat ≡ true }
+    ensures words { IfOk result (λ v. words_expanded (table_of who world.now.flat) command.now ≡ Ok (map (λ w. string_bytes w) v.items)) }
+    ensures why { IfErr result (λ error. IsUnexpanded error (words_expanded (table_of who world.now.flat) command.now)) }
+{
+    match expand(alloc, command, &Expansions { world, who }) {
+        Ok(words) => Ok(words),
+        Err(WordError::UnknownExpansion(name)) => {
+            Err(EditError::Command(CommandError::UnknownExpansion(name)))
+        }
+        Err(WordError::Unclosed(at)) => Err(EditError::Command(CommandError::Unclosed(at))),
+        Err(WordError::NoMemory) => Err(EditError::NoMemory),
+    }
+}
+
+/// Runs one command, whose words are expanded first: `UnknownExpansion` comes where there is no such expansion. A refusal
+/// leaves the world.
+#[tactic(auto, using(kak_world::proofs::WorldLaws::world_laws), unfolding(crate::specs::Rows::row_command))]
+pub fn run_command(
+    alloc: Global,
+    world: &mut World,
+    who: u32,
+    command_read: &Command,
+) -> Result<Ask, EditError>
+    requires { is_joined who world.old.flat ≡ true }
+    ensures row { Gives result world.new.flat (row_command command_read.now who world.old.flat) }
+{
+    let words = expanded(alloc, world, who, command_read)?;
+    command(alloc, world, who, words.as_slice())
 }

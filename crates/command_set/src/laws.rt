@@ -1,11 +1,16 @@
 //! Laws of the commands, and worked examples of the definitions: each is the contract of a function that does nothing.
 
 ghost use Rattle.command_set.specs.Examples.{Examples};
-ghost use Rattle.command_set.specs.Laws.{CommandsAsk, FinishFalls, FinishKeepsClients};
+ghost use Rattle.command_set.specs.Laws.{CommandsAreTame, FilesAreTame, FinishFalls, FinishKeepsClients};
 
-/// For now, no command changes the world itself: what it is to change is asked for.
-pub fn commands_ask()
-    ensures { CommandsAsk }
+/// No command takes units, or lets a client come or go.
+pub fn commands_are_tame()
+    ensures { CommandsAreTame }
+{}
+
+/// Nor does what is made of a file, behind which no row comes without a unit.
+pub fn files_are_tame()
+    ensures { FilesAreTame }
 {}
 
 /// A use of a pattern takes a unit where it asks for more.

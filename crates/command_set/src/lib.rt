@@ -1,9 +1,17 @@
 //! The commands: one row for each; and what is made of the patterns that keys ask for.
 #![tactic(auto)]
 
+mod buffers;
 pub mod commands;
+mod expansions;
+pub mod files;
 pub mod finishing;
 pub mod laws;
+mod options;
+mod registers;
+mod selecting;
+mod value_names;
 
-pub use commands::command;
+pub use commands::{command, read, run_command};
+pub use files::{bytes_saved, note_saved, open_read};
 pub use finishing::finish;

@@ -124,14 +124,14 @@ abbrev pub after_following : ℕ → Flat → Flat
 after_following who flat =
     with_view who
     (followed (view_of who flat) (main_cursor (text_of who flat) (sels_of who flat)).line
-    (main_column (tabstop_of flat) (text_of who flat) (sels_of who flat)) (main_cells (tabstop_of flat) (text_of who flat) (sels_of who flat)) 0)
+    (main_column (tabstop_of who flat) (text_of who flat) (sels_of who flat)) (main_cells (tabstop_of who flat) (text_of who flat) (sels_of who flat)) 0)
     flat
 
 -- what a client is shown, whose window has followed its main cursor
 unfoldable pub drawing_of : ℕ → Flat → Drawing
 drawing_of who flat = record {
   first = not (is_drawn who flat);
-  lines = drawn_lines (tabstop_of flat) (text_of who flat) (sels_of who flat) (view_of who flat);
+  lines = drawn_lines (tabstop_of who flat) (text_of who flat) (sels_of who flat) (view_of who flat);
   default_face = standard_face name.Default;
   padding_face = standard_face name.BufferPadding;
   status = record { atoms = atoms_of (status_line (mode_of who flat) (status_of who flat) (purpose_of who flat) (prompt_of who flat)) };
@@ -139,7 +139,7 @@ drawing_of who flat = record {
     atoms = atoms_of (mode_shown (name_of who flat) (main_cursor (text_of who flat) (sels_of who flat)) (mode_of who flat) (sels_of who flat) (number_of who flat));
   };
   status_face = standard_face name.StatusLine;
-  cursor = cursor_drawn (tabstop_of flat) (mode_of who flat) (main_cursor (text_of who flat) (sels_of who flat)).line
-      (main_column (tabstop_of flat) (text_of who flat) (sels_of who flat)) (view_of who flat) (purpose_of who flat) (prompt_of who flat);
+  cursor = cursor_drawn (tabstop_of who flat) (mode_of who flat) (main_cursor (text_of who flat) (sels_of who flat)).line
+      (main_column (tabstop_of who flat) (text_of who flat) (sels_of who flat)) (view_of who flat) (purpose_of who flat) (prompt_of who flat);
   info = Keep;
 }

@@ -10,6 +10,7 @@ use Rattle.kak_world.specs.declared.own.Status.TheVariants.{Quiet, Said, Refused
 use Rattle.kak_world.specs.declared.purpose.Toward.TheVariants.{Next, Former}
 use Rattle.kak_world.specs.declared.purpose.Use.TheVariants.{Select, Split, Keep as KeepThose, Drop, Search, Reach}
 use Rattle.kak_world.specs.declared.purpose.Purpose.TheVariants.{Commands, Pattern}
+use Rattle.scope_options.specs.Settings.{given}
 use Rattle.kak_world.specs.Flat.{Flat, made, opening, joined_by, with_sels, with_own, view_of}
 use Rattle.line_painting.specs.Atoms.{atoms_of}
 use Rattle.line_painting.specs.Painting.{alone}
@@ -22,7 +23,7 @@ opened = joined_by 0 opening
 
 -- a world with a line of ASCII characters
 abbrev pub holding : List ℕ → Flat
-holding text = joined_by 0 (record { buffers = Some (made (codes "*scratch*") false text) ∷ []; clients = []; rest = record { units = 0; registers = []; tabstop = 8 } })
+holding text = joined_by 0 (record { buffers = Some (made (codes "*scratch*") false text) ∷ []; clients = []; rest = record { units = 0; registers = []; options = given } })
 
 -- a prompt with this before its cursor, and this from it on
 abbrev pub halves : List ℕ → List ℕ → Halves

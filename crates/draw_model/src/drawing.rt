@@ -38,13 +38,13 @@ fn cursor_at(world: &World, who: u32) -> Coord
 fn find_cursor(world: &World, who: u32) -> MainCursor
     requires { is_joined who world.now.flat ≡ true }
     ensures at { result.at ≡ main_cursor (text_of who world.now.flat) (sels_of who world.now.flat) }
-    ensures column { result.column ≡ main_column (tabstop_of world.now.flat) (text_of who world.now.flat) (sels_of who world.now.flat) }
-    ensures cells { result.cells ≡ main_cells (tabstop_of world.now.flat) (text_of who world.now.flat) (sels_of who world.now.flat) }
+    ensures column { result.column ≡ main_column (tabstop_of who world.now.flat) (text_of who world.now.flat) (sels_of who world.now.flat) }
+    ensures cells { result.cells ≡ main_cells (tabstop_of who world.now.flat) (text_of who world.now.flat) (sels_of who world.now.flat) }
     ensures small { result.column + result.cells < 2 ^ 32 }
 {
     let at = cursor_at(world, who);
     let line = world.lines(who).line(at.line as usize);
-    let tabstop = world.tabstop();
+    let tabstop = world.tabstop(who);
     let column = cell_of(line, at.column as usize, tabstop);
     MainCursor {
         at,
@@ -106,7 +106,7 @@ pub fn draw(alloc: Global, world: &World, who: u32) -> Result<Drawing, AllocErro
     let sels = world.sels(who);
     let main = find_cursor(world, who);
     let window = world.window(who);
-    let tabstop = world.tabstop();
+    let tabstop = world.tabstop(who);
     let own = world.own(who);
     Ok(Drawing {
         first: !own.drawn,

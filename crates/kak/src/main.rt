@@ -2,6 +2,7 @@
 #![tactic(auto)]
 
 use kak_app::{Status, run};
+use kak_files::DiskFiles;
 use kak_ports::{ReadSource, WriteSink};
 use regex_ports::RegexMaker;
 use std::process::ExitCode;
@@ -24,15 +25,16 @@ fn without_words(error: &io::Error) -> Status {
     }
 }
 
-// Runs the program over its standard input and output.
+// Runs the program over its standard input and output, with the files of the disk.
 fn run_with(rt: &HostRuntime, words: &[String]) -> Status {
     let mut input = ReadSource::new(rt.stdin());
     let mut output = WriteSink::new(rt.stdout());
-    let (status, _patterns) = run(
+    let (status, _files, _patterns) = run(
         rt.alloc(),
         words,
         &mut input,
         &mut output,
+        DiskFiles::new(rt, rt.alloc()),
         RegexMaker::new(),
     );
     status

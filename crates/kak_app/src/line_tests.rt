@@ -1,8 +1,8 @@
 ghost use Rattle.std.specs.Prelude.{◌<◌};
 
+use crate::test_outside::{NoFiles, NoPatterns};
 use kak_engine::LoneSeat;
 use kak_ports::{FailingCalls, MemSink, MemSource};
-use regex_ports::RegexMaker;
 use session_lines::{InputEnd, open, play_source};
 use std::alloc::Global;
 use std::test::Fail;
@@ -43,7 +43,7 @@ fn play(alloc: Global, input: &str, piece: usize) -> Result<Session, Fail>
     bytes.extend_from_slice(input.as_bytes())?;
     let mut source = MemSource::new(bytes, piece, FailingCalls::none(alloc));
     let mut sink = MemSink::new(alloc, 100_000, FailingCalls::none(alloc))?;
-    let mut seat = LoneSeat::new(alloc, RegexMaker::new(), 1_000, 0)?;
+    let mut seat = LoneSeat::new(alloc, NoFiles::new(), NoPatterns::new(), 1_000, 0)?;
     let mut out = Vec::new(alloc);
     let mut part = Vec::new(alloc);
     open(alloc, &mut seat, &mut sink, &mut out)?;

@@ -2,9 +2,11 @@
 
 ghost use Rattle.std.specs.Prelude.{◌≡◌, map, string_bytes, IsTrue, false};
 ghost use Rattle.kak_ports.specs.Ports.{Inlet, Outlet};
+ghost use Rattle.kak_engine.specs.Honesty.{IsUntouched};
 ghost use Rattle.kak_app.specs.Runs.{Ran, code_of, ui_json, Answers};
 
 use kak_engine::{LoneSeat, NoEngine};
+use kak_files::Files;
 use kak_ports::{Sink, Source};
 use regex_ports::PatternMaker;
 use session_lines::{InputEnd, Stop, serve};
@@ -60,21 +62,24 @@ fn are_ui_json(words: &[String]) -> bool
     }
 }
 
-// Serves the one client of a new session. Gives back the maker of patterns.
-fn serve_client<I: Source, K: Sink, M: PatternMaker>(
+// Serves the one client of a new session. Gives back the files and the maker of patterns.
+fn serve_client<I: Source, K: Sink, F: Files, M: PatternMaker>(
     alloc: Global,
     input: &mut I,
     output: &mut K,
+    files: F,
     patterns: M,
-) -> (Result<InputEnd, Stop>, M)
+) -> (Result<InputEnd, Stop>, F, M)
+    requires { IsUntouched (F.shelf files).told }
     ensures { Ran result.0 (I.inlet input.old) (I.inlet input.new) (K.outlet output.old) (K.outlet output.new) }
 {
-    match LoneSeat::new(alloc, patterns, MAX_ENTRIES, 0) {
+    match LoneSeat::new(alloc, files, patterns, MAX_ENTRIES, 0) {
         Ok(mut seat) => {
             let ended = serve(alloc, &mut seat, input, output);
-            (ended, seat.into_patterns())
+            let (files, patterns) = seat.into_outside();
+            (ended, files, patterns)
         }
-        Err(NoEngine { patterns }) => (Err(Stop::NoMemory), patterns),
+        Err(NoEngine { files, patterns }) => (Err(Stop::NoMemory), files, patterns),
     }
 }
 
@@ -96,21 +101,24 @@ fn status_of(ended: Result<InputEnd, Stop>) -> Status
 }
 
 /// Runs the program: its words are to be `-ui json`, its input has the client's lines, and its output is sent what the
-/// client is shown and refused. The client has the number 0. The maker of patterns is given back.
-pub fn run<I: Source, K: Sink, M: PatternMaker>(
+/// client is shown and refused. The client has the number 0. The files, which hold what they held when they were made where
+/// they tell it, and the maker of patterns are given back.
+pub fn run<I: Source, K: Sink, F: Files, M: PatternMaker>(
     alloc: Global,
     words: &[String],
     input: &mut I,
     output: &mut K,
+    files: F,
     patterns: M,
-) -> (Status, M)
+) -> (Status, F, M)
+    requires { IsUntouched (F.shelf files).told }
     ensures refused { (map (λ word. string_bytes word) words.now ≡ ui_json → ⊥) → result.0 ≡ Status.Usage }
     ensures taken { map (λ word. string_bytes word) words.now ≡ ui_json → result.0 ≡ Status.Usage → ⊥ }
     ensures answers { Answers result.0 (I.inlet input.old) (I.inlet input.new) (K.outlet output.old) (K.outlet output.new) }
 {
     if !are_ui_json(words) {
-        return (Status::Usage, patterns);
+        return (Status::Usage, files, patterns);
     }
-    let (ended, patterns) = serve_client(alloc, input, output, patterns);
-    (status_of(ended), patterns)
+    let (ended, files, patterns) = serve_client(alloc, input, output, files, patterns);
+    (status_of(ended), files, patterns)
 }

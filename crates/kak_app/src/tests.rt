@@ -1,8 +1,8 @@
 ghost use Rattle.std.specs.Prelude.{◌<◌};
 
+use crate::test_outside::{NoFiles, NoPatterns};
 use crate::{Status, run};
 use kak_ports::{FailingCalls, MemSink, MemSource};
-use regex_ports::RegexMaker;
 use std::alloc::Global;
 use std::test::Fail;
 
@@ -33,14 +33,21 @@ fn words(alloc: Global, form: &str) -> Result<Vec<String>, Fail> {
     Ok(words)
 }
 
-// Runs the program, with patterns that are regular expressions.
+// Runs the program, with no files and no patterns.
 fn run_words(
     alloc: Global,
     words: &[String],
     source: &mut MemSource,
     sink: &mut MemSink,
 ) -> Status {
-    let (status, _patterns) = run(alloc, words, source, sink, RegexMaker::new());
+    let (status, _files, _patterns) = run(
+        alloc,
+        words,
+        source,
+        sink,
+        NoFiles::new(),
+        NoPatterns::new(),
+    );
     status
 }
 

@@ -1,184 +1,256 @@
 -- How parts of a step are put together from the calls that the code makes.
-use Rattle.std.proofs.Common.{◌≡◌, ℕ, suc, List, [], ◌∷◌, ◌++◌, refl, sym, ap, ◌∙◌, subst, arith, append-nil}
+use Rattle.std.proofs.Common.{◌≡◌, ℕ, suc, ◌≤◌, List, [], ◌∷◌, ◌++◌, refl, sym, ap, ◌∙◌, subst, arith, append-nil}
 use Rattle.std.proofs.lemmas.List.{append_assoc}
-use Rattle.std.specs.Prelude.{Ok, Err, IfOk, OnOk, IsErr, length, true, ◌<◌, encode_utf8_all}
-use Rattle.std.specs.Prelude.{Some}
-use Rattle.std.specs.List.{list_any}
+use Rattle.std.specs.Prelude.{Ok, Err, Some, IfOk, IfSome, OnOk, IsErr, true, encode_utf8_all}
+use Rattle.std.specs.declared.option.Option.{Option}
 use Rattle.std.specs.declared.result.Result.{Result}
 use Rattle.std.specs.declared.alloc.AllocError.{AllocError}
-use Rattle.kak_world.specs.declared.ask.Ask.{Ask}
-use Rattle.kak_world.specs.declared.ask.EditError.{EditError}
-use Rattle.kak_world.specs.declared.ask.EditError.TheVariants.{TextFull, UndoFull, NothingToUndo, NothingToRedo, NoSuchNode, NoSuchRegister, ReadOnlyRegister, RegisterFull, SharedLine, NoSuchCommand, BadPattern, NothingSelected, TooManySelections, BudgetSpent, NoMemory}
-use Rattle.kak_world.specs.Flat.{Flat, is_joined, units_of, with_units}
-use Rattle.kak_world.specs.Rows.{Asks, Fails, GivesUp, RowEnd, Gives, error_text}
-use Rattle.command_set.specs.Rows.{row_command}
-use Rattle.command_set.specs.Finishing.{row_finish, source_of}
-use Rattle.kak_world.specs.declared.ask.Ask.TheVariants.{Make}
-use Rattle.kak_world.specs.declared.purpose.PatternUse.{PatternUse}
+use Rattle.kak_files.specs.declared.files.FileRead.{FileRead}
+use Rattle.kak_files.specs.declared.files.FileRead.TheVariants as file
+use Rattle.kak_files.specs.Exchanges.{Exchange, Read as WasRead, Written}
+use Rattle.kak_ports.specs.declared.sink.Put.{Put}
+use Rattle.kak_ports.specs.declared.sink.Put.TheVariants as put
 use Rattle.regex_ports.specs.declared.maker.Made.{Made}
 use Rattle.regex_ports.specs.declared.maker.Made.TheVariants as maker
-use Rattle.regex_ports.specs.Making.{IfBuilt, IsCounted}
-use Rattle.session_events.specs.declared.event.Answered.{Answered}
-use Rattle.session_events.specs.declared.event.Answered.TheVariants.{Built, Refused}
-use Rattle.kak_engine.specs.declared.doing.Ending.{Ending}
-use Rattle.kak_engine.specs.Doing.{End, Fine, Failed, GivenUp, Moment, Outcome, Part, ends, after, unit_of, with_unit, go_on, run_text, Do, top, budget_spent}
-use Rattle.kak_engine.specs.Seen.{Does, Ends, end_seen, end_of, moment_of, UnderWay, under_way}
-use Rattle.kak_engine.specs.Honesty.{told_of, is_refused, Stood}
-use Rattle.kak_world.specs.Keeping.{KeepsClients}
+use Rattle.regex_ports.specs.Making.{IfBuilt}
+use Rattle.command_set.specs.Files.{row_read, bytes_of, row_saved}
+use Rattle.command_set.specs.Finishing.{row_finish, source_of}
+use Rattle.kak_world.specs.declared.ask.Ask.TheVariants.{Make, Read, Write}
+use Rattle.kak_world.specs.declared.ask.Saving.{Saving}
+use Rattle.kak_world.specs.declared.purpose.PatternUse.{PatternUse}
+use Rattle.kak_words.specs.declared.parts.Command.{Command}
+use Rattle.kak_world.specs.declared.ask.Ask.{Ask}
+use Rattle.kak_world.specs.declared.ask.EditError.{EditError}
+use Rattle.kak_world.specs.declared.ask.EditError.TheVariants.{TextFull, UndoFull, NothingToUndo, NothingToRedo, NoSuchNode, NoSuchRegister, ReadOnlyRegister, RegisterFull, SharedLine, Command as OfCommand, BadPattern, NothingSelected, TooManySelections, BudgetSpent, NoMemory}
+use Rattle.kak_world.specs.Dropping.{KeepsJoined}
+use Rattle.kak_world.specs.Flat.{Flat, is_joined, units_of, with_units}
+use Rattle.kak_world.specs.Rows.{Row, Asks, Fails, GivesUp, RowEnd, Gives, error_text, row_of}
 use Rattle.kak_world.proofs.WorldLaws.{joined_units}
+use Rattle.session_events.specs.declared.event.Answered.{Answered}
+use Rattle.kak_engine.specs.declared.doing.Ending.{Ending}
+use Rattle.kak_engine.specs.Answering.{as_made, as_read, as_put, made_told, read_told, put_told}
+use Rattle.kak_engine.specs.Doing.{End, Fine, Failed, GivenUp, Moment, Outcome, Part, Go, end_of, each, unit_of, with_unit, go_on, run_command, run_read, taken_as, next_as, go_back, by_making, by_reading, by_writing, Do, top, budget_spent}
+use Rattle.kak_engine.specs.Honesty.{Outside, Stays, IsHonest}
+use Rattle.kak_engine.specs.Seen.{Does, Ends, end_seen, moment_of, UnderWay, under_way}
+use Rattle.kak_engine.proofs.CarryingLaws.{Keeps}
 use Rattle.kak_engine.proofs.DoingLemmas.{Do-body}
-use Rattle.kak_engine.proofs.HonestLemmas.{stood-same, stood-le, stood-stood, rose-then, rose-stood, stood-counts, counts-stood}
-use Rattle.kak_engine.proofs.KeepingLaws.{Keeps}
+use Rattle.kak_engine.proofs.HonestLemmas.{honest-none, honest-behind, honest-stays, stays-still, stays-behind}
 
 -- a part that is another one
 pub ends-by : (r : Result Ending AllocError) (f g : Part) (old new : UnderWay) → ((m : Moment) → f m ≡ g m) → Ends r g old new → Ends r f old new
 ends-by (Err e) f g old new h d = d
-ends-by (Ok e) f g old new h d = record { used = d.used; kept = d.kept; leads = λ later. h (moment_of (d.used ++ later) old.world) ∙ d.leads later; honest = d.honest }
+ends-by (Ok e) f g old new h d = record { used = d.used; exchanged = d.exchanged; kept = d.kept; leads = λ before later. h (moment_of before (d.used ++ later) old.world) ∙ d.leads before later; honest = d.honest }
 
 -- a part that asks the outside for nothing
-pub does-alone : (part : Part) (old now : Flat) (had : List Answered) (refusals : ℕ) (end : End) → ((answers : List Answered) → part (moment_of answers old) ≡ record { moment = moment_of answers now; end = end })
-    → Does part (under_way old had refusals) (under_way now had refusals) end
-does-alone part old now had refusals end h = record { used = []; kept = sym (append-nil had); leads = h; honest = stood-same refusals }
+pub does-alone : (part : Part) (old now : Flat) (had : List Answered) (o : Outside) (end : End)
+    → ((exchanges : List Exchange) (answers : List Answered) → part (moment_of exchanges answers old) ≡ record { moment = moment_of exchanges answers now; end = end })
+    → Does part (under_way old had o) (under_way now had o) end
+does-alone part old now had o end h = record {
+  used = [];
+  exchanged = [];
+  kept = sym (append-nil had);
+  leads = λ before later. h before later ∙ ap (λ (x : List Exchange). let q : Outcome = record { moment = moment_of x later now; end = end } in q) (sym (append-nil before));
+  honest = honest-none o;
+}
 
-pub ends-alone : (r : Result Ending AllocError) (part : Part) (old now : Flat) (had : List Answered) (refusals : ℕ) → IfOk r (λ e. (answers : List Answered) → part (moment_of answers old) ≡ record { moment = moment_of answers now; end = end_seen e })
-    → Ends r part (under_way old had refusals) (under_way now had refusals)
-ends-alone (Err e) part old now had refusals h = stood-same refusals
-ends-alone (Ok e) part old now had refusals h = does-alone part old now had refusals (end_seen e) h
+pub ends-alone : (r : Result Ending AllocError) (part : Part) (old now : Flat) (had : List Answered) (o : Outside)
+    → IfOk r (λ e. (exchanges : List Exchange) (answers : List Answered) → part (moment_of exchanges answers old) ≡ record { moment = moment_of exchanges answers now; end = end_seen e })
+    → Ends r part (under_way old had o) (under_way now had o)
+ends-alone (Err e) part old now had o h = stays-still o
+ends-alone (Ok e) part old now had o h = does-alone part old now had o (end_seen e) h
 
 -- what is asked for is done behind a row that asks for it
-pub row-asks : (who : ℕ) (ask : Ask) (r : Result Ending AllocError) (now : Flat) (had : List Answered) (refusals : ℕ) (new : UnderWay) → Ends r (λ m. Do who top (Asks ask) m) (under_way now had refusals) new
-    → (before : Flat) (end : RowEnd) → Gives (Ok ask) now end → Ends r (λ m. go_on (Do who) top end m) (under_way before had refusals) new
-row-asks who ask (Err e) now had refusals new d before end g = d
-row-asks who ask (Ok e) now had refusals new d before end g = record {
+pub row-asks : (who : ℕ) (ask : Ask) (r : Result Ending AllocError) (now : Flat) (had : List Answered) (o : Outside) (new : UnderWay) → Ends r (λ m. Do who top (Asks ask) m) (under_way now had o) new
+    → (before : Flat) (end : RowEnd) → Gives (Ok ask) now end → Ends r (λ m. go_on (Do who) top end m) (under_way before had o) new
+row-asks who ask (Err e) now had o new d before end g = d
+row-asks who ask (Ok e) now had o new d before end g = record {
   used = d.used;
+  exchanged = d.exchanged;
   kept = d.kept;
-  leads = λ later. ap (λ (x : RowEnd). go_on (Do who) top x (moment_of (d.used ++ later) before)) g ∙ d.leads later;
+  leads = λ es later. ap (λ (x : RowEnd). go_on (Do who) top x (moment_of es (d.used ++ later) before)) g ∙ d.leads es later;
   honest = d.honest;
 }
 
-failed-row : (who : ℕ) (text : List ℕ) (e : Ending) (now before : Flat) (end : RowEnd) → end ≡ record { world = now; row = Fails text } → end_seen e ≡ Failed text
-    → (answers : List Answered) → go_on (Do who) top end (moment_of answers before) ≡ record { moment = moment_of answers now; end = end_seen e }
-failed-row who text e now before end g f answers =
-    ap (λ (x : RowEnd). go_on (Do who) top x (moment_of answers before)) g
-    ∙ Do-body who top (Fails text) (moment_of answers now)
-    ∙ ap (λ (x : End). let o : Outcome = record { moment = moment_of answers now; end = x } in o) (sym f)
+-- how a row ends that gives a refusal's text, or gives up
+row-ends : (who : ℕ) (row : Row) (end : End) (e : Ending) (now before : Flat) (given : RowEnd) → given ≡ record { world = now; row = row } → ((m : Moment) → Do who top row m ≡ record { moment = m; end = end }) → end_seen e ≡ end
+    → (exchanges : List Exchange) (answers : List Answered) → go_on (Do who) top given (moment_of exchanges answers before) ≡ record { moment = moment_of exchanges answers now; end = end_seen e }
+row-ends who row end e now before given g does f exchanges answers =
+    ap (λ (x : RowEnd). go_on (Do who) top x (moment_of exchanges answers before)) g
+    ∙ does (moment_of exchanges answers now)
+    ∙ ap (λ (x : End). let o : Outcome = record { moment = moment_of exchanges answers now; end = x } in o) (sym f)
 
-given-up-row : (who : ℕ) (e : Ending) (now before : Flat) (end : RowEnd) → end ≡ record { world = now; row = GivesUp } → end_seen e ≡ GivenUp budget_spent
-    → (answers : List Answered) → go_on (Do who) top end (moment_of answers before) ≡ record { moment = moment_of answers now; end = end_seen e }
-given-up-row who e now before end g f answers =
-    ap (λ (x : RowEnd). go_on (Do who) top x (moment_of answers before)) g
-    ∙ Do-body who top GivesUp (moment_of answers now)
-    ∙ ap (λ (x : End). let o : Outcome = record { moment = moment_of answers now; end = x } in o) (sym f)
+failed-row : (who : ℕ) (text : List ℕ) (e : Ending) (now before : Flat) (end : RowEnd) → end ≡ record { world = now; row = Fails text } → end_seen e ≡ Failed text
+    → (exchanges : List Exchange) (answers : List Answered) → go_on (Do who) top end (moment_of exchanges answers before) ≡ record { moment = moment_of exchanges answers now; end = end_seen e }
+failed-row who text e now before end g f = row-ends who (Fails text) (Failed text) e now before end g (λ m. Do-body who top (Fails text) m) f
 
 -- a row that fails ends the part as its refusal does
 refused-row : (who : ℕ) (error : EditError) (e : Ending) (now : Flat) → end_seen e ≡ end_of error → (error ≡ NoMemory → IsErr {T = Ending} {E = AllocError} (Ok e))
-    → (before : Flat) (end : RowEnd) → Gives (Err error) now end → (answers : List Answered) → go_on (Do who) top end (moment_of answers before) ≡ record { moment = moment_of answers now; end = end_seen e }
+    → (before : Flat) (end : RowEnd) → Gives (Err error) now end
+    → (exchanges : List Exchange) (answers : List Answered) → go_on (Do who) top end (moment_of exchanges answers before) ≡ record { moment = moment_of exchanges answers now; end = end_seen e }
 refused-row who TextFull e now f n before end g = failed-row who (error_text TextFull) e now before end g f
 refused-row who UndoFull e now f n before end g = failed-row who (error_text UndoFull) e now before end g f
 refused-row who NothingToUndo e now f n before end g = failed-row who (error_text NothingToUndo) e now before end g f
 refused-row who NothingToRedo e now f n before end g = failed-row who (error_text NothingToRedo) e now before end g f
 refused-row who NoSuchNode e now f n before end g = failed-row who (error_text NoSuchNode) e now before end g f
-refused-row who (NoSuchCommand name) e now f n before end g = failed-row who (error_text (NoSuchCommand name)) e now before end g f
 refused-row who (NoSuchRegister name) e now f n before end g = failed-row who (error_text (NoSuchRegister name)) e now before end g f
 refused-row who (ReadOnlyRegister name) e now f n before end g = failed-row who (error_text (ReadOnlyRegister name)) e now before end g f
 refused-row who RegisterFull e now f n before end g = failed-row who (error_text RegisterFull) e now before end g f
 refused-row who SharedLine e now f n before end g = failed-row who (error_text SharedLine) e now before end g f
+refused-row who (OfCommand error) e now f n before end g = failed-row who (error_text (OfCommand error)) e now before end g f
 refused-row who BadPattern e now f n before end g = failed-row who (error_text BadPattern) e now before end g f
 refused-row who NothingSelected e now f n before end g = failed-row who (error_text NothingSelected) e now before end g f
 refused-row who TooManySelections e now f n before end g = failed-row who (error_text TooManySelections) e now before end g f
-refused-row who BudgetSpent e now f n before end g = given-up-row who e now before end g f
+refused-row who BudgetSpent e now f n before end g = row-ends who GivesUp (GivenUp budget_spent) e now before end g (λ m. Do-body who top GivesUp m) f
 refused-row who NoMemory e now f n before end g = absurd (let x : IsErr {T = Ending} {E = AllocError} (Ok e) = n refl in cc)
 
-pub row-fails : (who : ℕ) (error : EditError) (r : Result Ending AllocError) (now : Flat) (had : List Answered) (refusals : ℕ) → IfOk r (λ e. end_seen e ≡ end_of error) → (error ≡ NoMemory → IsErr r)
-    → (before : Flat) (end : RowEnd) → Gives (Err error) now end → Ends r (λ m. go_on (Do who) top end m) (under_way before had refusals) (under_way now had refusals)
-row-fails who error (Err e) now had refusals f n before end g = stood-same refusals
-row-fails who error (Ok e) now had refusals f n before end g = does-alone (λ m. go_on (Do who) top end m) before now had refusals (end_seen e) (refused-row who error e now f n before end g)
+pub row-fails : (who : ℕ) (error : EditError) (r : Result Ending AllocError) (now : Flat) (had : List Answered) (o : Outside) → IfOk r (λ e. end_seen e ≡ end_of error) → (error ≡ NoMemory → IsErr r)
+    → (before : Flat) (end : RowEnd) → Gives (Err error) now end → Ends r (λ m. go_on (Do who) top end m) (under_way before had o) (under_way now had o)
+row-fails who error (Err e) now had o f n before end g = stays-still o
+row-fails who error (Ok e) now had o f n before end g = does-alone (λ m. go_on (Do who) top end m) before now had o (end_seen e) (refused-row who error e now f n before end g)
+
+-- what the text of a refused reading leads to: nothing is run
+is-read : (error : EditError) (r : Result (List Command) EditError) → (error ≡ NoMemory → ⊥) → IfSome (row_of error) (λ row. r ≡ Err error) → r ≡ Err error
+is-read TextFull r n w = w
+is-read UndoFull r n w = w
+is-read NothingToUndo r n w = w
+is-read NothingToRedo r n w = w
+is-read NoSuchNode r n w = w
+is-read (NoSuchRegister name) r n w = w
+is-read (ReadOnlyRegister name) r n w = w
+is-read RegisterFull r n w = w
+is-read SharedLine r n w = w
+is-read (OfCommand error) r n w = w
+is-read BadPattern r n w = w
+is-read NothingSelected r n w = w
+is-read TooManySelections r n w = w
+is-read BudgetSpent r n w = w
+is-read NoMemory r n w = absurd (n refl)
+
+pub unread : (go : Go) (who : ℕ) (read : Result (List Command) EditError) (error : EditError) (r : Result Ending AllocError) (now : Flat) (had : List Answered) (o : Outside)
+    → IfSome (row_of error) (λ row. read ≡ Err error) → IfOk r (λ e. end_seen e ≡ end_of error) → (error ≡ NoMemory → IsErr r) → Ends r (λ m. run_read go who top read m) (under_way now had o) (under_way now had o)
+unread go who read error (Err e) now had o w f n = stays-still o
+unread go who read error (Ok e) now had o w f n =
+    let none : error ≡ NoMemory → ⊥ = (λ is. let x : IsErr {T = Ending} {E = AllocError} (Ok e) = n is in cc) in
+    let same : read ≡ Err error = is-read error read none w in
+    does-alone (λ m. run_read go who top read m) now now had o (end_seen e) (λ exchanges answers.
+    ap (λ (x : Result (List Command) EditError). run_read go who top x (moment_of exchanges answers now)) same
+    ∙ ap (λ (x : End). let q : Outcome = record { moment = moment_of exchanges answers now; end = x } in q) (sym f))
+
+-- a text that was read as commands
+pub all-read : (go : Go) (who : ℕ) (read : Result (List Command) EditError) (commands : List Command) (r : Result Ending AllocError) (old new : UnderWay) → read ≡ Ok commands
+    → Ends r (λ m. each (run_command go who top) commands m) old new → Ends r (λ m. run_read go who top read m) old new
+all-read go who read commands r old new e d = ends-by r (λ m. run_read go who top read m) (λ m. each (run_command go who top) commands m) old new (λ m. ap (λ (x : Result (List Command) EditError). run_read go who top x m) e) d
+
+-- a part that is handed the next answer, which is of the kind that was asked for
+next-is : {A : Type 0} (kind : Answered → Option A) (part : A → Part) (answer : Answered) (x : A) (exchanges : List Exchange) (later : List Answered) (world : Flat) → kind answer ≡ Some x
+    → next_as kind part (answer ∷ later) (moment_of exchanges (answer ∷ later) world) ≡ part x (moment_of exchanges later world)
+next-is kind part answer x exchanges later world k = ap (λ (o : Option _). taken_as o part later (moment_of exchanges (answer ∷ later) world)) k
+
+-- a row that goes on with an answer of the outside
+back-does : {A : Type 0} (who : ℕ) (kind : Answered → Option A) (exchange : A → Flat → List Exchange) (row : A → Flat → RowEnd) (answer : Answered) (x : A) (end : End) (old : Flat) (had mid : List Answered) (o p : Outside) (new : UnderWay)
+    → kind answer ≡ Some x → mid ≡ had ++ answer ∷ [] → IsHonest (answer ∷ []) (exchange x old) o p
+    → Does (λ m. go_on (Do who) top (row x old) m) (under_way old mid p) new end
+    → Does (λ m. next_as kind (go_back (Do who) top exchange row) m.answers m) (under_way old had o) new end
+back-does who kind exchange row answer x end old had mid o p new k h honest d = record {
+  used = answer ∷ d.used;
+  exchanged = exchange x old ++ d.exchanged;
+  kept = d.kept ∙ ap (λ (q : List Answered). q ++ d.used) h ∙ append_assoc had (answer ∷ []) d.used;
+  leads = λ before later.
+      next-is kind (go_back (Do who) top exchange row) answer x before (d.used ++ later) old k
+      ∙ d.leads (before ++ exchange x old) later
+      ∙ ap (λ (q : List Exchange). let o : Outcome = record { moment = moment_of q later new.world; end = end } in o) (append_assoc before (exchange x old) d.exchanged);
+  honest = honest-behind (answer ∷ []) d.used (exchange x old) d.exchanged o p new.outside honest d.honest;
+}
+
+pub back-ends : {A : Type 0} (who : ℕ) (kind : Answered → Option A) (exchange : A → Flat → List Exchange) (row : A → Flat → RowEnd) (answer : Answered) (x : A) (r : Result Ending AllocError) (old : Flat) (had mid : List Answered) (o p : Outside) (new : UnderWay)
+    → kind answer ≡ Some x → mid ≡ had ++ answer ∷ [] → IsHonest (answer ∷ []) (exchange x old) o p
+    → Ends r (λ m. go_on (Do who) top (row x old) m) (under_way old mid p) new
+    → Ends r (λ m. next_as kind (go_back (Do who) top exchange row) m.answers m) (under_way old had o) new
+back-ends who kind exchange row answer x (Err e) old had mid o p new k h honest d = stays-behind o p new.outside (honest-stays (answer ∷ []) (exchange x old) o p honest) d
+back-ends who kind exchange row answer x (Ok e) old had mid o p new k h honest d = back-does who kind exchange row answer x (end_seen e) old had mid o p new k h honest d
 
 -- a use that goes on behind a pattern that the maker made or refused
-made-use : {P : Type 0} (who : ℕ) (wanted : PatternUse) (source : P → List ℕ) (made : Made P) (e : Ending) (old : Flat) (had : List Answered) (n k : ℕ) (new : UnderWay)
-    → IfBuilt made (λ p. source p ≡ encode_utf8_all wanted.pattern) → IsCounted made n k
-    → Does (λ m. go_on (Do who) top (row_finish wanted.then (source_of source made) who old) m) (under_way old (had ++ told_of made ∷ []) k) new (end_seen e)
-    → Does (λ m. Do who top (Asks (Make wanted)) m) (under_way old had n) new (end_seen e)
-made-use who wanted source (maker.Built p) e old had n k new b c d = record {
-  used = Built ∷ d.used;
-  kept = d.kept ∙ append_assoc had (Built ∷ []) d.used;
-  leads = λ later. Do-body who top (Asks (Make wanted)) (moment_of (Built ∷ d.used ++ later) old)
-      ∙ ap (λ s. go_on (Do who) top (row_finish wanted.then (Some s) who old) (moment_of (d.used ++ later) old)) (sym b)
-      ∙ d.leads later;
-  honest = stood-counts (list_any is_refused d.used) n k new.refusals (stood-le n k c) d.honest;
-}
-made-use who wanted source maker.Refused e old had n k new b c d = record {
-  used = Refused ∷ d.used;
-  kept = d.kept ∙ append_assoc had (Refused ∷ []) d.used;
-  leads = λ later. Do-body who top (Asks (Make wanted)) (moment_of (Refused ∷ d.used ++ later) old) ∙ d.leads later;
-  honest = rose-then n k new.refusals c (counts-stood (list_any is_refused d.used) k new.refusals d.honest);
-}
+made-as : {P : Type 0} (source : P → List ℕ) (made : Made P) (text : List ℕ) → IfBuilt made (λ p. source p ≡ text) → as_made text (made_told made) ≡ Some (source_of source made)
+made-as source (maker.Built p) text b = ap (λ (s : List ℕ). Some (Some s)) (sym b)
+made-as source maker.Refused text b = refl
 
--- the count that a maker had before it made or refused a pattern
-pub made-stood : {P : Type 0} (made : Made P) (n k : ℕ) → IsCounted made n k → Stood n k
-made-stood (maker.Built p) n k c = stood-le n k c
-made-stood maker.Refused n k c = rose-stood n k c
+pub made-ends : {P : Type 0} (who : ℕ) (wanted : PatternUse) (source : P → List ℕ) (made : Made P) (r : Result Ending AllocError) (old : Flat) (had mid : List Answered) (o p : Outside) (new : UnderWay)
+    → IfBuilt made (λ p. source p ≡ encode_utf8_all wanted.pattern) → IsHonest (made_told made ∷ []) [] o p → mid ≡ had ++ made_told made ∷ []
+    → Ends r (λ m. go_on (Do who) top (row_finish wanted.then (source_of source made) who old) m) (under_way old mid p) new
+    → Ends r (λ m. Do who top (Asks (Make wanted)) m) (under_way old had o) new
+made-ends who wanted source made r old had mid o p new b h k d =
+    ends-by r _ _ _ new (λ m. Do-body who top (Asks (Make wanted)) m)
+    (back-ends who (as_made (encode_utf8_all wanted.pattern)) by_making (λ made flat. row_finish wanted.then made who flat) (made_told made) (source_of source made) r old had mid o p new (made-as source made _ b) k h d)
 
-pub made-ends : {P : Type 0} (who : ℕ) (wanted : PatternUse) (source : P → List ℕ) (made : Made P) (r : Result Ending AllocError) (old : Flat) (had mid : List Answered) (n k : ℕ) (new : UnderWay)
-    → IfBuilt made (λ p. source p ≡ encode_utf8_all wanted.pattern) → IsCounted made n k → mid ≡ had ++ told_of made ∷ []
-    → Ends r (λ m. go_on (Do who) top (row_finish wanted.then (source_of source made) who old) m) (under_way old mid k) new
-    → Ends r (λ m. Do who top (Asks (Make wanted)) m) (under_way old had n) new
-made-ends who wanted source made (Err e) old had mid n k new b c h d = stood-stood n k new.refusals (made-stood made n k c) d
-made-ends who wanted source made (Ok e) old had mid n k new b c h d =
-    made-use who wanted source made e old had n k new b c (subst (λ (x : List Answered). Does (λ m. go_on (Do who) top (row_finish wanted.then (source_of source made) who old) m) (under_way old x k) new (end_seen e)) h d)
+-- a file that was read
+read-as : (read : FileRead) → as_read (read_told read) ≡ Some read
+read-as (file.Bytes bytes) = refl
+read-as file.NotThere = refl
+read-as file.TooBig = refl
+read-as file.Failed = refl
+
+pub read-ends : (who : ℕ) (name said : List ℕ) (read : FileRead) (told : Answered) (r : Result Ending AllocError) (old : Flat) (had mid : List Answered) (o p : Outside) (new : UnderWay) → said ≡ name → told ≡ read_told read
+    → IsHonest (read_told read ∷ []) (WasRead said read ∷ []) o p → mid ≡ had ++ told ∷ []
+    → Ends r (λ m. go_on (Do who) top (row_read name read who old) m) (under_way old mid p) new
+    → Ends r (λ m. Do who top (Asks (Read name)) m) (under_way old had o) new
+read-ends who name said read told r old had mid o p new same is h k d =
+    ends-by r _ _ _ new (λ m. Do-body who top (Asks (Read name)) m)
+    (back-ends who as_read (by_reading name) (λ read flat. row_read name read who flat) (read_told read) read r old had mid o p new (read-as read) (k ∙ ap (λ (a : Answered). had ++ a ∷ []) is) (subst (λ n. IsHonest (read_told read ∷ []) (WasRead n read ∷ []) o p) same h) d)
+
+-- a file that was written
+put-as : (put : Put) → as_put (put_told put) ≡ Some put
+put-as put.Done = refl
+put-as put.Failed = refl
+
+pub write-ends : (who : ℕ) (saving : Saving) (put : Put) (r : Result Ending AllocError) (old : Flat) (had mid : List Answered) (o p : Outside) (new : UnderWay)
+    → IsHonest (put_told put ∷ []) (Written saving.file (bytes_of saving old) put ∷ []) o p → mid ≡ had ++ put_told put ∷ []
+    → Ends r (λ m. go_on (Do who) top (row_saved saving put who old) m) (under_way old mid p) new
+    → Ends r (λ m. Do who top (Asks (Write saving)) m) (under_way old had o) new
+write-ends who saving put r old had mid o p new h k d =
+    ends-by r _ _ _ new (λ m. Do-body who top (Asks (Write saving)) m)
+    (back-ends who as_put (by_writing saving) (λ put flat. row_saved saving put who flat) (put_told put) put r old had mid o p new (put-as put) k h d)
 
 -- a part behind a unit that was taken, and one without a unit
-pub unit-taken : (r : Result Ending AllocError) (part : Part) (old now : Flat) (had : List Answered) (refusals : ℕ) (new : UnderWay) → units_of old ≡ suc (units_of now) → now ≡ with_units (units_of now) old
-    → Ends r part (under_way now had refusals) new → Ends r (λ m. with_unit part m) (under_way old had refusals) new
-unit-taken (Err e) part old now had refusals new u w d = d
-unit-taken (Ok e) part old now had refusals new u w d = record {
+pub unit-taken : (r : Result Ending AllocError) (part : Part) (old now : Flat) (had : List Answered) (o : Outside) (new : UnderWay) → units_of old ≡ suc (units_of now) → now ≡ with_units (units_of now) old
+    → Ends r part (under_way now had o) new → Ends r (λ m. with_unit part m) (under_way old had o) new
+unit-taken (Err e) part old now had o new u w d = d
+unit-taken (Ok e) part old now had o new u w d = record {
   used = d.used;
+  exchanged = d.exchanged;
   kept = d.kept;
-  leads = λ later.
-      ap (λ (n : ℕ). unit_of n part (moment_of (d.used ++ later) old)) u
-      ∙ ap (λ (x : Flat). part (moment_of (d.used ++ later) x)) (sym w)
-      ∙ d.leads later;
+  leads = λ before later.
+      ap (λ (n : ℕ). unit_of n part (moment_of before (d.used ++ later) old)) u
+      ∙ ap (λ (x : Flat). part (moment_of before (d.used ++ later) x)) (sym w)
+      ∙ d.leads before later;
   honest = d.honest;
 }
 
+pub unit-wanting : (part : Part) (old now : Flat) (exchanges : List Exchange) (answers : List Answered) → units_of old ≡ 0 → now ≡ old
+    → with_unit part (moment_of exchanges answers old) ≡ record { moment = moment_of exchanges answers now; end = GivenUp budget_spent }
+unit-wanting part old now exchanges answers u w =
+    ap (λ (n : ℕ). unit_of n part (moment_of exchanges answers old)) u
+    ∙ ap (λ (x : Flat). let o : Outcome = record { moment = moment_of exchanges answers x; end = GivenUp budget_spent } in o) (sym w)
+
 -- a part whose row is that of the world where it begins
-pub ends-there : (r : Result Ending AllocError) (who : ℕ) (row : Flat → RowEnd) (old : Flat) (had : List Answered) (refusals : ℕ) (new : UnderWay) → Ends r (λ m. go_on (Do who) top (row old) m) (under_way old had refusals) new
-    → Ends r (λ m. go_on (Do who) top (row m.world) m) (under_way old had refusals) new
-ends-there (Err e) who row old had refusals new d = d
-ends-there (Ok e) who row old had refusals new d = record { used = d.used; kept = d.kept; leads = d.leads; honest = d.honest }
-
-pub unit-wanting : (part : Part) (old now : Flat) (answers : List Answered) → units_of old ≡ 0 → now ≡ old → with_unit part (moment_of answers old) ≡ record { moment = moment_of answers now; end = GivenUp budget_spent }
-unit-wanting part old now answers u w =
-    ap (λ (n : ℕ). unit_of n part (moment_of answers old)) u
-    ∙ ap (λ (x : Flat). let o : Outcome = record { moment = moment_of answers x; end = GivenUp budget_spent } in o) (sym w)
-
-after-fine : (m : Moment) (e : End) → after e (λ n. ends Fine n) m ≡ record { moment = m; end = e }
-after-fine m Fine = refl
-after-fine m (Failed t) = refl
-after-fine m (GivenUp t) = refl
-
--- nothing comes behind the one command of a text
-pub one-command : (who : ℕ) (text : List ℕ) (m : Moment) → 0 < length text → run_text (Do who) who top text m ≡ with_unit (λ n. go_on (Do who) top (row_command text who n.world) n) m
-one-command who [] m h = absurd (omega arith)
-one-command who (c ∷ cs) m h =
-    let o : Outcome = with_unit (λ n. go_on (Do who) top (row_command (c ∷ cs) who n.world) n) m in
-    after-fine o.moment o.end
-
--- a text of no characters has no command
-pub no-command : (who : ℕ) (text : List ℕ) (m : Moment) → length text ≡ 0 → run_text (Do who) who top text m ≡ record { moment = m; end = Fine }
-no-command who [] m h = refl
-no-command who (c ∷ cs) m h = cc
+pub ends-there : (r : Result Ending AllocError) (who : ℕ) (row : Flat → RowEnd) (old : Flat) (had : List Answered) (o : Outside) (new : UnderWay) → Ends r (λ m. go_on (Do who) top (row old) m) (under_way old had o) new
+    → Ends r (λ m. go_on (Do who) top (row m.world) m) (under_way old had o) new
+ends-there (Err e) who row old had o new d = d
+ends-there (Ok e) who row old had o new d = record { used = d.used; exchanged = d.exchanged; kept = d.kept; leads = d.leads; honest = d.honest }
 
 -- behind a unit that was taken, a client has joined still
 pub unit-joined : (who : ℕ) (old now : Flat) → now ≡ with_units (units_of now) old → is_joined who old ≡ true → is_joined who now ≡ true
 unit-joined who old now w j = ap (is_joined who) w ∙ joined_units who (units_of now) old ∙ j
 
 -- behind a row that isn't wanting in memory, its client has joined still
-pub joined-row : (who : ℕ) (r : Result Ask EditError) (old new : Flat) (end : RowEnd) → Gives r new end → KeepsClients old end.world → is_joined who old ≡ true → OnOk r (is_joined who new ≡ true)
-joined-row who (Ok ask) old new end g k j = ap (λ (x : RowEnd). is_joined who x.world) (sym g) ∙ k.joined who ∙ j
+pub joined-row : (who : ℕ) (r : Result Ask EditError) (old new : Flat) (end : RowEnd) → Gives r new end → KeepsJoined old end.world → is_joined who old ≡ true → OnOk r (is_joined who new ≡ true)
+joined-row who (Ok ask) old new end g k j = ap (λ (x : RowEnd). is_joined who x.world) (sym g) ∙ k.joined who j
 joined-row who (Err e) old new end g k j = tt
 
--- and behind a part
-pub joined-part : (who : ℕ) (r : Result Ending AllocError) (part : Part) (old new : UnderWay) → Ends r part old new → Keeps part → is_joined who old.world ≡ true → OnOk r (is_joined who new.world ≡ true)
-joined-part who (Ok e) part old new d k j = ap (λ (o : Outcome). is_joined who o.moment.world) (sym (d.leads [])) ∙ (k (moment_of (d.used ++ []) old.world)).joined who ∙ j
+-- what is so behind a part by its definition, is so where the part was done
+pub does-keeps : (R : Flat → Flat → Type 0) (part : Part) (end : End) (old new : UnderWay) → Does part old new end → Keeps R part → R old.world new.world
+does-keeps R part end old new d k = subst (λ (o : Outcome). R old.world o.moment.world) (d.leads [] []) (k (moment_of [] (d.used ++ []) old.world))
+
+-- and behind a part a client has joined still
+pub joined-part : (who : ℕ) (r : Result Ending AllocError) (part : Part) (old new : UnderWay) → Ends r part old new → Keeps KeepsJoined part → is_joined who old.world ≡ true → OnOk r (is_joined who new.world ≡ true)
+joined-part who (Ok e) part old new d k j = (does-keeps KeepsJoined part (end_seen e) old new d k).joined who j
 joined-part who (Err e) part old new d k j = tt

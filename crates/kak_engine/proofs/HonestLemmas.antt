@@ -1,12 +1,21 @@
--- How the count of refusals stands behind one answer after another.
-use Rattle.std.proofs.Common.{◌≡◌, ℕ, ◌+◌, ◌-◌, ◌^◌, ◌≤◌, Bool, true, false, List, refl, arith}
+-- How the outside stands behind one answer after another.
+use Rattle.std.proofs.Common.{◌≡◌, ℕ, ◌+◌, ◌-◌, ◌^◌, ◌≤◌, Bool, true, false, ◌||◌, List, [], ◌∷◌, ◌++◌, refl, sym, ◌∙◌, subst, arith}
 use Rattle.std.specs.Prelude.{min, nat_le}
 use Rattle.std.specs.List.{list_any}
 use Rattle.std.proofs.lemmas.Bool.{leb-true, leb-false}
+use Rattle.std.proofs.lemmas.List.Folds.{list_any-append}
 use Rattle.std.proofs.Math.Nat.{min-le_left, min-le_right, le-min, min-eq_left, min-eq_right}
-use Rattle.regex_ports.specs.Making.{Rose}
+use Rattle.std.specs.Prelude.{Some, None}
+use Rattle.std.specs.declared.option.Option.{Option}
+use Rattle.kak_files.specs.Files.{Shelf, Told}
+use Rattle.kak_files.specs.Exchanges.{Exchange, Leads, Passed, RoseWhere, has_failed}
+use Rattle.regex_ports.specs.Making.{Rose, IsCounted}
+use Rattle.regex_ports.specs.declared.maker.Made.{Made}
+use Rattle.regex_ports.specs.declared.maker.Made.TheVariants as maker
 use Rattle.session_events.specs.declared.event.Answered.{Answered}
-use Rattle.kak_engine.specs.Honesty.{is_refused, Stood, Counts, IsHonest}
+use Rattle.kak_engine.specs.Answering.{made_told}
+use Rattle.kak_engine.specs.Honesty.{Outside, at_opening, is_refused, Stood, Counts, Stays, IsHonest, IsKept}
+use Rattle.kak_files.proofs.ExchangeLemmas.{leads-none, leads-trans, passed-none, passed-trans}
 
 -- a count that stands still, and one that doesn't fall
 pub stood-same : (n : ℕ) → Stood n n
@@ -49,9 +58,6 @@ pub counts-stood : (t : Bool) (a b : ℕ) → Counts t a b → Stood a b
 counts-stood true a b h = rose-stood a b h
 counts-stood false a b h = h
 
-pub honest-stood : (answers : List Answered) (a b : ℕ) → IsHonest answers a b → Stood a b
-honest-stood answers a b h = counts-stood (list_any is_refused answers) a b h
-
 -- the count didn't fall before some answers
 stood-rose-most : (most a b c : ℕ) → min a most ≤ b → min (b + 1) most ≤ c → min (a + 1) most ≤ c
 stood-rose-most most a b c s r =
@@ -69,6 +75,73 @@ stood-rose-most most a b c s r =
             let same : min a most ≡ most = min-eq_right le in
             omega (arith, min-le_right (a + 1) most, same, s)
 
-pub stood-counts : (t : Bool) (a b c : ℕ) → Stood a b → Counts t b c → Counts t a c
+stood-counts : (t : Bool) (a b c : ℕ) → Stood a b → Counts t b c → Counts t a c
 stood-counts true a b c s r = stood-rose-most (2 ^ 64 - 1) a b c s r
 stood-counts false a b c s r = stood-stood a b c s r
+
+-- answers behind others
+counts-behind : (s t : Bool) (a b c : ℕ) → Counts s a b → Counts t b c → Counts (s || t) a c
+counts-behind true t a b c h k = rose-then a b c h (counts-stood t b c k)
+counts-behind false t a b c h k = stood-counts t a b c h k
+
+-- the outside, where it was asked for nothing
+pub honest-none : (o : Outside) → IsHonest [] [] o o
+honest-none o = record { refusals = stood-same o.refusals; files = passed-none o.shelf }
+
+-- and where it was asked for something, and then for more
+pub honest-behind : (a b : List Answered) (d e : List Exchange) (x y z : Outside) → IsHonest a d x y → IsHonest b e y z → IsHonest (a ++ b) (d ++ e) x z
+honest-behind a b d e x y z h k = record {
+  refusals = subst (λ t. Counts t x.refusals z.refusals) (sym (list_any-append is_refused a b)) (counts-behind (list_any is_refused a) (list_any is_refused b) x.refusals y.refusals z.refusals h.refusals k.refusals);
+  files = passed-trans d e x.shelf y.shelf z.shelf h.files k.files;
+}
+
+-- what files held when they were made stays
+opening-same : (exchanges : List Exchange) (x y : Option Told) → Leads exchanges x y → at_opening y ≡ at_opening x
+opening-same exchanges None None l = refl
+opening-same exchanges (Some old) (Some new) l = rw l.opening refl
+opening-same exchanges None (Some new) l = absurd l
+opening-same exchanges (Some old) None l = absurd l
+
+same-stood : (a b : ℕ) → b ≡ a → Stood a b
+same-stood a b e = subst (Stood a) (sym e) (stood-same a)
+
+where-stood : (t : Bool) (a b : ℕ) → RoseWhere t a b → Stood a b
+where-stood true a b r = rose-stood a b r
+where-stood false a b e = same-stood a b e
+
+-- the outside is the same still
+pub stays-still : (o : Outside) → Stays o o
+stays-still o = record { refusals = stood-same o.refusals; faults = stood-same o.shelf.faults; opening = refl }
+
+pub stays-behind : (x y z : Outside) → Stays x y → Stays y z → Stays x z
+stays-behind x y z h k = record {
+  refusals = stood-stood x.refusals y.refusals z.refusals h.refusals k.refusals;
+  faults = stood-stood x.shelf.faults y.shelf.faults z.shelf.faults h.faults k.faults;
+  opening = k.opening ∙ h.opening;
+}
+
+pub honest-stays : (answers : List Answered) (exchanges : List Exchange) (x y : Outside) → IsHonest answers exchanges x y → Stays x y
+honest-stays answers exchanges x y h = record {
+  refusals = counts-stood (list_any is_refused answers) x.refusals y.refusals h.refusals;
+  faults = where-stood (has_failed exchanges) x.shelf.faults y.shelf.faults h.files.counted;
+  opening = opening-same exchanges x.shelf.told y.shelf.told h.files.told;
+}
+
+-- more exchanges lead on from what the files hold
+kept-behind : (d e : List Exchange) (x y : Option Told) → Leads d (at_opening x) x → Leads e x y → Leads (d ++ e) (at_opening y) y
+kept-behind d e x y h k = subst (λ (o : Option Told). Leads (d ++ e) o y) (sym (opening-same e x y k)) (leads-trans d e (at_opening x) x y h k)
+
+pub kept-more : (answers : List Answered) (d e : List Exchange) (x y : Outside) → IsKept d x.shelf → IsHonest answers e x y → IsKept (d ++ e) y.shelf
+kept-more answers d e x y h k = kept-behind d e x.shelf.told y.shelf.told h k.files.told
+
+-- files that hold what they held when they were made
+pub kept-first : (told : Option Told) → told ≡ at_opening told → Leads [] (at_opening told) told
+kept-first told e = subst (λ (o : Option Told). Leads [] o told) e (leads-none told)
+
+-- a maker of patterns that answered, while the files were asked for nothing
+pub made-counts : {P : Type 0} (made : Made P) (a b : ℕ) → IsCounted made a b → Counts (list_any is_refused (made_told made ∷ [])) a b
+made-counts (maker.Built p) a b c = stood-le a b c
+made-counts maker.Refused a b c = c
+
+pub made-honest : {P : Type 0} (made : Made P) (shelf : Shelf) (a b : ℕ) → IsCounted made a b → IsHonest (made_told made ∷ []) [] (record { shelf = shelf; refusals = a }) (record { shelf = shelf; refusals = b })
+made-honest made shelf a b c = record { refusals = made-counts made a b c; files = passed-none shelf }

@@ -1,3 +1,4 @@
+pub mod CarryingLaws
 pub mod DoingLemmas
 pub mod EndLemmas
 pub mod ExampleLemmas
@@ -5,6 +6,7 @@ pub mod HonestLemmas
 pub mod KeepingLaws
 pub mod KeyLemmas
 pub mod LegalLemmas
+pub mod LoopLemmas
 pub mod PresenceLemmas
 pub mod RunLemmas
 pub mod StageLemmas

@@ -1,9 +1,14 @@
 -- Who is there, and has joined, after an event.
-use Rattle.std.proofs.Common.{◌≡◌, ◌≢◌, ℕ, ◌≤◌, Bool, true, false, ◌||◌, List, length, refl, ◌∙◌, subst, arith}
+use Rattle.std.proofs.Common.{◌≡◌, ◌≢◌, ℕ, ◌≤◌, Bool, true, false, ◌||◌, List, [], ◌∷◌, length, map, refl, sym, ap, ◌∙◌, subst, arith}
+use Rattle.std.proofs.lemmas.List.{length-map}
+use Rattle.std.specs.List.{list_any}
 use Rattle.std.specs.Prelude.{if◌then◌else◌, ◌==◌}
 use Rattle.std.proofs.lemmas.Bool.{eqb-true, ne_eqb}
 use Rattle.kak_world.specs.declared.world.TheConstants.{MAX_CLIENTS}
+use Rattle.kak_world.specs.declared.clients.Client.{Client}
+use Rattle.kak_world.specs.Dropping.{KeepsJoined}
 use Rattle.kak_world.specs.Flat.{Flat, is_here as is_among, is_joined, left_by, joined_by}
+use Rattle.kak_world.specs.Keeping.{whos_of}
 use Rattle.kak_world.proofs.KeepingLaws.{here_kept, count_kept, here_come, count_come, joined_others_come, here_goes, here_others_go, count_goes, joined_goes, joined_others_go, here_joined}
 use Rattle.session_events.specs.declared.event.Event.{Event}
 use Rattle.session_events.specs.declared.event.Event.TheVariants.{Join, Key as Struck, Refresh, Leave}
@@ -12,6 +17,7 @@ use Rattle.session_events.specs.Entries.{is_join, is_leave}
 use Rattle.session_events.specs.Legal.{Presence, is_here, moved_by}
 use Rattle.kak_engine.specs.Steps.{after_event}
 use Rattle.kak_engine.specs.Held.{CanRun}
+use Rattle.kak_engine.specs.Laws.{StaysThere}
 use Rattle.kak_engine.proofs.KeepingLaws.{keeps_key, keeps_refresh}
 
 -- whether a client is there behind an event, which is its own or not, by whether it was there
@@ -42,10 +48,30 @@ come true false = refl
 come false true = refl
 come false false = refl
 
+-- the same clients are here where their numbers are the same, and as many
+here-whos : (k : ℕ) (cs : List Client) → is_among k cs ≡ list_any (λ n. n == k) (whos_of cs)
+here-whos k [] = refl
+here-whos k (c ∷ cs) = ap (λ b. (c.who == k) || b) (here-whos k cs)
+
+here-same : (k : ℕ) (old new : Flat) → KeepsJoined old new → is_among k new.clients ≡ is_among k old.clients
+here-same k old new f = here-whos k new.clients ∙ ap (list_any (λ n. n == k)) f.whos ∙ sym (here-whos k old.clients)
+
+count-same : (old new : Flat) → KeepsJoined old new → length new.clients ≡ length old.clients
+count-same old new f = sym (length-map new.clients (λ c. c.who)) ∙ ap length f.whos ∙ length-map old.clients (λ c. c.who)
+
+-- where those who are here have joined, they have joined still
+joined-same : (k : ℕ) (old new : Flat) → KeepsJoined old new → is_joined k old ≡ is_among k old.clients → is_joined k new ≡ is_joined k old
+joined-same k old new f e = by (is_joined k old) (is_joined k new) refl refl
+  where
+    by : (a b : Bool) → is_joined k old ≡ a → is_joined k new ≡ b → b ≡ a
+    by true b was is = sym is ∙ f.joined k was
+    by false false was is = refl
+    by false true was is = let no : false ≡ true = sym was ∙ e ∙ sym (here-same k old new f) ∙ here_joined k new is in cc
+
 -- who is there
 pub here-after : (k who : ℕ) (event : Event) (answers : List Answered) (flat : Flat) → is_among k (after_event who event answers flat).clients ≡ there_after event (who == k) (is_among k flat.clients)
 here-after k who Join answers flat = here_come k who flat ∙ come (is_among k flat.clients) (who == k)
-here-after k who (Struck key) answers flat = here_kept k flat _ (keeps_key who key answers flat) ∙ unchanged (Struck key) (who == k) (is_among k flat.clients) refl refl
+here-after k who (Struck key) answers flat = here-same k flat _ (keeps_key who key answers flat) ∙ unchanged (Struck key) (who == k) (is_among k flat.clients) refl refl
 here-after k who (Refresh asked) answers flat = here_kept k flat _ (keeps_refresh who flat) ∙ unchanged (Refresh asked) (who == k) (is_among k flat.clients) refl refl
 here-after k who Leave answers flat = by (who == k) refl
   where
@@ -53,17 +79,17 @@ here-after k who Leave answers flat = by (who == k) refl
     by true e = subst (λ n. is_among n (left_by who flat).clients ≡ false) (eqb-true who k e) (here_goes who flat)
     by false e = here_others_go k who flat e
 
--- who has joined, where one that came has
-pub joined-after : (k who : ℕ) (event : Event) (answers : List Answered) (flat : Flat) → (is_join event ≡ true → is_joined who (after_event who event answers flat) ≡ true)
+-- who has joined, where one that came has, and those who are here have
+pub joined-after : (k who : ℕ) (event : Event) (answers : List Answered) (flat : Flat) → is_joined k flat ≡ is_among k flat.clients → (is_join event ≡ true → is_joined who (after_event who event answers flat) ≡ true)
     → is_joined k (after_event who event answers flat) ≡ there_after event (who == k) (is_joined k flat)
-joined-after k who Join answers flat came = by (who == k) refl
+joined-after k who Join answers flat same came = by (who == k) refl
   where
     by : (t : Bool) → (who == k) ≡ t → is_joined k (joined_by who flat) ≡ there_after Join t (is_joined k flat)
     by true e = subst (λ n. is_joined n (joined_by who flat) ≡ true) (eqb-true who k e) (came refl)
     by false e = joined_others_come k who flat e
-joined-after k who (Struck key) answers flat came = (keeps_key who key answers flat).joined k ∙ unchanged (Struck key) (who == k) (is_joined k flat) refl refl
-joined-after k who (Refresh asked) answers flat came = (keeps_refresh who flat).joined k ∙ unchanged (Refresh asked) (who == k) (is_joined k flat) refl refl
-joined-after k who Leave answers flat came = by (who == k) refl
+joined-after k who (Struck key) answers flat same came = joined-same k flat _ (keeps_key who key answers flat) same ∙ unchanged (Struck key) (who == k) (is_joined k flat) refl refl
+joined-after k who (Refresh asked) answers flat same came = (keeps_refresh who flat).joined k ∙ unchanged (Refresh asked) (who == k) (is_joined k flat) refl refl
+joined-after k who Leave answers flat same came = by (who == k) refl
   where
     by : (t : Bool) → (who == k) ≡ t → is_joined k (left_by who flat) ≡ there_after Leave t (is_joined k flat)
     by true e = subst (λ n. is_joined n (left_by who flat) ≡ false) (eqb-true who k e) (joined_goes who flat)
@@ -72,7 +98,7 @@ joined-after k who Leave answers flat came = by (who == k) refl
 -- how many are there
 pub few-after : (who : ℕ) (event : Event) (answers : List Answered) (flat : Flat) → CanRun event who flat → length flat.clients ≤ MAX_CLIENTS → length (after_event who event answers flat).clients ≤ MAX_CLIENTS
 few-after who Join answers flat can few = omega (arith, count_come who flat, can.few)
-few-after who (Struck key) answers flat can few = omega (arith, count_kept flat _ (keeps_key who key answers flat), few)
+few-after who (Struck key) answers flat can few = omega (arith, count-same flat _ (keeps_key who key answers flat), few)
 few-after who (Refresh asked) answers flat can few = omega (arith, count_kept flat _ (keeps_refresh who flat), few)
 few-after who Leave answers flat can few = omega (arith, count_goes who flat (here_joined who flat can), few)
 
@@ -80,13 +106,25 @@ few-after who Leave answers flat can few = omega (arith, count_goes who flat (he
 pub own-after : (who : ℕ) (event : Event) (answers : List Answered) (flat : Flat) → CanRun event who flat → is_leave event ≡ false → (is_join event ≡ true → is_joined who (after_event who event answers flat) ≡ true)
     → is_joined who (after_event who event answers flat) ≡ true
 own-after who Join answers flat can stays came = came refl
-own-after who (Struck key) answers flat can stays came = (keeps_key who key answers flat).joined who ∙ can
+own-after who (Struck key) answers flat can stays came = (keeps_key who key answers flat).joined who can
 own-after who (Refresh asked) answers flat can stays came = (keeps_refresh who flat).joined who ∙ can
 own-after who Leave answers flat can stays came = cc
 
 -- the others stay
-pub others_stay : (who k : ℕ) (event : Event) (answers : List Answered) (flat : Flat) → who ≢ k → is_joined k (after_event who event answers flat) ≡ is_joined k flat
-others_stay who k Join answers flat other = joined_others_come k who flat (ne_eqb who k other)
-others_stay who k (Struck key) answers flat other = (keeps_key who key answers flat).joined k
-others_stay who k (Refresh asked) answers flat other = (keeps_refresh who flat).joined k
-others_stay who k Leave answers flat other = joined_others_go k who flat (ne_eqb who k other)
+pub others_stay : (who k : ℕ) (event : Event) (answers : List Answered) (flat : Flat) → who ≢ k → StaysThere k flat (after_event who event answers flat)
+others_stay who k event answers flat other = record {
+  here = here-after k who event answers flat ∙ apart event (is_among k flat.clients);
+  joined = stays event;
+}
+  where
+    apart : (e : Event) (b : Bool) → there_after e (who == k) b ≡ b
+    apart Join b = rw (ne_eqb who k other) refl
+    apart (Struck key) b = refl
+    apart (Refresh asked) b = refl
+    apart Leave b = rw (ne_eqb who k other) refl
+
+    stays : (e : Event) → is_joined k flat ≡ true → is_joined k (after_event who e answers flat) ≡ true
+    stays Join j = joined_others_come k who flat (ne_eqb who k other) ∙ j
+    stays (Struck key) j = (keeps_key who key answers flat).joined k j
+    stays (Refresh asked) j = (keeps_refresh who flat).joined k ∙ j
+    stays Leave j = joined_others_go k who flat (ne_eqb who k other) ∙ j

@@ -3,6 +3,9 @@ use Rattle.std.proofs.Common.{◌≡◌, ℕ, zero, suc, ◌≤◌, true, false,
 use Rattle.std.specs.Prelude.{Some, None, IfOk, OnErr, ◌==◌}
 use Rattle.std.specs.declared.result.Result.{Result}
 use Rattle.std.specs.declared.option.Option.{Option}
+use Rattle.std.proofs.lemmas.List.{append_assoc}
+use Rattle.kak_files.specs.Files.{Shelf}
+use Rattle.kak_files.specs.Exchanges.{Exchange}
 use Rattle.kak_world.specs.declared.world.TheConstants.{MAX_CLIENTS}
 use Rattle.kak_world.specs.Flat.{Flat, opening, is_here as is_among, is_joined}
 use Rattle.session_events.specs.declared.event.Event.{Event}
@@ -14,9 +17,10 @@ use Rattle.session_events.specs.declared.fault.StepFault.{StepFault}
 use Rattle.session_events.specs.Seats.{Steps}
 use Rattle.session_events.specs.Entries.{is_join, is_leave, entry_of, entry_with, AreOf}
 use Rattle.session_events.specs.Legal.{Away, is_here, presence_from, AreLeavings, IsLegal}
-use Rattle.kak_engine.specs.Steps.{after_entry, after_event, output_of, run_from, run, given_by, AreAskedFor, AllAskedFrom, AllAsked}
+use Rattle.kak_engine.specs.Steps.{after_entry, after_event, output_of, exchanged, exchanges_from, exchanges, run_from, run, given_by, AreAskedFor, AllAskedFrom, AllAsked}
 use Rattle.kak_engine.specs.Held.{Held, Stands, CanRun, Takes, refused_at, refused_by}
-use Rattle.kak_engine.specs.Honesty.{Stood}
+use Rattle.kak_engine.specs.Honesty.{Outside, IsUntouched, Stays, IsHonest, IsKept}
+use Rattle.kak_engine.proofs.HonestLemmas.{honest-none, kept-first, kept-more}
 use Rattle.kak_engine.proofs.LegalLemmas.{allowed, can-run, lives-more, within-more, presence-more}
 use Rattle.kak_engine.proofs.PresenceLemmas.{there_after, presence-after, here-after, joined-after, few-after, own-after}
 
@@ -42,8 +46,8 @@ refused-none None history limit who event e = e
 refused-none (Some at) history limit who event e = cc
 
 -- an event that such an engine doesn't refuse can be run
-pub can-step : (flat : Flat) (history : List Entry) (mark : Option ℕ) (limit who : ℕ) (event : Event) → Stands flat history mark limit → refused_at mark history limit who event ≡ None → CanRun event who flat
-can-step flat history mark limit who event s r =
+pub can-step : (flat : Flat) (history : List Entry) (mark : Option ℕ) (limit : ℕ) (shelf : Shelf) (who : ℕ) (event : Event) → Stands flat history mark limit shelf → refused_at mark history limit who event ≡ None → CanRun event who flat
+can-step flat history mark limit shelf who event s r =
     let free : mark ≡ None = mark-none mark history limit who event r in
     can-run history limit who event flat (s.world free) (s.here free) s.legal (refused-none mark history limit who event r)
 
@@ -55,30 +59,41 @@ nobody-joined : (who : ℕ) → is_joined who opening ≡ false
 unfolding is_joined
 nobody-joined who = refl
 
+-- what was exchanged with the files behind one more entry
+exchanges-more : (flat : Flat) (history : List Entry) (who : ℕ) (event : Event) (answers : List Answered)
+    → exchanges_from flat (history ++ entry_with who event answers ∷ []) ≡ exchanges_from flat history ++ exchanged who event answers (run_from flat history)
+exchanges-more flat [] who event answers = append-nil (exchanged who event answers flat)
+exchanges-more flat (e ∷ history) who event answers =
+    ap (λ (x : List Exchange). exchanged e.who e.event e.answers flat ++ x) (exchanges-more (after_entry e flat) history who event answers)
+    ∙ sym (append_assoc (exchanged e.who e.event e.answers flat) (exchanges_from (after_entry e flat) history) (exchanged who event answers (run_from (after_entry e flat) history)))
+
 -- an engine to which nothing happened stands
-pub stands-first : (flat : Flat) (history : List Entry) (limit : ℕ) → flat ≡ opening → history ≡ [] → Stands flat history None limit
-stands-first flat history limit e k = record {
+pub stands-first : (flat : Flat) (history : List Entry) (limit : ℕ) (shelf : Shelf) → flat ≡ opening → history ≡ [] → IsUntouched shelf.told → Stands flat history None limit shelf
+stands-first flat history limit shelf e k fresh = record {
   world = λ m. e ∙ ap run (sym k);
   known = λ m q. ap (is_joined q) e ∙ nobody-joined q ∙ ap (λ h. is_here (presence_from q Away h)) (sym k);
   here = λ m q. ap (λ f. is_among q f.clients) e ∙ ap (λ h. is_here (presence_from q Away h)) (sym k);
   few = λ m. subst (λ f. length f.clients ≤ MAX_CLIENTS) (sym e) (omega arith);
+  kept = λ m. subst (λ h. IsKept (exchanges h) shelf) (sym k) (kept-first shelf.told fresh);
   legal = subst (IsLegal limit) (sym k) (record { lives = λ q. refl; within = no-leavings limit });
   asked = subst AllAsked (sym k) tt;
 }
 
 -- an engine goes on to stand
-pub stands-more : (before now : Flat) (history new : List Entry) (mark : Option ℕ) (limit who : ℕ) (event : Event) (answers : List Answered) → Stands before history mark limit → refused_at mark history limit who event ≡ None
-    → (is_join event ≡ true → is_joined who now ≡ true) → now ≡ after_event who event answers before → AreAskedFor who event answers before → new ≡ history ++ entry_with who event answers ∷ [] → Stands now new mark limit
-stands-more before now history new mark limit who event answers s r came n asks k =
+pub stands-more : (before now : Flat) (history new : List Entry) (mark : Option ℕ) (limit : ℕ) (x y : Outside) (who : ℕ) (event : Event) (answers : List Answered) → Stands before history mark limit x.shelf → refused_at mark history limit who event ≡ None
+    → (is_join event ≡ true → is_joined who now ≡ true) → now ≡ after_event who event answers before → AreAskedFor who event answers before → IsHonest answers (exchanged who event answers before) x y → new ≡ history ++ entry_with who event answers ∷ []
+    → Stands now new mark limit y.shelf
+stands-more before now history new mark limit x y who event answers s r came n asks honest k =
     let free : mark ≡ None = mark-none mark history limit who event r in
     let a = allowed history limit who event (refused-none mark history limit who event r) in
     let same : before ≡ run history = s.world free in
     let came_after : is_join event ≡ true → is_joined who (after_event who event answers before) ≡ true = (λ j. ap (is_joined who) (sym n) ∙ came j) in
     record {
       world = λ m. n ∙ ap (after_event who event answers) same ∙ sym (run-more history who event answers) ∙ ap run (sym k);
-      known = λ m q. ap (is_joined q) n ∙ joined-after q who event answers before came_after ∙ ap (there_after event (who == q)) (s.known free q) ∙ behind q;
+      known = λ m q. ap (is_joined q) n ∙ joined-after q who event answers before (s.known free q ∙ sym (s.here free q)) came_after ∙ ap (there_after event (who == q)) (s.known free q) ∙ behind q;
       here = λ m q. ap (λ f. is_among q f.clients) n ∙ here-after q who event answers before ∙ ap (there_after event (who == q)) (s.here free q) ∙ behind q;
-      few = λ m. subst (λ f. length f.clients ≤ MAX_CLIENTS) (sym n) (few-after who event answers before (can-step before history mark limit who event s r) (s.few free));
+      few = λ m. subst (λ f. length f.clients ≤ MAX_CLIENTS) (sym n) (few-after who event answers before (can-step before history mark limit x.shelf who event s r) (s.few free));
+      kept = λ m. subst (λ (e : List Exchange). IsKept e y.shelf) (all same) (kept-more answers (exchanges history) (exchanged who event answers before) x y (s.kept free) honest);
       legal = subst (IsLegal limit) (sym k) (record {
         lives = lives-more history limit who event answers s.legal.lives (λ q. ap (is_joined q) (sym same) ∙ s.known free q) a;
         within = within-more history limit who event answers s.legal.within a;
@@ -89,13 +104,18 @@ stands-more before now history new mark limit who event answers s r came n asks 
     behind : (q : ℕ) → there_after event (who == q) (is_here (presence_from q Away history)) ≡ is_here (presence_from q Away new)
     behind q = sym (presence-after event (who == q) (presence_from q Away history)) ∙ ap is_here (sym (presence-more q who history event answers)) ∙ ap (λ h. is_here (presence_from q Away h)) (sym k)
 
+    all : before ≡ run history → exchanges history ++ exchanged who event answers before ≡ exchanges new
+    all same = ap (λ f. exchanges history ++ exchanged who event answers f) same ∙ sym (exchanges-more opening history who event answers) ∙ ap exchanges (sym k)
+
 -- behind a going
-pub left-stands : (before now : Flat) (history new : List Entry) (mark : Option ℕ) (limit who : ℕ) (event : Event) → Stands before history mark limit → refused_at mark history limit who event ≡ None
-    → is_leave event ≡ true → now ≡ after_event who Leave [] before → new ≡ history ++ entry_of who Leave ∷ [] → Stands now new mark limit
-left-stands before now history new mark limit who Leave s r goes n k = stands-more before now history new mark limit who Leave [] s r (λ j. let no : false ≡ true = j in cc) n refl k
-left-stands before now history new mark limit who Join s r goes n k = cc
-left-stands before now history new mark limit who (Struck key) s r goes n k = cc
-left-stands before now history new mark limit who (Refresh asked) s r goes n k = cc
+pub left-stands : (before now : Flat) (history new : List Entry) (mark : Option ℕ) (limit : ℕ) (shelf : Shelf) (who : ℕ) (event : Event) → Stands before history mark limit shelf → refused_at mark history limit who event ≡ None
+    → is_leave event ≡ true → now ≡ after_event who Leave [] before → new ≡ history ++ entry_of who Leave ∷ [] → Stands now new mark limit shelf
+left-stands before now history new mark limit shelf who Leave s r goes n k =
+    let o : Outside = record { shelf = shelf; refusals = 0 } in
+    stands-more before now history new mark limit o o who Leave [] s r (λ j. let no : false ≡ true = j in cc) n refl (honest-none o) k
+left-stands before now history new mark limit shelf who Join s r goes n k = cc
+left-stands before now history new mark limit shelf who (Struck key) s r goes n k = cc
+left-stands before now history new mark limit shelf who (Refresh asked) s r goes n k = cc
 
 -- who leaves has joined
 pub leaver-joined : (who : ℕ) (event : Event) (flat : Flat) → is_leave event ≡ true → CanRun event who flat → is_joined who flat ≡ true
@@ -105,15 +125,15 @@ leaver-joined who (Struck key) flat goes can = cc
 leaver-joined who (Refresh asked) flat goes can = cc
 
 -- an engine that broke
-pub stands-broken : (flat now : Flat) (history new : List Entry) (mark : Option ℕ) (limit at : ℕ) → Stands flat history mark limit → new ≡ history → Stands now new (Some at) limit
-stands-broken flat now history new mark limit at s e = record { world = λ m. cc; known = λ m. cc; here = λ m. cc; few = λ m. cc; legal = subst (IsLegal limit) (sym e) s.legal; asked = subst AllAsked (sym e) s.asked }
+pub stands-broken : (flat now : Flat) (history new : List Entry) (mark : Option ℕ) (limit at : ℕ) (x y : Shelf) → Stands flat history mark limit x → new ≡ history → Stands now new (Some at) limit y
+stands-broken flat now history new mark limit at x y s e = record { world = λ m. cc; known = λ m. cc; here = λ m. cc; few = λ m. cc; kept = λ m. cc; legal = subst (IsLegal limit) (sym e) s.legal; asked = subst AllAsked (sym e) s.asked }
 
 -- a client that made an event, and didn't leave by it, has joined in the world that the longer history leads to
-pub joined-more : (before now : Flat) (history new : List Entry) (mark : Option ℕ) (limit who : ℕ) (event : Event) (answers : List Answered) → Stands before history mark limit → refused_at mark history limit who event ≡ None
+pub joined-more : (before now : Flat) (history new : List Entry) (mark : Option ℕ) (limit : ℕ) (shelf : Shelf) (who : ℕ) (event : Event) (answers : List Answered) → Stands before history mark limit shelf → refused_at mark history limit who event ≡ None
     → (is_join event ≡ true → is_joined who now ≡ true) → now ≡ after_event who event answers before → new ≡ history ++ entry_with who event answers ∷ [] → is_leave event ≡ false → is_joined who (run new) ≡ true
-joined-more before now history new mark limit who event answers s r came n k stays =
+joined-more before now history new mark limit shelf who event answers s r came n k stays =
     ap (is_joined who) (ap run k ∙ run-more history who event answers ∙ ap (after_event who event answers) (sym (s.world (mark-none mark history limit who event r))))
-    ∙ own-after who event answers before (can-step before history mark limit who event s r) stays (λ j. ap (is_joined who) (sym n) ∙ came j)
+    ∙ own-after who event answers before (can-step before history mark limit shelf who event s r) stays (λ j. ap (is_joined who) (sym n) ∙ came j)
 
 -- the one client's step, as a seat tells it
 pub lone-steps : (r : Result Output StepFault) (x y : Held) (who : ℕ) (event : Event) → IfOk r (λ o. Takes who event x y o)
@@ -128,7 +148,7 @@ lone-steps (Ok o) x y who event t = record {
 lone-steps (Err e) x y who event t = tt
 
 -- the one client's entries are its own still
-pub lone-alone : (r : Result Output StepFault) (x y : Held) (who : ℕ) (event : Event) → IfOk r (λ o. Takes who event x y o) → OnErr r ((y.history ≡ x.history) × Stood x.refusals y.refusals) → AreOf who x.history → AreOf who y.history
+pub lone-alone : (r : Result Output StepFault) (x y : Held) (who : ℕ) (event : Event) → IfOk r (λ o. Takes who event x y o) → OnErr r ((y.history ≡ x.history) × Stays x.outside y.outside) → AreOf who x.history → AreOf who y.history
 lone-alone (Ok o) x y who event t e a = subst (AreOf who) (sym t.keeps) (one-more x.history a)
   where
     one-more : (h : List Entry) → AreOf who h → AreOf who (h ++ entry_with who event t.answers ∷ [])
@@ -139,3 +159,7 @@ lone-alone (Err f) x y who event t e a = subst (AreOf who) (sym e.0) a
 -- nothing was asked for when the client came
 pub first-entry : (who : ℕ) (x y : Held) (o : Output) → Takes who Join x y o → x.history ≡ [] → y.history ≡ entry_of who Join ∷ []
 first-entry who x y o t none = t.keeps ∙ ap (λ h. h ++ entry_with who Join t.answers ∷ []) none ∙ ap (λ a. entry_with who Join a ∷ []) t.asked
+
+-- and the outside wasn't called
+pub first-honest : (who : ℕ) (x y : Held) (o : Outside) (output : Output) → Takes who Join x y output → x.outside ≡ o → IsHonest [] [] o y.outside
+first-honest who x y o output t same = subst (λ q. IsHonest [] [] q y.outside) same (subst (λ a. IsHonest a [] x.outside y.outside) t.asked t.honest)

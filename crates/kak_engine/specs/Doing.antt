@@ -1,19 +1,29 @@
 -- What a row asks for is done: the one recursion of the editor, bounded by the units that are left.
-use Rattle.std.specs.Prelude.{ℕ, zero, suc, ◌+◌, ◌*◌, Bool, true, false, List, [], ◌∷◌, codes, encode_utf8_all, Some, None}
+use Rattle.std.specs.Prelude.{ℕ, zero, suc, ◌+◌, ◌*◌, Bool, true, false, List, [], ◌∷◌, ◌++◌, codes, encode_utf8_all, Some, None, Ok, Err}
 use Rattle.std.specs.declared.option.Option.{Option}
+use Rattle.std.specs.declared.result.Result.{Result}
 use Rattle.key_names.specs.declared.key.Key.{Key}
+use Rattle.kak_words.specs.declared.parts.Command.{Command}
+use Rattle.kak_files.specs.declared.files.FileRead.{FileRead}
+use Rattle.kak_files.specs.Exchanges.{Exchange, Read as WasRead, Written}
+use Rattle.kak_ports.specs.declared.sink.Put.{Put}
 use Rattle.kak_world.specs.declared.ask.Ask.{Ask}
-use Rattle.kak_world.specs.declared.ask.Ask.TheVariants.{Nothing, Commands, Make, Leave}
+use Rattle.kak_world.specs.declared.ask.Ask.TheVariants.{Nothing, Commands, Make, Read, Write, Leave}
+use Rattle.kak_world.specs.declared.ask.EditError.{EditError}
+use Rattle.kak_world.specs.declared.ask.EditError.TheVariants.{BudgetSpent}
+use Rattle.kak_world.specs.declared.ask.Saving.{Saving}
 use Rattle.kak_world.specs.declared.own.Mode.{Mode}
 use Rattle.kak_world.specs.declared.own.Mode.TheVariants.{Normal, Insert, Prompt}
 use Rattle.kak_world.specs.Flat.{Flat, mode_of, units_of, with_own, with_units}
-use Rattle.kak_world.specs.Rows.{Row, Asks, Fails, GivesUp, RowEnd, stages_of}
+use Rattle.kak_world.specs.Rows.{Row, Asks, Fails, GivesUp, RowEnd, error_text, stages_of}
 use Rattle.normal_keys.specs.Rows.{row_normal}
 use Rattle.insert_prompt.specs.Rows.{row_insert, row_prompt}
-use Rattle.command_set.specs.Rows.{commands_of, row_command}
+use Rattle.command_set.specs.Reading.{commands_of}
+use Rattle.command_set.specs.Rows.{row_command}
+use Rattle.command_set.specs.Files.{row_read, bytes_of, row_saved}
 use Rattle.command_set.specs.Finishing.{row_finish}
 use Rattle.session_events.specs.declared.event.Answered.{Answered}
-use Rattle.session_events.specs.declared.event.Answered.TheVariants.{Built, Refused}
+use Rattle.kak_engine.specs.Answering.{as_made, as_read, as_put}
 
 -- How doing something ended: well, with an error, or given up. Errors and giving up have a status text.
 pub data End : Type 0 where
@@ -21,12 +31,13 @@ pub data End : Type 0 where
   Failed : List ℕ → End
   GivenUp : List ℕ → End
 
--- a moment of a step: the world, the outside's answers that are still to come, and whether each so far was of the
--- kind that was asked for
+-- a moment of a step: the world, the outside's answers that are still to come, whether each so far was of the kind that
+-- was asked for, and what was exchanged with the files so far, in order
 pub record Moment : Type 0 where
   pub world : Flat
   pub answers : List Answered
   pub fit : Bool
+  pub exchanges : List Exchange
 
 -- the moment after something, and how it ended
 pub record Outcome : Type 0 where
@@ -54,8 +65,13 @@ budget_spent = codes "given up: budget spent"
 abbrev pub ends : End → Part
 ends end m = record { moment = m; end = end }
 
+-- how something ends that was refused: given up where its units were spent, else with the text of the refusal
+abbrev pub end_of : EditError → End
+end_of BudgetSpent = GivenUp budget_spent
+end_of error = Failed (error_text error)
+
 abbrev pub in_world : Flat → Moment → Moment
-in_world world m = record { world = world; answers = m.answers; fit = m.fit }
+in_world world m = record m { world = world }
 
 -- one part after another, up to the first that doesn't end well
 abbrev pub after : End → Part → Part
@@ -83,19 +99,45 @@ abbrev pub go_on : Go → Place → RowEnd → Part
 go_on go p end m = go p end.row (in_world end.world m)
 
 -- one command, which takes a unit
-abbrev pub run_command : Go → ℕ → Place → List ℕ → Part
-run_command go who p text m = with_unit (λ n. go_on go p (row_command text who n.world) n) m
+abbrev pub run_command : Go → ℕ → Place → Command → Part
+run_command go who p command m = with_unit (λ n. go_on go p (row_command command who n.world) n) m
 
--- a text as commands
+-- the commands of a text, one after another up to the first error; or why the text has none
+abbrev pub run_read : Go → ℕ → Place → Result (List Command) EditError → Part
+run_read go who p (Ok commands) m = each (run_command go who p) commands m
+run_read go who p (Err error) m = ends (end_of error) m
+
+-- a text as commands: it is read whole before the first one is run
 abbrev pub run_text : Go → ℕ → Place → List ℕ → Part
-run_text go who p text m = each (run_command go who p) (commands_of text) m
+run_text go who p text m = run_read go who p (commands_of text) m
 
--- a part behind the next answer, which is to tell whether the pattern of a text was built: the part is handed that text
--- where it was, and none where it was refused; an answer that is wanting, or of another kind, fits not
-abbrev pub with_made : (Option (List ℕ) → Part) → List ℕ → List Answered → Part
-with_made part text (Built ∷ later) m = part (Some text) (record { world = m.world; answers = later; fit = m.fit })
-with_made part text (Refused ∷ later) m = part None (record { world = m.world; answers = later; fit = m.fit })
-with_made part text answers m = ends Fine (record { world = m.world; answers = answers; fit = false })
+-- a part that is handed an answer, where that is of the kind that was asked for; else the answers don't fit
+abbrev pub taken_as : {A : Type 0} → Option A → (A → Part) → List Answered → Part
+taken_as (Some x) part later m = part x (record m { answers = later })
+taken_as None part later m = ends Fine (record m { fit = false })
+
+-- a part that is handed the next answer of the outside; with none left they don't fit either
+abbrev pub next_as : {A : Type 0} → (Answered → Option A) → (A → Part) → List Answered → Part
+next_as kind part [] m = ends Fine (record m { fit = false })
+next_as kind part (answer ∷ later) m = taken_as (kind answer) part later m
+
+-- a moment behind more exchanges with the files
+abbrev pub exchanging : List Exchange → Moment → Moment
+exchanging exchanges m = record m { exchanges = m.exchanges ++ exchanges }
+
+-- the row that goes on with an answer, behind what was exchanged with the files by it
+abbrev pub go_back : {A : Type 0} → Go → Place → (A → Flat → List Exchange) → (A → Flat → RowEnd) → A → Part
+go_back go p exchange row answer m = go_on go p (row answer m.world) (exchanging (exchange answer m.world) m)
+
+-- what is exchanged with the files where a pattern is made, a file is read, and one is written
+abbrev pub by_making : {A : Type 0} → A → Flat → List Exchange
+by_making made flat = []
+
+abbrev pub by_reading : List ℕ → FileRead → Flat → List Exchange
+by_reading name read flat = WasRead name read ∷ []
+
+abbrev pub by_writing : Saving → Put → Flat → List Exchange
+by_writing saving put flat = Written saving.file (bytes_of saving flat) put ∷ []
 
 -- the client is granted to leave
 abbrev pub granted : ℕ → Flat → Flat
@@ -105,7 +147,9 @@ granted who flat = with_own who (λ o. record o { leaving = true }) flat
 abbrev pub do_ask : Go → ℕ → Place → Ask → Part
 do_ask go who p Nothing m = ends Fine m
 do_ask go who p (Commands text) m = run_text go who p text m
-do_ask go who p (Make wanted) m = with_made (λ made n. go_on go p (row_finish wanted.then made who n.world) n) (encode_utf8_all wanted.pattern) m.answers m
+do_ask go who p (Make wanted) m = next_as (as_made (encode_utf8_all wanted.pattern)) (go_back go p by_making (λ made flat. row_finish wanted.then made who flat)) m.answers m
+do_ask go who p (Read name) m = next_as as_read (go_back go p (by_reading name) (λ read flat. row_read name read who flat)) m.answers m
+do_ask go who p (Write saving) m = next_as as_put (go_back go p (by_writing saving) (λ put flat. row_saved saving put who flat)) m.answers m
 do_ask go who p Leave m = ends Fine (in_world (granted who m.world) m)
 
 -- what comes after a row

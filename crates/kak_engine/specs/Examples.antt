@@ -1,25 +1,42 @@
--- Worked examples of rows that ask for a pattern.
+-- Worked examples of rows that ask the outside for something.
 use Rattle.std.specs.Prelude.{◌≡◌, ℕ, true, false, List, [], ◌∷◌, Some, None, encode_utf8_all}
-use Rattle.kak_world.specs.declared.ask.Ask.TheVariants.{Make}
+use Rattle.kak_files.specs.declared.files.FileRead.TheVariants as file
+use Rattle.kak_files.specs.Exchanges.{Read as WasRead, Written}
+use Rattle.kak_ports.specs.declared.sink.Put.TheVariants as put
+use Rattle.kak_world.specs.declared.ask.Ask.TheVariants.{Make, Read as ToRead, Write}
+use Rattle.kak_world.specs.declared.ask.Saving.{Saving}
 use Rattle.kak_world.specs.declared.purpose.PatternUse.{PatternUse}
 use Rattle.kak_world.specs.Flat.{Flat}
 use Rattle.kak_world.specs.Rows.{Asks}
+use Rattle.command_set.specs.Files.{row_read, bytes_of, row_saved}
 use Rattle.command_set.specs.Finishing.{row_finish}
 use Rattle.session_events.specs.declared.event.Answered.{Answered}
-use Rattle.session_events.specs.declared.event.Answered.TheVariants.{Built, Refused, Wrote}
+use Rattle.session_events.specs.declared.event.Answered.TheVariants.{Read, NotThere, Wrote, WriteFailed, Built, Refused}
 use Rattle.kak_engine.specs.Doing.{Fine, ends, go_on, Do, top}
+use Rattle.kak_engine.specs.Seen.{moment_of}
 
 pub record Examples : Type 0 where
   -- a row that asks for a pattern takes the next answer: one that was built is made use of
   pub built : (who : ℕ) (wanted : PatternUse) (flat : Flat) (later : List Answered)
-      → Do who top (Asks (Make wanted)) (record { world = flat; answers = Built ∷ later; fit = true })
-      ≡ go_on (Do who) top (row_finish wanted.then (Some (encode_utf8_all wanted.pattern)) who flat) (record { world = flat; answers = later; fit = true })
+      → Do who top (Asks (Make wanted)) (moment_of [] (Built ∷ later) flat)
+      ≡ go_on (Do who) top (row_finish wanted.then (Some (encode_utf8_all wanted.pattern)) who flat) (moment_of [] later flat)
   -- one that was refused is told
   pub refused : (who : ℕ) (wanted : PatternUse) (flat : Flat) (later : List Answered)
-      → Do who top (Asks (Make wanted)) (record { world = flat; answers = Refused ∷ later; fit = true })
-      ≡ go_on (Do who) top (row_finish wanted.then None who flat) (record { world = flat; answers = later; fit = true })
+      → Do who top (Asks (Make wanted)) (moment_of [] (Refused ∷ later) flat)
+      ≡ go_on (Do who) top (row_finish wanted.then None who flat) (moment_of [] later flat)
   -- with no answer, or one of another kind, the answers don't fit what was asked for
   pub wanting : (who : ℕ) (wanted : PatternUse) (flat : Flat)
-      → Do who top (Asks (Make wanted)) (record { world = flat; answers = []; fit = true }) ≡ ends Fine (record { world = flat; answers = []; fit = false })
+      → Do who top (Asks (Make wanted)) (moment_of [] [] flat) ≡ ends Fine (record { world = flat; answers = []; fit = false; exchanges = [] })
   pub another : (who : ℕ) (wanted : PatternUse) (flat : Flat) (later : List Answered)
-      → Do who top (Asks (Make wanted)) (record { world = flat; answers = Wrote ∷ later; fit = true }) ≡ ends Fine (record { world = flat; answers = Wrote ∷ later; fit = false })
+      → Do who top (Asks (Make wanted)) (moment_of [] (Wrote ∷ later) flat) ≡ ends Fine (record { world = flat; answers = Wrote ∷ later; fit = false; exchanges = [] })
+  -- a row that asks for a file goes on with what it was read as, which stands among what was exchanged with the files
+  pub read : (who : ℕ) (name bytes : List ℕ) (flat : Flat) (later : List Answered)
+      → Do who top (Asks (ToRead name)) (moment_of [] (Read bytes ∷ later) flat)
+      ≡ go_on (Do who) top (row_read name (file.Bytes bytes) who flat) (moment_of (WasRead name (file.Bytes bytes) ∷ []) later flat)
+  -- and one that has a file written goes on with whether it was
+  pub unwritten : (who : ℕ) (saving : Saving) (flat : Flat) (later : List Answered)
+      → Do who top (Asks (Write saving)) (moment_of [] (WriteFailed ∷ later) flat)
+      ≡ go_on (Do who) top (row_saved saving put.Failed who flat) (moment_of (Written saving.file (bytes_of saving flat) put.Failed ∷ []) later flat)
+  -- what is answered where a file is read says nothing of one that is written
+  pub not_written : (who : ℕ) (saving : Saving) (flat : Flat) (later : List Answered)
+      → Do who top (Asks (Write saving)) (moment_of [] (NotThere ∷ later) flat) ≡ ends Fine (record { world = flat; answers = NotThere ∷ later; fit = false; exchanges = [] })

@@ -11,26 +11,28 @@ use Rattle.session_events.specs.declared.fault.StepFault.TheVariants.{Broken, No
 use Rattle.session_events.specs.declared.event.Answered.{Answered}
 use Rattle.session_events.specs.Entries.{entry_with, is_join, is_leave}
 use Rattle.session_events.specs.Legal.{Away, presence_from, is_here, IsLegal}
+use Rattle.kak_files.specs.Files.{Shelf}
 use Rattle.kak_world.specs.declared.world.TheConstants.{MAX_CLIENTS}
 use Rattle.kak_world.specs.Flat.{Flat, is_here as is_among, is_joined}
-use Rattle.kak_engine.specs.Steps.{run, output_of, has_joined, is_full, AreAskedFor, AllAsked}
-use Rattle.kak_engine.specs.Honesty.{IsHonest}
+use Rattle.kak_engine.specs.Steps.{run, output_of, exchanged, exchanges, has_joined, is_full, AreAskedFor, AllAsked}
+use Rattle.kak_engine.specs.Honesty.{Outside, IsHonest, IsKept}
 
--- an engine: its history, the number of entries that stood when it broke, if it did, how many it may have, and how often
--- its maker of patterns has refused
+-- an engine: its history, the number of entries that stood when it broke, if it did, how many it may have, and its outside
 pub record Held : Type 0 where
   pub history : List Entry
   pub mark : Option ℕ
   pub limit : ℕ
-  pub refusals : ℕ
+  pub outside : Outside
 
 -- An engine that isn't broken has the world that its history leads to, in which those clients are, and have joined, that
--- have come and not gone, and no more than there may be. Its history is one that there can be.
-pub record Stands (flat : Flat) (history : List Entry) (mark : Option ℕ) (limit : ℕ) : Type 0 where
+-- have come and not gone, and no more than there may be. What was exchanged with its files in its history is what led to
+-- what they hold. Its history is one that there can be.
+pub record Stands (flat : Flat) (history : List Entry) (mark : Option ℕ) (limit : ℕ) (shelf : Shelf) : Type 0 where
   pub world : mark ≡ None → flat ≡ run history
   pub known : mark ≡ None → (who : ℕ) → is_joined who flat ≡ is_here (presence_from who Away history)
   pub here : mark ≡ None → (who : ℕ) → is_among who flat.clients ≡ is_here (presence_from who Away history)
   pub few : mark ≡ None → length flat.clients ≤ MAX_CLIENTS
+  pub kept : mark ≡ None → IsKept (exchanges history) shelf
   pub legal : IsLegal limit history
   pub asked : AllAsked history
 
@@ -75,10 +77,10 @@ CanRun Join who flat = CanCome who flat
 CanRun _ who flat = is_joined who flat ≡ true
 
 -- An event of a client was taken: its entry was added with what the outside answered, which is what was asked for, and the
--- output is what it gives on the world that the history led to. A pattern was refused only where the maker had refused.
+-- output is what it gives on the world that the history led to. The outside was honest in it.
 pub record Takes (who : ℕ) (event : Event) (old new : Held) (output : Output) : Type 0 where
   pub answers : List Answered
   pub keeps : new.history ≡ old.history ++ entry_with who event answers ∷ []
   pub gives : output ≡ output_of who event answers (run old.history)
   pub asked : AreAskedFor who event answers (run old.history)
-  pub honest : IsHonest answers old.refusals new.refusals
+  pub honest : IsHonest answers (exchanged who event answers (run old.history)) old.outside new.outside

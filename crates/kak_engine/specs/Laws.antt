@@ -1,8 +1,8 @@
 -- Laws of the definitions, each proved as the contract of a function of `laws`.
-use Rattle.std.specs.Prelude.{◌≡◌, ◌≢◌, ℕ, ◌<◌, List}
+use Rattle.std.specs.Prelude.{◌≡◌, ◌≢◌, ℕ, ◌<◌, true, List}
 use Rattle.key_names.specs.declared.key.Key.{Key}
-use Rattle.kak_world.specs.Flat.{Flat, is_joined}
-use Rattle.kak_world.specs.Keeping.{KeepsClients}
+use Rattle.kak_world.specs.Dropping.{KeepsJoined}
+use Rattle.kak_world.specs.Flat.{Flat, is_here, is_joined}
 use Rattle.kak_world.specs.Rows.{Row}
 use Rattle.session_events.specs.declared.event.Event.{Event}
 use Rattle.session_events.specs.declared.event.Answered.{Answered}
@@ -13,10 +13,15 @@ use Rattle.kak_engine.specs.Steps.{after_event, after_key}
 abbrev pub BoundEndsNoStep : Type 0
 BoundEndsNoStep = (n who : ℕ) (p : Place) (row : Row) (m : Moment) → depth_of row m.world < n → do_within n who p row m ≡ Do who p row m
 
--- no key makes a client come or go, its own or another one
+-- no key makes a client come or go, its own or another one, and each that had joined has joined still
 abbrev pub KeysKeepClients : Type 0
-KeysKeepClients = (who : ℕ) (key : Key) (answers : List Answered) (flat : Flat) → KeepsClients flat (after_key who key answers flat)
+KeysKeepClients = (who : ℕ) (key : Key) (answers : List Answered) (flat : Flat) → KeepsJoined flat (after_key who key answers flat)
+
+-- Another client is not there after an event of a client where it wasn't before, and where it was it is there still.
+pub record StaysThere (k : ℕ) (old new : Flat) : Type 0 where
+  pub here : is_here k new.clients ≡ is_here k old.clients
+  pub joined : is_joined k old ≡ true → is_joined k new ≡ true
 
 -- no event of a client makes another one come or go
 abbrev pub OthersStay : Type 0
-OthersStay = (who k : ℕ) (event : Event) (answers : List Answered) (flat : Flat) → who ≢ k → is_joined k (after_event who event answers flat) ≡ is_joined k flat
+OthersStay = (who k : ℕ) (event : Event) (answers : List Answered) (flat : Flat) → who ≢ k → StaysThere k flat (after_event who event answers flat)

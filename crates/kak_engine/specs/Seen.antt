@@ -2,15 +2,13 @@
 use Rattle.std.specs.Prelude.{◌≡◌, ℕ, true, List, ◌++◌, Ok, Err}
 use Rattle.std.specs.declared.result.Result.{Result}
 use Rattle.std.specs.declared.alloc.AllocError.{AllocError}
-use Rattle.kak_world.specs.declared.ask.EditError.{EditError}
-use Rattle.kak_world.specs.declared.ask.EditError.TheVariants.{BudgetSpent}
-use Rattle.kak_world.specs.Rows.{error_text}
+use Rattle.kak_files.specs.Exchanges.{Exchange}
 use Rattle.kak_world.specs.Flat.{Flat}
 use Rattle.session_events.specs.declared.event.Answered.{Answered}
 use Rattle.kak_engine.specs.declared.doing.Ending.{Ending}
 use Rattle.kak_engine.specs.declared.doing.Ending.TheVariants as code
 use Rattle.kak_engine.specs.Doing.{End, Fine, Failed, GivenUp, Moment, Part, budget_spent}
-use Rattle.kak_engine.specs.Honesty.{Stood, IsHonest}
+use Rattle.kak_engine.specs.Honesty.{Outside, Stays, IsHonest}
 
 -- how something ended
 abbrev pub end_seen : Ending → End
@@ -18,33 +16,29 @@ end_seen code.Fine = Fine
 end_seen (code.Failed text) = Failed text
 end_seen code.GivenUp = GivenUp budget_spent
 
--- how a row ends that was refused: given up where its units were spent, else with the text of the refusal
-abbrev pub end_of : EditError → End
-end_of BudgetSpent = GivenUp budget_spent
-end_of error = Failed (error_text error)
-
 -- a moment of a step whose answers so far were of the kind that was asked for
-abbrev pub moment_of : List Answered → Flat → Moment
-moment_of answers flat = record { world = flat; answers = answers; fit = true }
+abbrev pub moment_of : List Exchange → List Answered → Flat → Moment
+moment_of exchanges answers flat = record { world = flat; answers = answers; fit = true; exchanges = exchanges }
 
--- a step under way: the world, what the outside answered so far, and how often the maker of patterns has refused
+-- a step under way: the world, what the outside answered so far, and the outside
 pub record UnderWay : Type 0 where
   pub world : Flat
   pub had : List Answered
-  pub refusals : ℕ
+  pub outside : Outside
 
-abbrev pub under_way : Flat → List Answered → ℕ → UnderWay
-under_way world had refusals = record { world = world; had = had; refusals = refusals }
+abbrev pub under_way : Flat → List Answered → Outside → UnderWay
+under_way world had outside = record { world = world; had = had; outside = outside }
 
 -- A part was done: the outside answered what it was asked for and nothing else, whatever answers are still to come, and
--- told of a refusal only where the maker had refused.
+-- was honest in it.
 pub record Does (part : Part) (old new : UnderWay) (end : End) : Type 0 where
   pub used : List Answered
+  pub exchanged : List Exchange
   pub kept : new.had ≡ old.had ++ used
-  pub leads : (later : List Answered) → part (moment_of (used ++ later) old.world) ≡ record { moment = moment_of later new.world; end = end }
-  pub honest : IsHonest used old.refusals new.refusals
+  pub leads : (before : List Exchange) (later : List Answered) → part (moment_of before (used ++ later) old.world) ≡ record { moment = moment_of (before ++ exchanged) later new.world; end = end }
+  pub honest : IsHonest used exchanged old.outside new.outside
 
--- unless memory was wanting, the part was done and ended as was answered; the count of refusals never falls
+-- unless memory was wanting, the part was done and ended as was answered; the outside is the same still
 abbrev pub Ends : Result Ending AllocError → Part → UnderWay → UnderWay → Type 0
-Ends (Err e) part old new = Stood old.refusals new.refusals
+Ends (Err e) part old new = Stays old.outside new.outside
 Ends (Ok ending) part old new = Does part old new (end_seen ending)

@@ -1,6 +1,7 @@
 -- The steps of a session: what each entry of its history does to the world, and what it gives its client.
-use Rattle.std.specs.Prelude.{◌≡◌, ℕ, Bool, true, false, not, ◌&&◌, ◌==◌, nat_le, if◌then◌else◌, List, [], ◌∷◌, length, None, Some, ⊤}
+use Rattle.std.specs.Prelude.{◌≡◌, ℕ, Bool, true, false, not, ◌&&◌, ◌==◌, nat_le, if◌then◌else◌, List, [], ◌∷◌, ◌++◌, length, None, Some, ⊤}
 use Rattle.std.specs.List.{list_any}
+use Rattle.kak_files.specs.Exchanges.{Exchange}
 use Rattle.key_names.specs.declared.key.Key.{Key}
 use Rattle.kak_world.specs.declared.own.Mode.{Mode}
 use Rattle.kak_world.specs.declared.own.Mode.TheVariants.{Normal, Insert, Prompt}
@@ -33,7 +34,7 @@ begun who flat = with_units 4096 (with_own who (λ o. record o { status = Quiet 
 
 -- the moment when a key begins
 abbrev pub first_moment : ℕ → Flat → List Answered → Moment
-first_moment who flat answers = record { world = begun who flat; answers = answers; fit = true }
+first_moment who flat answers = record { world = begun who flat; answers = answers; fit = true; exchanges = [] }
 
 -- what is pending of a client whose key ends in a mode: outside insert mode it is committed
 abbrev pub ends_group : Mode → ℕ → Flat → Flat
@@ -56,6 +57,16 @@ struck who key answers flat = strike who top key (first_moment who flat answers)
 unfoldable pub after_key : ℕ → Key → List Answered → Flat → Flat
 after_key who key answers flat =
     if is_leaving who flat then flat else ended who (struck who key answers flat)
+
+-- what is exchanged with the files by a key, in order
+unfoldable pub exchanged_by_key : ℕ → Key → List Answered → Flat → List Exchange
+exchanged_by_key who key answers flat =
+    if is_leaving who flat then [] else (struck who key answers flat).moment.exchanges
+
+-- what is exchanged with the files by an event; only a key has them read or written
+abbrev pub exchanged : ℕ → Event → List Answered → Flat → List Exchange
+exchanged who (Struck key) answers flat = exchanged_by_key who key answers flat
+exchanged who _ answers flat = []
 
 -- a client was drawn
 abbrev pub noted_drawn : ℕ → Flat → Flat
@@ -85,6 +96,14 @@ run_from flat (entry ∷ entries) = run_from (after_entry entry flat) entries
 
 abbrev pub run : List Entry → Flat
 run history = run_from opening history
+
+-- what is exchanged with the files by the entries of a history, in order
+abbrev pub exchanges_from : Flat → List Entry → List Exchange
+exchanges_from flat [] = []
+exchanges_from flat (entry ∷ entries) = exchanged entry.who entry.event entry.answers flat ++ exchanges_from (after_entry entry flat) entries
+
+abbrev pub exchanges : List Entry → List Exchange
+exchanges history = exchanges_from opening history
 
 -- whether an entry is that client's joining
 abbrev pub is_join_of : ℕ → Entry → Bool

@@ -1,24 +1,26 @@
 //! Keys and commands, and what they ask for.
 #![tactic(auto, using(kak_world::proofs::WorldLaws::world_laws))]
 
-ghost use Rattle.std.specs.Prelude.{◌≡◌, ◌∷◌, ◌++◌, [], true, encode_utf8_all, IfOk, IsErr, OnOk, OnErr};
+ghost use Rattle.std.specs.Prelude.{◌≡◌, true, IfOk, IsErr, OnOk};
 ghost use Rattle.kak_world.specs.Flat.{Flat, is_joined};
 ghost use Rattle.kak_world.specs.Rows.{Gives, RowEnd, Asks};
-ghost use Rattle.kak_world.specs.declared.ask.Ask.TheVariants.{Make};
-ghost use Rattle.regex_ports.specs.Making.{IfBuilt, IsCounted};
-ghost use Rattle.kak_engine.specs.Doing.{Do, strike as strike_part, granted, row_key, run_text, go_on as row_and_rest, top};
-ghost use Rattle.kak_engine.specs.Honesty.{Stood, told_of};
-ghost use Rattle.kak_engine.specs.Seen.{Ends, end_seen, end_of, under_way};
+ghost use Rattle.kak_world.specs.declared.ask.Ask.TheVariants.{Make, Read, Write};
+ghost use Rattle.kak_engine.specs.Doing.{Do, each, strike as strike_part, granted, row_key, run_text, run_command as one, go_on as rest_of, end_of, top};
+ghost use Rattle.kak_engine.specs.Seen.{Ends, end_seen, under_way};
 
-use command_set::{command, finish};
+use crate::asking::{make, read_told, write};
+use crate::outside::Outside;
+use command_set::{finish, note_saved, open_read, read, run_command};
 use insert_prompt::{insert_key, prompt_key};
+use kak_files::Files;
+use kak_ports::small::Utf8Text;
 use kak_text::Chars;
-use kak_world::{Ask, EditError, Mode, PatternUse, World};
+use kak_words::Command;
+use kak_world::{Ask, EditError, Mode, PatternUse, Saving, World};
 use key_names::Key;
-use key_rows::string_of;
 use normal_keys::normal_key;
-use regex_ports::{Made, Pattern, PatternMaker};
-use session_events::{Answered, Answers};
+use regex_ports::PatternMaker;
+use session_events::Answers;
 use std::alloc::{AllocError, Global};
 
 /// How doing something ended.
@@ -45,7 +47,7 @@ fn run_row(alloc: Global, world: &mut World, who: u32, key: Key) -> Result<Ask, 
     }
 }
 
-// How a row ends that was refused.
+// How something ends that was refused.
 fn ending_of(alloc: Global, error: EditError) -> Result<Ending, AllocError>
     ensures ends { IfOk result (λ ending. end_seen ending ≡ end_of error) }
     ensures memory { error ≡ EditError.NoMemory → IsErr result }
@@ -64,70 +66,44 @@ fn grant_leave(world: &mut World, who: u32)
     world.own_mut(who).leaving = true;
 }
 
-// What a maker of patterns answered, as a history has it.
-fn told_of<P: Pattern>(made: &Made<P>) -> Answered
-    ensures { result ≡ told_of made.now }
-{
-    match made {
-        Made::Built(_) => Answered::Built,
-        Made::Refused => Answered::Refused,
-    }
-}
-
-// Has the pattern of a text made, and keeps what the maker answered.
-fn make<M: PatternMaker>(
-    alloc: Global,
-    maker: &mut M,
-    answers: &mut Answers,
-    pattern: &[char],
-) -> Result<Made<M::P>, AllocError>
-    ensures built { IfOk result (λ made. IfBuilt made (λ p. M.P.source p ≡ encode_utf8_all pattern.now)) }
-    ensures counted { IfOk result (λ made. IsCounted made (M.refusals maker.old) (M.refusals maker.new)) }
-    ensures kept { IfOk result (λ made. answers.new ≡ answers.old ++ told_of made ∷ []) }
-    ensures err { OnErr result (Stood (M.refusals maker.old) (M.refusals maker.new)) }
-{
-    let text = string_of(alloc, pattern)?;
-    let made = maker.make(alloc, text.as_str())?;
-    answers.push(told_of(&made))?;
-    Ok(made)
-}
-
 // Does what a row asks for, or ends with its error.
 #[cycle(nested)]
-fn go_on<M: PatternMaker>(
+fn go_on<F: Files, M: PatternMaker>(
     alloc: Global,
     world: &mut World,
-    maker: &mut M,
+    outside: &mut Outside<F, M>,
     answers: &mut Answers,
     who: u32,
     row: Result<Ask, EditError>,
 ) -> Result<Ending, AllocError>
     requires { OnOk row (is_joined who world.old.flat ≡ true) }
-    ensures does { (before : Flat) (end : RowEnd) → Gives row world.old.flat end → Ends result (λ m. row_and_rest (Do who) top end m) (under_way before answers.old (M.refusals maker.old)) (under_way world.new.flat answers.new (M.refusals maker.new)) }
+    ensures does { (before : Flat) (end : RowEnd) → Gives row world.old.flat end → Ends result (λ m. rest_of (Do who) top end m) (under_way before answers.old outside.old) (under_way world.new.flat answers.new outside.new) }
 {
     match row {
-        Ok(ask) => do_ask(alloc, world, maker, answers, who, ask),
+        Ok(ask) => do_ask(alloc, world, outside, answers, who, ask),
         Err(error) => ending_of(alloc, error),
     }
 }
 
 // Does what an ask says.
 #[cycle(nested)]
-fn do_ask<M: PatternMaker>(
+fn do_ask<F: Files, M: PatternMaker>(
     alloc: Global,
     world: &mut World,
-    maker: &mut M,
+    outside: &mut Outside<F, M>,
     answers: &mut Answers,
     who: u32,
     ask: Ask,
 ) -> Result<Ending, AllocError>
     requires { is_joined who world.old.flat ≡ true }
-    ensures does { Ends result (λ m. Do who top (Asks ask) m) (under_way world.old.flat answers.old (M.refusals maker.old)) (under_way world.new.flat answers.new (M.refusals maker.new)) }
+    ensures does { Ends result (λ m. Do who top (Asks ask) m) (under_way world.old.flat answers.old outside.old) (under_way world.new.flat answers.new outside.new) }
 {
     match ask {
         Ask::Nothing => Ok(Ending::Fine),
-        Ask::Commands(text) => run_commands(alloc, world, maker, answers, who, text.as_slice()),
-        Ask::Make(wanted) => make_and_use(alloc, world, maker, answers, who, wanted),
+        Ask::Commands(text) => run_text(alloc, world, outside, answers, who, text.as_slice()),
+        Ask::Make(wanted) => make_and_use(alloc, world, outside, answers, who, wanted),
+        Ask::Read(name) => read_and_show(alloc, world, outside, answers, who, name),
+        Ask::Write(saving) => write_and_note(alloc, world, outside, answers, who, saving),
         Ask::Leave => {
             grant_leave(world, who);
             Ok(Ending::Fine)
@@ -137,62 +113,138 @@ fn do_ask<M: PatternMaker>(
 
 // Has a pattern made, and goes on with the use of it that is wanted.
 #[cycle(nested)]
-fn make_and_use<M: PatternMaker>(
+fn make_and_use<F: Files, M: PatternMaker>(
     alloc: Global,
     world: &mut World,
-    maker: &mut M,
+    outside: &mut Outside<F, M>,
     answers: &mut Answers,
     who: u32,
     wanted: PatternUse,
 ) -> Result<Ending, AllocError>
     requires { is_joined who world.old.flat ≡ true }
-    ensures does { Ends result (λ m. Do who top (Asks (Make wanted)) m) (under_way world.old.flat answers.old (M.refusals maker.old)) (under_way world.new.flat answers.new (M.refusals maker.new)) }
+    ensures does { Ends result (λ m. Do who top (Asks (Make wanted)) m) (under_way world.old.flat answers.old outside.old) (under_way world.new.flat answers.new outside.new) }
 {
-    let made = make(alloc, maker, answers, wanted.pattern.as_slice())?;
+    let made = make(alloc, outside, answers, wanted.pattern.as_slice())?;
     let row = finish(alloc, world, who, wanted.then, made);
-    go_on(alloc, world, maker, answers, who, row)
+    go_on(alloc, world, outside, answers, who, row)
+}
+
+// Has a file read, and shows it. What was read is shown first and kept then, so that its bytes aren't copied.
+#[cycle(nested)]
+fn read_and_show<F: Files, M: PatternMaker>(
+    alloc: Global,
+    world: &mut World,
+    outside: &mut Outside<F, M>,
+    answers: &mut Answers,
+    who: u32,
+    name: Utf8Text,
+) -> Result<Ending, AllocError>
+    requires { is_joined who world.old.flat ≡ true }
+    ensures does { Ends result (λ m. Do who top (Asks (Read name)) m) (under_way world.old.flat answers.old outside.old) (under_way world.new.flat answers.new outside.new) }
+{
+    let read = outside.read(alloc, name.as_str())?;
+    let row = open_read(alloc, world, who, name, &read);
+    answers.push(read_told(read))?;
+    go_on(alloc, world, outside, answers, who, row)
+}
+
+// Has a buffer written to a file, and goes on with whether it was.
+#[cycle(nested)]
+fn write_and_note<F: Files, M: PatternMaker>(
+    alloc: Global,
+    world: &mut World,
+    outside: &mut Outside<F, M>,
+    answers: &mut Answers,
+    who: u32,
+    saving: Saving,
+) -> Result<Ending, AllocError>
+    requires { is_joined who world.old.flat ≡ true }
+    ensures does { Ends result (λ m. Do who top (Asks (Write saving)) m) (under_way world.old.flat answers.old outside.old) (under_way world.new.flat answers.new outside.new) }
+{
+    let put = write(alloc, world, outside, answers, &saving)?;
+    let row = note_saved(alloc, world, who, saving, put);
+    go_on(alloc, world, outside, answers, who, row)
+}
+
+// Runs one command.
+#[cycle(nested)]
+fn run_one<F: Files, M: PatternMaker>(
+    alloc: Global,
+    world: &mut World,
+    outside: &mut Outside<F, M>,
+    answers: &mut Answers,
+    who: u32,
+    command: &Command,
+) -> Result<Ending, AllocError>
+    requires { is_joined who world.old.flat ≡ true }
+    ensures does { Ends result (λ m. one (Do who) who top command.now m) (under_way world.old.flat answers.old outside.old) (under_way world.new.flat answers.new outside.new) }
+{
+    if !world.take_unit() {
+        return Ok(Ending::GivenUp);
+    }
+    let row = run_command(alloc, world, who, command);
+    go_on(alloc, world, outside, answers, who, row)
+}
+
+// Runs commands, up to the first that doesn't end well.
+#[cycle(nested)]
+fn run_each<F: Files, M: PatternMaker>(
+    alloc: Global,
+    world: &mut World,
+    outside: &mut Outside<F, M>,
+    answers: &mut Answers,
+    who: u32,
+    commands: &[Command],
+) -> Result<Ending, AllocError>
+    requires { is_joined who world.old.flat ≡ true }
+    ensures does { Ends result (λ m. each (one (Do who) who top) commands.now m) (under_way world.old.flat answers.old outside.old) (under_way world.new.flat answers.new outside.new) }
+{
+    for command in commands {
+        match run_one(alloc, world, outside, answers, who, command)? {
+            Ending::Fine => {}
+            Ending::Failed(text) => return Ok(Ending::Failed(text)),
+            Ending::GivenUp => return Ok(Ending::GivenUp),
+        }
+    }
+    Ok(Ending::Fine)
 }
 
 // Runs a text as commands.
 #[cycle(nested)]
-fn run_commands<M: PatternMaker>(
+fn run_text<F: Files, M: PatternMaker>(
     alloc: Global,
     world: &mut World,
-    maker: &mut M,
+    outside: &mut Outside<F, M>,
     answers: &mut Answers,
     who: u32,
     text: &[char],
 ) -> Result<Ending, AllocError>
     requires { is_joined who world.old.flat ≡ true }
-    ensures does { Ends result (λ m. run_text (Do who) who top text.now m) (under_way world.old.flat answers.old (M.refusals maker.old)) (under_way world.new.flat answers.new (M.refusals maker.new)) }
+    ensures does { Ends result (λ m. run_text (Do who) who top text.now m) (under_way world.old.flat answers.old outside.old) (under_way world.new.flat answers.new outside.new) }
 {
-    if text.is_empty() {
-        return Ok(Ending::Fine);
+    match read(alloc, text) {
+        Ok(commands) => run_each(alloc, world, outside, answers, who, commands.as_slice()),
+        Err(error) => ending_of(alloc, error),
     }
-    if !world.take_unit() {
-        return Ok(Ending::GivenUp);
-    }
-    let row = command(alloc, world, who, text);
-    go_on(alloc, world, maker, answers, who, row)
 }
 
-/// Runs a key of a client, which stays joined. What the maker of patterns answers is added to the answers. An `Err` comes
-/// only for want of memory; the world may then have been changed in part.
-pub fn strike<M: PatternMaker>(
+/// Runs a key of a client, which stays joined. What the outside answers is added to the answers. An `Err` comes only for
+/// want of memory; the world may then have been changed in part.
+pub fn strike<F: Files, M: PatternMaker>(
     alloc: Global,
     world: &mut World,
-    maker: &mut M,
+    outside: &mut Outside<F, M>,
     answers: &mut Answers,
     who: u32,
     key: Key,
 ) -> Result<Ending, AllocError>
     requires { is_joined who world.old.flat ≡ true }
-    ensures does { Ends result (λ m. strike_part who top key m) (under_way world.old.flat answers.old (M.refusals maker.old)) (under_way world.new.flat answers.new (M.refusals maker.new)) }
+    ensures does { Ends result (λ m. strike_part who top key m) (under_way world.old.flat answers.old outside.old) (under_way world.new.flat answers.new outside.new) }
     ensures joined { OnOk result (is_joined who world.new.flat ≡ true) }
 {
     if !world.take_unit() {
         return Ok(Ending::GivenUp);
     }
     let row = run_row(alloc, world, who, key);
-    go_on(alloc, world, maker, answers, who, row)
+    go_on(alloc, world, outside, answers, who, row)
 }

@@ -5,9 +5,9 @@ ghost use Rattle.std.specs.Prelude.{◌≡◌, ◌<◌, ◌≤◌, ◌^◌, [], 
 ghost use Rattle.kak_world.specs.Flat.{is_here, is_joined, is_leaving};
 ghost use Rattle.kak_world.specs.Settled.{AllListsSettled};
 ghost use Rattle.kak_world.specs.declared.world.TheConstants.{MAX_CLIENTS};
-ghost use Rattle.kak_engine.specs.Steps.{after_key, after_event, output_of, has_joined, run, begun, told, refused, group_ended, noted_drawn, AreAskedFor, AllAsked};
+ghost use Rattle.kak_engine.specs.Steps.{after_key, after_event, output_of, exchanged, exchanges, has_joined, run, begun, told, refused, group_ended, noted_drawn, AreAskedFor, AllAsked};
 ghost use Rattle.kak_engine.specs.Seen.{end_seen};
-ghost use Rattle.kak_engine.specs.Honesty.{Stood, IsHonest};
+ghost use Rattle.kak_engine.specs.Honesty.{outside_of, IsUntouched, Stays, IsHonest, IsKept};
 ghost use Rattle.kak_engine.specs.Held.{refusal_of, refused_by, marked_after, marked_by, CanRun, Takes};
 ghost use Rattle.session_events.specs.declared.event.Event.TheVariants.{Leave, Key as Struck};
 ghost use Rattle.session_events.specs.declared.fault.StepFault.TheVariants.{NoMemory};
@@ -16,8 +16,10 @@ ghost use Rattle.session_events.specs.Legal.{IsLegal};
 ghost use Rattle.draw_model.specs.Drawings.{drawing_of, after_following};
 
 use crate::doing::{Ending, strike};
+use crate::outside::Outside;
 use draw_model::{draw, follow_cursor};
 use json_writing::Drawing;
+use kak_files::Files;
 use kak_text::Chars;
 use kak_world::{MAX_CLIENTS, Mode, Status, World};
 use key_names::Key;
@@ -26,32 +28,33 @@ use session_events::{Answers, Entry, Event, Output, StepFault, is_join, is_leave
 use std::alloc::{AllocError, Global};
 use std::marker::Model;
 
-/// No engine could be made, since memory was wanting; its maker of patterns is given back.
+/// No engine could be made, since memory was wanting; its files and its maker of patterns are given back.
 #[derive(Drop, Debug)]
-pub struct NoEngine<M> {
+pub struct NoEngine<F, M> {
+    pub files: F,
     pub patterns: M,
 }
 
-/// The engine. Contracts see its history, its mark, its limit and how often its maker of patterns has refused; the world
-/// follows from the history.
+/// The engine. Contracts see its history, its mark, its limit and its outside: what its files are seen as, and how often
+/// its maker of patterns has refused. The world follows from the history.
 #[derive(Drop, Debug)]
-pub struct Engine<M: PatternMaker> {
+pub struct Engine<F: Files, M: PatternMaker> {
     world: World,
-    patterns: M,
+    outside: Outside<F, M>,
     history: Vec<Entry>,
     limit: u64,
     mark: Option<u64>,
 }
 
-impl<M: PatternMaker> Model for Engine<M> {
+impl<F: Files, M: PatternMaker> Model for Engine<F, M> {
     ghost use Rattle.std.specs.Prelude.{vec_len, vec_capacity};
     ghost use Rattle.kak_engine.specs.Held.{Held, Stands, KeepsPlaces};
 
     ghost Value = { Held };
 
-    ghost view = { λ e. record { history = e.history.items; mark = e.mark; limit = e.limit; refusals = M.refusals e.patterns } };
+    ghost view = { λ e. record { history = e.history.items; mark = e.mark; limit = e.limit; outside = e.outside } };
 
-    ghost invariant = { λ e. Stands e.world.flat e.history.items e.mark e.limit × KeepsPlaces e.mark e.world.flat (vec_len e.history) (vec_capacity e.history) };
+    ghost invariant = { λ e. Stands e.world.flat e.history.items e.mark e.limit e.outside.shelf × KeepsPlaces e.mark e.world.flat (vec_len e.history) (vec_capacity e.history) };
 }
 
 // Tells a client why its key was refused.
@@ -101,10 +104,10 @@ fn begin(world: &mut World, who: u32)
 }
 
 // Runs a key of a client that wasn't granted to leave.
-fn run_struck<M: PatternMaker>(
+fn run_struck<F: Files, M: PatternMaker>(
     alloc: Global,
     world: &mut World,
-    maker: &mut M,
+    outside: &mut Outside<F, M>,
     answers: &mut Answers,
     who: u32,
     key: Key,
@@ -114,11 +117,11 @@ fn run_struck<M: PatternMaker>(
     requires fresh { answers.old ≡ [] }
     ensures leads { OnOk result (world.new.flat ≡ after_key who key answers.new world.old.flat) }
     ensures asked { OnOk result (AreAskedFor who (Struck key) answers.new world.old.flat) }
-    ensures honest { OnOk result (IsHonest answers.new (M.refusals maker.old) (M.refusals maker.new)) }
-    ensures err { OnErr result (Stood (M.refusals maker.old) (M.refusals maker.new)) }
+    ensures honest { OnOk result (IsHonest answers.new (exchanged who (Struck key) answers.new world.old.flat) outside.old outside.new) }
+    ensures err { OnErr result (Stays outside.old outside.new) }
 {
     begin(world, who);
-    let ending = strike(alloc, world, maker, answers, who, key)?;
+    let ending = strike(alloc, world, outside, answers, who, key)?;
     tell(alloc, world, who, ending)?;
     end_group(world, who);
     world.set_units(0);
@@ -126,10 +129,10 @@ fn run_struck<M: PatternMaker>(
 }
 
 // Runs a key of a client, and tells whether it was granted to leave by it. Once it was, its keys do nothing.
-fn run_key<M: PatternMaker>(
+fn run_key<F: Files, M: PatternMaker>(
     alloc: Global,
     world: &mut World,
-    maker: &mut M,
+    outside: &mut Outside<F, M>,
     answers: &mut Answers,
     who: u32,
     key: Key,
@@ -139,14 +142,14 @@ fn run_key<M: PatternMaker>(
     ensures leads { OnOk result (world.new.flat ≡ after_key who key answers.new world.old.flat) }
     ensures leaving { IfOk result (λ leaving. leaving ≡ (is_leaving who (after_key who key answers.new world.old.flat) && not (is_leaving who world.old.flat))) }
     ensures asked { OnOk result (AreAskedFor who (Struck key) answers.new world.old.flat) }
-    ensures honest { OnOk result (IsHonest answers.new (M.refusals maker.old) (M.refusals maker.new)) }
-    ensures err { OnErr result (Stood (M.refusals maker.old) (M.refusals maker.new)) }
+    ensures honest { OnOk result (IsHonest answers.new (exchanged who (Struck key) answers.new world.old.flat) outside.old outside.new) }
+    ensures err { OnErr result (Stays outside.old outside.new) }
 {
     let own = world.own(who);
     if own.leaving {
         return Ok(false);
     }
-    run_struck(alloc, world, maker, answers, who, key)?;
+    run_struck(alloc, world, outside, answers, who, key)?;
     let own = world.own(who);
     Ok(own.leaving)
 }
@@ -164,10 +167,10 @@ fn redraw(alloc: Global, world: &mut World, who: u32) -> Result<Drawing, AllocEr
 }
 
 // Runs an event that is not refused. What the outside answers is added to the answers. A client that comes has joined then.
-fn run_event<M: PatternMaker>(
+fn run_event<F: Files, M: PatternMaker>(
     alloc: Global,
     world: &mut World,
-    maker: &mut M,
+    outside: &mut Outside<F, M>,
     answers: &mut Answers,
     who: u32,
     event: Event,
@@ -177,9 +180,9 @@ fn run_event<M: PatternMaker>(
     ensures gives { IfOk result (λ output. output ≡ output_of who event answers.new world.old.flat) }
     ensures leads { OnOk result (world.new.flat ≡ after_event who event answers.new world.old.flat) }
     ensures asked { OnOk result (AreAskedFor who event answers.new world.old.flat) }
-    ensures honest { OnOk result (IsHonest answers.new (M.refusals maker.old) (M.refusals maker.new)) }
+    ensures honest { OnOk result (IsHonest answers.new (exchanged who event answers.new world.old.flat) outside.old outside.new) }
     ensures joined { OnOk result (is_join event ≡ true → is_joined who world.new.flat ≡ true) }
-    ensures err { OnErr result (Stood (M.refusals maker.old) (M.refusals maker.new)) }
+    ensures err { OnErr result (Stays outside.old outside.new) }
 {
     match event {
         Event::Join => {
@@ -188,7 +191,7 @@ fn run_event<M: PatternMaker>(
         }
         Event::Key(key) => Ok(Output {
             drawing: None,
-            leaving: run_key(alloc, world, maker, answers, who, key)?,
+            leaving: run_key(alloc, world, outside, answers, who, key)?,
         }),
         Event::Refresh(_) => Ok(Output {
             drawing: Some(redraw(alloc, world, who)?),
@@ -254,10 +257,10 @@ fn keep_leaving(alloc: Global, world: &mut World, history: &mut Vec<Entry>, who:
 }
 
 // Runs an event that is not refused. Places are kept for its entry, and for the going of each client that is here then.
-fn run_with_places<M: PatternMaker>(
+fn run_with_places<F: Files, M: PatternMaker>(
     alloc: Global,
     world: &mut World,
-    maker: &mut M,
+    outside: &mut Outside<F, M>,
     answers: &mut Answers,
     history: &mut Vec<Entry>,
     who: u32,
@@ -269,48 +272,59 @@ fn run_with_places<M: PatternMaker>(
     ensures gives { IfOk result (λ output. output ≡ output_of who event answers.new world.old.flat) }
     ensures leads { OnOk result (world.new.flat ≡ after_event who event answers.new world.old.flat) }
     ensures asked { OnOk result (AreAskedFor who event answers.new world.old.flat) }
-    ensures honest { OnOk result (IsHonest answers.new (M.refusals maker.old) (M.refusals maker.new)) }
+    ensures honest { OnOk result (IsHonest answers.new (exchanged who event answers.new world.old.flat) outside.old outside.new) }
     ensures joined { OnOk result (is_join event ≡ true → is_joined who world.new.flat ≡ true) }
     ensures places { OnOk result (vec_len history.new + 1 + length world.new.flat.clients ≤ vec_capacity history.new) }
     ensures same { history.new.items ≡ history.old.items }
-    ensures err { OnErr result (Stood (M.refusals maker.old) (M.refusals maker.new)) }
+    ensures err { OnErr result (Stays outside.old outside.new) }
 {
-    let output = run_event(alloc, world, maker, answers, who, event)?;
+    let output = run_event(alloc, world, outside, answers, who, event)?;
     history.reserve(1 + world.client_count())?;
     Ok(output)
 }
 
-impl<M: PatternMaker> Engine<M> {
-    /// An engine with an empty history, which may have so many entries (leaving aside), and with a maker of patterns.
-    pub fn new(alloc: Global, patterns: M, limit: u64) -> Result<Engine<M>, NoEngine<M>>
-        ensures new { IfOk result (λ e. e ≡ record { history = []; mark = None; limit = limit; refusals = M.refusals patterns }) }
-        ensures none { IfErr result (λ none. none.patterns ≡ patterns) }
+impl<F: Files, M: PatternMaker> Engine<F, M> {
+    /// An engine with an empty history, which may have so many entries (leaving aside), with files and a maker of patterns.
+    /// The files hold what they held when they were made, where that is told.
+    pub fn new(
+        alloc: Global,
+        files: F,
+        patterns: M,
+        limit: u64,
+    ) -> Result<Engine<F, M>, NoEngine<F, M>>
+        requires { IsUntouched (F.shelf files).told }
+        ensures new { IfOk result (λ e. e ≡ record { history = []; mark = None; limit = limit; outside = outside_of (F.shelf files) (M.refusals patterns) }) }
+        ensures none { IfErr result (λ none. (none.files ≡ files) × (none.patterns ≡ patterns)) }
     {
         match World::new(alloc) {
             Ok(world) => Ok(Engine {
                 world,
-                patterns,
+                outside: Outside::new(files, patterns),
                 history: Vec::new(alloc),
                 limit,
                 mark: None,
             }),
-            Err(_) => Err(NoEngine { patterns }),
+            Err(_) => Err(NoEngine { files, patterns }),
         }
     }
 
-    /// The maker of patterns.
-    pub fn into_patterns(self) -> M
-        ensures refusals { M.refusals result ≡ self.refusals }
+    /// The files and the maker of patterns, as they were seen: what the files hold and how often each has failed or refused
+    /// is what the steps say. Nothing else is said of them, neither of a file's content where the files don't tell it, nor of
+    /// what a later call of them answers beyond what its own contract says.
+    pub fn into_outside(self) -> (F, M)
+        ensures files { F.shelf result.0 ≡ self.outside.shelf }
+        ensures patterns { M.refusals result.1 ≡ self.outside.refusals }
+        ensures kept { self.mark ≡ None → IsKept (exchanges self.history) self.outside.shelf }
         ensures asked { AllAsked self.history }
     {
         let Engine {
             world: _,
-            patterns,
+            outside,
             history: _,
             limit: _,
             mark: _,
         } = self;
-        patterns
+        outside.into_parts()
     }
 
     /// The entries, in order. Each client comes first and once, and makes nothing behind its going; behind as many entries
@@ -321,6 +335,14 @@ impl<M: PatternMaker> Engine<M> {
         ensures asked { AllAsked self.now.history }
     {
         self.history.as_slice()
+    }
+
+    /// A law: where the engine isn't broken, what was exchanged with the files in its history led from what they held when they
+    /// were made to what they hold, where they tell it.
+    pub fn files_are_kept(&self)
+        ensures { self.now.mark ≡ None → IsKept (exchanges self.now.history) self.now.outside.shelf }
+    {
+        let _ = &self.world;
     }
 
     /// A law: where the engine isn't broken, every selection list on every buffer is settled, and lies inside the buffer's
@@ -356,7 +378,8 @@ impl<M: PatternMaker> Engine<M> {
         ensures takes { IfOk result (λ output. Takes who event self.old self.new output) }
         ensures marked { OnOk result (self.new.mark ≡ self.old.mark) }
         ensures joined { OnOk result (is_leave event ≡ false → is_joined who (run self.new.history) ≡ true) }
-        ensures err { OnErr result ((self.new.history ≡ self.old.history) × (self.new.mark ≡ marked_by self.old.mark (length self.old.history)) × Stood self.old.refusals self.new.refusals) }
+        ensures err { OnErr result ((self.new.history ≡ self.old.history) × Stays self.old.outside self.new.outside) }
+        ensures breaks { OnErr result (self.new.mark ≡ marked_by self.old.mark (length self.old.history)) }
         ensures leaves { is_leave event ≡ true → IsOk result }
         ensures limit { self.new.limit ≡ self.old.limit }
         ensures legal { IsLegal self.new.limit self.new.history }
@@ -368,7 +391,7 @@ impl<M: PatternMaker> Engine<M> {
         let ran = run_with_places(
             alloc,
             &mut self.world,
-            &mut self.patterns,
+            &mut self.outside,
             &mut answers,
             &mut self.history,
             who,
@@ -395,11 +418,11 @@ impl<M: PatternMaker> Engine<M> {
     /// in the order `Broken`, `NoClient`, `Joined`, `HistoryFull`, `Full`; they change nothing. `NoMemory` adds no entry, and
     /// breaks the engine; a client's going never wants memory.
     pub fn step(&mut self, alloc: Global, who: u32, event: Event) -> Result<Output, StepFault>
-        ensures refused { IfSome (refusal_of self.old who event) (λ fault. (result ≡ Err fault) × (self.new.refusals ≡ self.old.refusals)) }
+        ensures refused { IfSome (refusal_of self.old who event) (λ fault. (result ≡ Err fault) × (self.new.outside ≡ self.old.outside)) }
         ensures answered { refusal_of self.old who event ≡ None → IfErr result (λ fault. (fault ≡ NoMemory) × (is_leave event ≡ false)) }
         ensures takes { IfOk result (λ output. Takes who event self.old self.new output) }
         ensures joined { OnOk result (is_leave event ≡ false → is_joined who (run self.new.history) ≡ true) }
-        ensures err { OnErr result ((self.new.history ≡ self.old.history) × Stood self.old.refusals self.new.refusals) }
+        ensures err { OnErr result ((self.new.history ≡ self.old.history) × Stays self.old.outside self.new.outside) }
         ensures mark { self.new.mark ≡ marked_after result self.old }
         ensures limit { self.new.limit ≡ self.old.limit }
         ensures legal { IsLegal self.new.limit self.new.history }

@@ -8,17 +8,17 @@ pub fn bound_ends_no_step()
     ensures { BoundEndsNoStep }
 {}
 
-/// No key makes a client come or go, its own or another one.
+/// No key makes a client come or go, its own or another one, and each that had joined has joined still.
 pub fn keys_keep_clients()
     ensures { KeysKeepClients }
 {}
 
-/// No event of a client makes another one come or go.
+/// No event of a client makes another one come or go, and one that had joined has joined still.
 pub fn others_stay()
     ensures { OthersStay }
 {}
 
-/// Worked examples of rows that ask for a pattern.
+/// Worked examples of rows that ask the outside for something.
 pub fn worked_examples()
     ensures { Examples }
 {}

@@ -1,9 +1,9 @@
 use crate::Engine;
+use crate::test_outside::{NoFiles, NoPatterns};
 use StepFault::{Full, HistoryFull, Joined, NoClient};
 use Told::{Drew, MayLeave, Ran, Refused};
 use json_writing::DrawnLine;
 use key_names::{Base, Key, read_keys};
-use regex_ports::RegexMaker;
 use session_events::{Entry, Event, Output, StepFault};
 use std::alloc::Global;
 use std::test::Fail;
@@ -50,7 +50,7 @@ fn told_by(step: Result<Output, StepFault>) -> Told {
 // Gives the first row where it was otherwise, and what came.
 fn first_wrong_at(
     alloc: Global,
-    engine: &mut Engine<RegexMaker>,
+    engine: &mut Engine<NoFiles, NoPatterns>,
     rows: &[(u32, Event, Told, u64)],
 ) -> Option<(usize, Told, u64)> {
     for (number, &(who, event, wanted, entries)) in rows.iter().enumerate() {
@@ -68,7 +68,7 @@ fn first_wrong(
     limit: u64,
     rows: &[(u32, Event, Told, u64)],
 ) -> Result<Option<(usize, Told, u64)>, Fail> {
-    let mut engine = Engine::new(alloc, RegexMaker::new(), limit)?;
+    let mut engine = Engine::new(alloc, NoFiles::new(), NoPatterns::new(), limit)?;
     Ok(first_wrong_at(alloc, &mut engine, rows))
 }
 
@@ -82,7 +82,7 @@ struct Typed {
 
 // A client joins a new engine and strikes the keys of a key text.
 fn type_keys(alloc: Global, who: u32, text: &str) -> Result<Typed, Fail> {
-    let mut engine = Engine::new(alloc, RegexMaker::new(), 100)?;
+    let mut engine = Engine::new(alloc, NoFiles::new(), NoPatterns::new(), 100)?;
     engine.step(alloc, who, Event::Join)?;
     let keys = read_keys(alloc, text)?;
     let mut answers = Vec::new(alloc);
@@ -237,7 +237,7 @@ fn add_line(out: &mut String, line: &DrawnLine) -> Result<(), Fail> {
 }
 
 // Draws a client.
-fn look(alloc: Global, engine: &mut Engine<RegexMaker>, who: u32) -> Result<Shown, Fail> {
+fn look(alloc: Global, engine: &mut Engine<NoFiles, NoPatterns>, who: u32) -> Result<Shown, Fail> {
     let output = engine.step(alloc, who, Event::Refresh(true))?;
     let drawing = output.drawing.ok_or("nothing is drawn")?;
     let mut lines = String::new(alloc);
@@ -254,8 +254,8 @@ fn look(alloc: Global, engine: &mut Engine<RegexMaker>, who: u32) -> Result<Show
 }
 
 // A new engine at which so many clients have joined, by numbers from 0.
-fn engine_of(alloc: Global, clients: u32) -> Result<Engine<RegexMaker>, Fail> {
-    let mut engine = Engine::new(alloc, RegexMaker::new(), 1_000)?;
+fn engine_of(alloc: Global, clients: u32) -> Result<Engine<NoFiles, NoPatterns>, Fail> {
+    let mut engine = Engine::new(alloc, NoFiles::new(), NoPatterns::new(), 1_000)?;
     for who in 0..clients {
         engine.step(alloc, who, Event::Join)?;
     }
@@ -265,7 +265,7 @@ fn engine_of(alloc: Global, clients: u32) -> Result<Engine<RegexMaker>, Fail> {
 // Clients strike the keys of key texts, one after another.
 fn strike_all(
     alloc: Global,
-    engine: &mut Engine<RegexMaker>,
+    engine: &mut Engine<NoFiles, NoPatterns>,
     rows: &[(u32, &str)],
 ) -> Result<(), Fail> {
     for &(who, text) in rows {
@@ -281,7 +281,7 @@ fn strike_all(
 // Gives the first row where it was otherwise.
 fn first_unlike(
     alloc: Global,
-    engine: &mut Engine<RegexMaker>,
+    engine: &mut Engine<NoFiles, NoPatterns>,
     rows: &[(u32, &str, u32, &str)],
 ) -> Result<Option<usize>, Fail> {
     for (number, &(who, lines, column, mode_line)) in rows.iter().enumerate() {
@@ -321,7 +321,7 @@ fn what_one_types_moves_the_other(rt: HostRuntime) -> Result<(), Fail> {
 // What stands in a client's status line after its keys.
 fn status_after(
     alloc: Global,
-    engine: &mut Engine<RegexMaker>,
+    engine: &mut Engine<NoFiles, NoPatterns>,
     who: u32,
     keys: &str,
 ) -> Result<String, Fail> {

@@ -4,6 +4,8 @@ use Rattle.std.specs.Prelude.{is_some, option_map}
 use Rattle.std.specs.List.{list_any}
 use Rattle.std.specs.declared.option.Option.{Option}
 use Rattle.tables.proofs.TableLemmas.{by_test}
+use Rattle.scope_options.specs.declared.setting.Setting.{Setting}
+use Rattle.scope_options.specs.Settings.{without_buffer}
 use Rattle.kak_world.specs.declared.clients.Client.{Client}
 use Rattle.kak_world.specs.declared.world.Rest.{Rest}
 use Rattle.kak_world.specs.Flat.{Buffer, scratch, is_there, changed_at, lowest}
@@ -126,6 +128,13 @@ pub last-number : (n : ℕ) (bs : List (Option Buffer)) → length bs ≤ lowest
 last-number n bs g = new-number (emptied n bs) (omega (arith, length-emptied n bs, g))
 
 -- some buffer is there then, and no number is too great
+pub some-left : (n : ℕ) (bs : List (Option Buffer)) → is_there (lowest (left_without n bs)) (left_without n bs) ≡ true
+some-left n bs =
+    by_test (λ t. list_any is_some (emptied n bs) ≡ t → is_there (lowest (cond t (emptied n bs) (placed scratch (emptied n bs)))) (cond t (emptied n bs) (placed scratch (emptied n bs))) ≡ true) (list_any is_some (emptied n bs))
+    (λ _ e. any-lowest (emptied n bs) e)
+    (λ _ e. placed-some scratch (emptied n bs))
+    refl
+
 pub has-left : (n : ℕ) (bs : List (Option Buffer)) → HasBuffer bs → HasBuffer (left_without n bs)
 has-left n bs h =
     by_test (λ t. list_any is_some (emptied n bs) ≡ t → HasBuffer (cond t (emptied n bs) (placed scratch (emptied n bs)))) (list_any is_some (emptied n bs))
@@ -137,10 +146,12 @@ pub has-dropped : (n : ℕ) (clients : List Client) (bs now : List (Option Buffe
 has-dropped n clients bs now e h = subst HasBuffer (sym e) (has-changed (lowest (left_without n bs)) (listed_for_viewers n clients) (left_without n bs) (has-left n bs h))
 
 -- the world without the buffer
-pub now-dropped : (n to : ℕ) (bs now : List (Option Buffer)) (cs moved : List Client) (r : Rest) (w : Kept) → parts bs cs r ≡ w → now ≡ buffers_dropped n cs bs → to ≡ lowest (left_without n bs) → moved ≡ map (moved_on n to) cs → (parts now moved r).flat ≡ dropped n w.flat
+pub now-dropped : (n to : ℕ) (bs now : List (Option Buffer)) (cs moved : List Client) (r : Rest) (options : List Setting) (w : Kept) → parts bs cs r ≡ w → now ≡ buffers_dropped n cs bs → to ≡ lowest (left_without n bs) → moved ≡ map (moved_on n to) cs → options ≡ without_buffer n r.options
+    → (parts now moved (record r { options = options })).flat ≡ dropped n w.flat
 unfolding dropped
-now-dropped n to bs now cs moved r w e b t m =
-    ap (λ x. (parts x moved r).flat) b
-    ∙ ap (λ x. (parts (buffers_dropped n cs bs) x r).flat) m
-    ∙ ap (λ k. (parts (buffers_dropped n cs bs) (map (moved_on n k) cs) r).flat) t
+now-dropped n to bs now cs moved r options w e b t m o =
+    ap (λ x. (parts x moved (record r { options = options })).flat) b
+    ∙ ap (λ x. (parts (buffers_dropped n cs bs) x (record r { options = options })).flat) m
+    ∙ ap (λ k. (parts (buffers_dropped n cs bs) (map (moved_on n k) cs) (record r { options = options })).flat) t
+    ∙ ap (λ x. (parts (buffers_dropped n cs bs) (map (moved_on n (lowest (left_without n bs))) cs) (record r { options = x })).flat) o
     ∙ ap (λ (k : Kept). dropped n k.flat) e

@@ -1,6 +1,8 @@
 -- The least number that no buffer has.
-use Rattle.std.proofs.Common.{◌≡◌, ◌≢◌, ℕ, zero, suc, ◌+◌, ◌<◌, ◌≤◌, Bool, true, false, List, [], ◌∷◌, ◌++◌, length, get_or, set, drop, refl, sym, ap, subst, ◌∙◌, arith, None, Some}
-use Rattle.std.specs.Prelude.{is_none, slice_index_or}
+use Rattle.std.proofs.Common.{◌≡◌, ◌≢◌, ℕ, zero, suc, ◌+◌, ◌<◌, ◌≤◌, Bool, true, false, List, [], ◌∷◌, ◌++◌, length, get_or, set, drop, refl, sym, ap, subst, ◌∙◌, arith, None, Some, nat_le}
+use Rattle.std.specs.Prelude.{is_none, slice_index_or, ◌==◌}
+use Rattle.std.proofs.lemmas.Bool.{eq-eqb, ne_eqb, leb-true, leb-false}
+use Rattle.tables.proofs.TableLemmas.{by_test}
 use Rattle.std.specs.declared.option.Option.{Option}
 use Rattle.kak_world.specs.declared.clients.Client.{Client}
 use Rattle.kak_world.specs.declared.world.Rest.{Rest}
@@ -75,6 +77,14 @@ pub full-count : (bs : List (Option Buffer)) (n : ℕ) → length bs ≤ 1024 �
 full-count bs n few e past = omega (arith, few, gap-count bs, count-few bs, e)
 
 -- some buffer is there then, and no number is too great
+-- whether all numbers are taken, by the least one that isn't
+pub full-by : (bs : List (Option Buffer)) (n : ℕ) → length bs ≤ 1024 → n ≡ first_gap bs → nat_le 1024 n ≡ (buffer_count bs == 1024)
+full-by bs n h e =
+    by_test (λ t. t ≡ nat_le 1024 n → t ≡ (buffer_count bs == 1024)) (nat_le 1024 n)
+    (λ _ q. sym (eq-eqb (buffer_count bs) 1024 (full-count bs n h e (leb-true 1024 n (sym q)))))
+    (λ _ q. sym (ne_eqb (buffer_count bs) 1024 (λ c. absurd (omega (arith, gap-full bs n h e c, leb-false 1024 n (sym q))))))
+    refl
+
 pub placed-some : (b : Buffer) (bs : List (Option Buffer)) → is_there (lowest (placed b bs)) (placed b bs) ≡ true
 placed-some b [] = refl
 placed-some b (None ∷ bs) = refl

@@ -12,8 +12,10 @@ pub mod RowAnswers
 pub mod SettledLemmas
 pub mod KeepingLaws
 pub mod ShowingLemmas
+pub mod SavingLemmas
 pub mod GapLemmas
 pub mod DroppingLemmas
 pub mod StayingLemmas
 pub mod ViewerLemmas
+pub mod JoinedLemmas
 pub mod ShownLaws

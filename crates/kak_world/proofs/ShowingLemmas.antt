@@ -92,7 +92,7 @@ joined_others_show k who n flat other =
     (ap (λ (c : Client). c.shown) (first-changed_other (is_of who) (is_of k) (seeing n) (newcomer k 0 0) flat.clients (λ c. refl) (λ c e. ap (λ m. m == k) (eqb-true c.who who e) ∙ other)))
     (λ m. listed-changed k n m (listed_for (Of who)) flat.buffers (λ b. any-with_other (is_held_by (Of who)) (is_held_by (Of k)) (fresh (Of who)) b.lists other))
 
-whos-shown : (who n : ℕ) (flat : Flat) → map (λ (c : Client). c.who) (shows who n flat).clients ≡ map (λ (c : Client). c.who) flat.clients
+pub whos-shown : (who n : ℕ) (flat : Flat) → map (λ (c : Client). c.who) (shows who n flat).clients ≡ map (λ (c : Client). c.who) flat.clients
 unfolding shows
 whos-shown who n flat = map-changed (is_of who) (seeing n) (λ c. c.who) flat.clients (λ c. refl)
 

@@ -11,11 +11,10 @@ use Rattle.kak_world.specs.declared.holder.Holder.TheVariants.{Of}
 use Rattle.kak_world.specs.declared.clients.Client.{Client}
 use Rattle.kak_world.specs.Flat.{Held, Buffer, Flat, fresh, newcomer, is_of, is_here, is_held_by, has_list, listed_for, changed_at, lowest, client_of, shown_of, is_joined}
 use Rattle.kak_world.specs.Keeping.{whos_of}
-use Rattle.kak_world.specs.Seen.{Kept, HasBuffer}
 use Rattle.kak_world.specs.Dropping.{emptied, moved_on, listed_for_viewer, listed_for_viewers, left_without, buffers_dropped, dropped, KeepsJoined}
 use Rattle.kak_world.proofs.SlotLemmas.{slot-changed}
 use Rattle.kak_world.proofs.KeepingLaws.{listed_in, joined_in, is-joined-in, here_joined}
-use Rattle.kak_world.proofs.DroppingLemmas.{emptied-other, there-any, left-some, has-left}
+use Rattle.kak_world.proofs.DroppingLemmas.{emptied-other, there-any, left-some, some-left}
 
 -- a client, when those that saw a buffer see another one
 moved-who : (n to : ℕ) (c : Client) → (moved_on n to c).who ≡ c.who
@@ -102,11 +101,11 @@ left-stays k m n bs apart s =
     ap (λ xs. listed_in k (get_or xs m None)) (left-some (emptied n bs) (there-any m (emptied n bs) there)) ∙ ap (listed_in k) same ∙ s
 
 -- who saw it sees the one with the least number, and has a list there
-viewer-in : (k n : ℕ) (d : Client) (cs : List Client) (bs : List (Option Buffer)) → HasBuffer bs → is_here k cs ≡ true → ((first_where (is_of k) d cs).shown == n) ≡ true
+viewer-in : (k n : ℕ) (d : Client) (cs : List Client) (bs : List (Option Buffer)) → is_here k cs ≡ true → ((first_where (is_of k) d cs).shown == n) ≡ true
     → listed_in k (get_or (buffers_dropped n cs bs) (lowest (left_without n bs)) None) ≡ true
-viewer-in k n d cs bs has h s =
+viewer-in k n d cs bs h s =
     ap (listed_in k) (slot-changed (lowest (left_without n bs)) (listed_for_viewers n cs) (left_without n bs))
-    ∙ some-listed k (listed_for_viewers n cs) (get_or (left_without n bs) (lowest (left_without n bs)) None) (λ b. viewers-listed k n d cs b h s) (has-left n bs has).some
+    ∙ some-listed k (listed_for_viewers n cs) (get_or (left_without n bs) (lowest (left_without n bs)) None) (λ b. viewers-listed k n d cs b h s) (some-left n bs)
 
 ne-of : (a b : ℕ) → (a == b) ≡ false → a ≢ b
 ne-of a b h e = let no : true ≡ false = sym (eq-eqb a b e) ∙ h in cc
@@ -116,38 +115,38 @@ stays-in k n m cs bs apart s =
     changed-stays k m (lowest (left_without n bs)) (listed_for_viewers n cs) (left_without n bs) (λ b h. viewers-keep k n cs b h) (left-stays k m n bs (ne-of m n apart) s)
 
 -- the slots and the clients together
-stays-listed : (k n : ℕ) (d : Client) (cs : List Client) (bs : List (Option Buffer)) → HasBuffer bs → is_here k cs ≡ true → listed_in k (get_or bs (first_where (is_of k) d cs).shown None) ≡ true
+stays-listed : (k n : ℕ) (d : Client) (cs : List Client) (bs : List (Option Buffer)) → is_here k cs ≡ true → listed_in k (get_or bs (first_where (is_of k) d cs).shown None) ≡ true
     → listed_in k (get_or (buffers_dropped n cs bs) (moved_on n (lowest (left_without n bs)) (first_where (is_of k) d cs)).shown None) ≡ true
-stays-listed k n d cs bs has h s =
+stays-listed k n d cs bs h s =
     let c : Client = first_where (is_of k) d cs in
     let to : ℕ = lowest (left_without n bs) in
     ap (λ m. listed_in k (get_or (buffers_dropped n cs bs) m None)) (moved-shown n to c)
     ∙ by_test (λ t. (c.shown == n) ≡ t → listed_in k (get_or (buffers_dropped n cs bs) (cond t to c.shown) None) ≡ true) (c.shown == n)
-    (λ _ e. viewer-in k n d cs bs has h e)
+    (λ _ e. viewer-in k n d cs bs h e)
     (λ _ e. stays-in k n c.shown cs bs e s)
     refl
 
-in-parts : (k n : ℕ) (flat : Flat) → HasBuffer flat.buffers → is_here k flat.clients ≡ true → joined_in k (is_here k flat.clients) (shown_of k flat) flat.buffers ≡ true
+in-parts : (k n : ℕ) (flat : Flat) → is_here k flat.clients ≡ true → joined_in k (is_here k flat.clients) (shown_of k flat) flat.buffers ≡ true
     → joined_in k (is_here k (dropped n flat).clients) (shown_of k (dropped n flat)) (dropped n flat).buffers ≡ true
 unfolding shown_of client_of dropped
-in-parts k n flat has h j =
+in-parts k n flat h j =
     let cs : List Client = map (moved_on n (lowest (left_without n flat.buffers))) flat.clients in
     let bs : List (Option Buffer) = buffers_dropped n flat.clients flat.buffers in
     let here : is_here k cs ≡ true = moved-here k n (lowest (left_without n flat.buffers)) flat.clients ∙ h in
     ap (λ t. t && listed_in k (get_or bs (first_where (is_of k) (newcomer k 0 0) cs).shown None)) here
     ∙ ap (λ (c : Client). listed_in k (get_or bs c.shown None)) (moved-first k n (lowest (left_without n flat.buffers)) (newcomer k 0 0) flat.clients h)
-    ∙ stays-listed k n (newcomer k 0 0) flat.clients flat.buffers has h (and-two _ _ j)
+    ∙ stays-listed k n (newcomer k 0 0) flat.clients flat.buffers h (and-two _ _ j)
 
-pub joined_drops : (k n : ℕ) (flat : Flat) → HasBuffer flat.buffers → is_joined k flat ≡ true → is_joined k (dropped n flat) ≡ true
-joined_drops k n flat has j = is-joined-in k (dropped n flat) ∙ in-parts k n flat has (here_joined k flat j) (sym (is-joined-in k flat) ∙ j)
+pub joined_drops : (k n : ℕ) (flat : Flat) → is_joined k flat ≡ true → is_joined k (dropped n flat) ≡ true
+joined_drops k n flat j = is-joined-in k (dropped n flat) ∙ in-parts k n flat (here_joined k flat j) (sym (is-joined-in k flat) ∙ j)
 
 whos-dropped : (n : ℕ) (flat : Flat) → whos_of (dropped n flat).clients ≡ whos_of flat.clients
 unfolding dropped
 whos-dropped n flat = moved-whos n (lowest (left_without n flat.buffers)) flat.clients
 
 -- the same clients are there, and have joined still
-pub keeps_dropped : (n : ℕ) (flat : Flat) → HasBuffer flat.buffers → KeepsJoined flat (dropped n flat)
-keeps_dropped n flat has = record { whos = whos-dropped n flat; joined = λ k j. joined_drops k n flat has j }
+pub keeps_dropped : (n : ℕ) (flat : Flat) → KeepsJoined flat (dropped n flat)
+keeps_dropped n flat = record { whos = whos-dropped n flat; joined = λ k j. joined_drops k n flat j }
 
-pub drop-keeps : (n : ℕ) (bs : List (Option Buffer)) (w : Kept) (now : Flat) → bs ≡ w.flat.buffers → HasBuffer bs → now ≡ dropped n w.flat → KeepsJoined w.flat now
-drop-keeps n bs w now b has e = subst (KeepsJoined w.flat) (sym e) (keeps_dropped n w.flat (subst HasBuffer b has))
+pub drop-keeps : (n : ℕ) (flat now : Flat) → now ≡ dropped n flat → KeepsJoined flat now
+drop-keeps n flat now e = subst (KeepsJoined flat) (sym e) (keeps_dropped n flat)

@@ -9,6 +9,8 @@ use Rattle.std.specs.Prelude.{◌&&◌, is_some, option_map}
 use Rattle.std.specs.declared.option.Option.{Option}
 use Rattle.tables.specs.Tables.{first_where}
 use Rattle.kak_world.specs.declared.holder.Holder.TheVariants.{Of}
+use Rattle.scope_options.specs.declared.setting.Setting.{Setting}
+use Rattle.scope_options.specs.Settings.{without_client}
 use Rattle.kak_world.specs.declared.clients.Client.{Client}
 use Rattle.kak_world.specs.declared.world.Rest.{Rest}
 use Rattle.kak_world.specs.Flat.{Held, Buffer, Flat, is_of, is_here, newcomer, is_there, buffer_or_scratch, buffer_at, changed_at, has_list, list_on, client_of, shown_of, buffer_of, list_of, is_joined, own_of, number_of, text_of, story_of, sels_of, view_of, with_list_of, with_list}
@@ -61,7 +63,7 @@ shown-not_none who bs cs r w c slot e f j g n =
     let same : get_or bs c.shown None ≡ None = ap (λ d. get_or bs c.shown d) (sym n) ∙ sym g ∙ n in
     let no : is_some {T = Buffer} None ≡ true = ap is_some (sym same) ∙ there in cc
 
-get_or_same : (xs : List (Option Buffer)) (n : ℕ) (d : Option Buffer) → n < length xs → get_or xs n None ≡ get_or xs n d
+pub get_or_same : (xs : List (Option Buffer)) (n : ℕ) (d : Option Buffer) → n < length xs → get_or xs n None ≡ get_or xs n d
 get_or_same [] n d h = absurd (omega arith)
 get_or_same (x ∷ xs) zero d h = refl
 get_or_same (x ∷ xs) (suc n) d h = get_or_same xs n d (omega arith)
@@ -194,10 +196,11 @@ came-not who bs cs added left r w n b to e away g t a l =
     ∙ ap (λ (k : Kept). k.flat) e
 
 -- the world after a client went
-pub went : (who : ℕ) (bs gone : List (Option Buffer)) (cs left : List Client) (r : Rest) (w : Kept) → parts bs cs r ≡ w → gone ≡ map (option_map (left_behind who)) bs → left ≡ filter (λ c. not (is_of who c)) cs → (parts gone left r).flat ≡ left_by who w.flat
+pub went : (who : ℕ) (bs gone : List (Option Buffer)) (cs left : List Client) (r : Rest) (options : List Setting) (w : Kept) → parts bs cs r ≡ w → gone ≡ map (option_map (left_behind who)) bs → left ≡ filter (λ c. not (is_of who c)) cs → options ≡ without_client who r.options → (parts gone left (record r { options = options })).flat ≡ left_by who w.flat
 unfolding left_by
-went who bs gone cs left r w e g l =
-    ap (λ x. (parts x left r).flat) g ∙ ap (λ x. (parts (map (option_map (left_behind who)) bs) x r).flat) l ∙ ap (λ (k : Kept). left_by who k.flat) e
+went who bs gone cs left r options w e g l o =
+    ap (λ x. (parts x left (record r { options = options })).flat) g ∙ ap (λ x. (parts (map (option_map (left_behind who)) bs) x (record r { options = options })).flat) l
+    ∙ ap (λ x. (parts (map (option_map (left_behind who)) bs) (filter (λ c. not (is_of who c)) cs) (record r { options = x })).flat) o ∙ ap (λ (k : Kept). left_by who k.flat) e
 
 lowest-mapped : (f : Buffer → Buffer) (bs : List (Option Buffer)) → lowest (map (option_map f) bs) ≡ lowest bs
 lowest-mapped f [] = refl

@@ -5,6 +5,7 @@ use Rattle.text_model.specs.Changes.{Erasure}
 use Rattle.undo_model.specs.declared.travel.Travel.TheVariants.{Undo, Redo, Node}
 use Rattle.undo_model.specs.Stories.{opened}
 use Rattle.kak_world.specs.declared.holder.Holder.TheVariants.{Of}
+use Rattle.scope_options.specs.Settings.{given}
 use Rattle.kak_world.specs.Flat.{Held, Flat, opening, is_joined, name_of, text_of, sels_of, tabstop_of, story_of, node_of, joined_by, left_by, buffer_at, numbers_of, fresh, newcomer}
 use Rattle.kak_world.specs.declared.ask.EditError.TheVariants.{NothingToUndo, NothingToRedo, NoSuchNode}
 use Rattle.kak_world.specs.Changing.{changed_in, buffer_edited, edited_by, traveled_by, commits}
@@ -37,7 +38,7 @@ abbrev pub on_text : List ℕ → Selected → Selected → Flat
 on_text text first second = record {
   buffers = Some (record { name = codes "n"; is_file = true; story = opened text; lists = list_for 7 first ∷ list_for 9 second ∷ [] }) ∷ [];
   clients = newcomer 7 0 0 ∷ newcomer 9 1 0 ∷ [];
-  rest = record { units = 0; registers = []; tabstop = 8 };
+  rest = record { units = 0; registers = []; options = given };
 }
 
 abbrev pub at : ℕ → Selected
@@ -61,7 +62,7 @@ pub record ComingExamples : Type 0 where
   pub others_are_not_there : is_joined 9 one_client ≡ false
   pub sees_the_scratch_buffer : name_of 7 one_client ≡ codes "*scratch*"
   pub begins_at_the_first_character : sels_of 7 one_client ≡ at 0
-  pub tab_stops_at_each_eighth : tabstop_of one_client ≡ 8
+  pub tab_stops_at_each_eighth : tabstop_of 0 one_client ≡ 8
   pub names_of_two : numbers_of two_clients.clients ≡ 0 ∷ 1 ∷ []
   pub second_stays : is_joined 9 (left_by 7 two_clients) ≡ true
   pub first_is_gone : is_joined 7 (left_by 7 two_clients) ≡ false

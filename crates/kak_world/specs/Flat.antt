@@ -10,6 +10,12 @@ use Rattle.window_view.specs.View.{View}
 use Rattle.edit_line.specs.Halves.{Halves, empty}
 use Rattle.undo_model.specs.Stories.{Story, opened, committed, committed_by}
 use Rattle.kak_registers.specs.declared.row.Register.{Register}
+use Rattle.kak_text.specs.declared.widths.TheConstants.{MAX_TABSTOP}
+use Rattle.scope_options.specs.declared.scope.Scope.TheVariants.{Window}
+use Rattle.scope_options.specs.declared.value.OptionValue.{OptionValue}
+use Rattle.scope_options.specs.declared.setting.Setting.{Setting}
+use Rattle.scope_options.specs.Settings.{given, seen_from, without_client}
+use Rattle.scope_options.specs.Numbers.{number_within}
 use Rattle.kak_world.specs.declared.holder.Holder.{Holder}
 use Rattle.kak_world.specs.declared.holder.Holder.TheVariants.{Of}
 use Rattle.kak_world.specs.declared.own.Mode.{Mode}
@@ -21,6 +27,7 @@ use Rattle.kak_world.specs.declared.purpose.Purpose.{Purpose}
 use Rattle.kak_world.specs.declared.purpose.Purpose.TheVariants.{Commands}
 use Rattle.kak_world.specs.declared.clients.Client.{Client}
 use Rattle.kak_world.specs.declared.world.Rest.{Rest}
+use Rattle.kak_world.specs.declared.options.TheConstants.{MAX_INDENT}
 
 -- a selection list on a buffer: whose it is, and the window through which its holder sees the buffer
 pub record Held : Type 0 where
@@ -72,9 +79,9 @@ first_own = record { mode = Normal; count = 0; register = None; pending = None; 
 abbrev pub newcomer : ℕ → ℕ → ℕ → Client
 newcomer who number shown = record { who = who; number = number; shown = shown; own = first_own }
 
--- the world before anything happened: the one buffer, no client, no register that was set, and tab stops at each eighth cell
+-- the world before anything happened: the one buffer, no client, no register that was set, and the options that are given
 abbrev pub opening : Flat
-opening = record { buffers = Some scratch ∷ []; clients = []; rest = record { units = 0; registers = []; tabstop = 8 } }
+opening = record { buffers = Some scratch ∷ []; clients = []; rest = record { units = 0; registers = []; options = given } }
 
 -- whether a client has that number in the history
 abbrev pub is_of : ℕ → Client → Bool
@@ -208,9 +215,20 @@ node_of who flat = (committed (story_of who flat)).current
 unfoldable pub view_of : ℕ → Flat → View
 view_of who flat = (list_of who flat).view
 
--- how many cells lie between tab stops where a client looks: as many as everywhere
-unfoldable pub tabstop_of : Flat → ℕ
-tabstop_of flat = flat.rest.tabstop
+-- what options are set to
+unfoldable pub options_of : Flat → List Setting
+options_of flat = flat.rest.options
+
+-- the value of an option that counts for a client where it looks
+abbrev pub option_of : List ℕ → ℕ → Flat → Option OptionValue
+option_of name who flat = seen_from (Window who (shown_of who flat)) name (options_of flat)
+
+-- how many cells lie between tab stops where a client looks, and by how many columns a line is indented
+unfoldable pub tabstop_of : ℕ → Flat → ℕ
+tabstop_of who flat = number_within 1 MAX_TABSTOP 8 (option_of (codes "tabstop") who flat)
+
+unfoldable pub indentwidth_of : ℕ → Flat → ℕ
+indentwidth_of who flat = number_within 0 MAX_INDENT 4 (option_of (codes "indentwidth") who flat)
 
 -- how many keys and commands the step may still run
 unfoldable pub units_of : Flat → ℕ
@@ -275,6 +293,10 @@ with_units units flat = record flat { rest = record flat.rest { units = units } 
 unfoldable pub with_registers : List Register → Flat → Flat
 with_registers rows flat = record flat { rest = record flat.rest { registers = rows } }
 
+-- the world with options set otherwise
+unfoldable pub with_options : List Setting → Flat → Flat
+with_options rows flat = record flat { rest = record flat.rest { options = rows } }
+
 -- the world with one more client, named by the least number that no other has; it sees the buffer with the least number
 unfoldable pub joined_by : ℕ → Flat → Flat
 joined_by who flat = record flat {
@@ -282,9 +304,10 @@ joined_by who flat = record flat {
   clients = flat.clients ++ newcomer who (least_free (numbers_of flat.clients)) (lowest flat.buffers) ∷ [];
 }
 
--- the world without a client and its lists; what was pending of it is committed
+-- the world without a client, its lists and the options of its windows; what was pending of it is committed
 unfoldable pub left_by : ℕ → Flat → Flat
 left_by who flat = record flat {
   buffers = map (option_map (left_behind who)) flat.buffers;
   clients = filter (λ c. not (is_of who c)) flat.clients;
+  rest = record flat.rest { options = without_client who flat.rest.options };
 }

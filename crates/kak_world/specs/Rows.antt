@@ -5,9 +5,10 @@ use Rattle.std.specs.Prelude.{Some, None}
 use Rattle.std.specs.declared.result.Result.{Result}
 use Rattle.std.specs.Prelude.{Ok, Err}
 use Rattle.kak_world.specs.declared.ask.Ask.{Ask}
-use Rattle.kak_world.specs.declared.ask.Ask.TheVariants.{Nothing, Make}
+use Rattle.kak_world.specs.declared.ask.Ask.TheVariants.{Nothing, Make, Read, Write}
 use Rattle.kak_world.specs.declared.ask.EditError.{EditError}
-use Rattle.kak_world.specs.declared.ask.EditError.TheVariants.{TextFull, UndoFull, NothingToUndo, NothingToRedo, NoSuchNode, NoSuchRegister, ReadOnlyRegister, RegisterFull, SharedLine, NoSuchCommand, BadPattern, NothingSelected, TooManySelections, BudgetSpent, NoMemory}
+use Rattle.kak_world.specs.declared.ask.EditError.TheVariants.{TextFull, UndoFull, NothingToUndo, NothingToRedo, NoSuchNode, NoSuchRegister, ReadOnlyRegister, RegisterFull, SharedLine, Command, BadPattern, NothingSelected, TooManySelections, BudgetSpent, NoMemory}
+use Rattle.kak_world.specs.CommandErrors.{command_text}
 use Rattle.kak_world.specs.Flat.{Flat}
 
 -- What comes after a row: it asks for something, it fails with a status text, or the whole step is given up.
@@ -21,9 +22,11 @@ pub record RowEnd : Type 0 where
   pub world : Flat
   pub row : Row
 
--- how many more rows may come behind a row without a unit being taken: one that makes use of a pattern
+-- how many more rows may come behind a row without a unit being taken: one that goes on with what the outside answered
 abbrev pub stages_of : Row → ℕ
 stages_of (Asks (Make wanted)) = 1
+stages_of (Asks (Read name)) = 1
+stages_of (Asks (Write saving)) = 1
 stages_of _ = 0
 
 -- a row that did something, and asks for nothing more
@@ -41,7 +44,7 @@ error_text (NoSuchRegister name) = codes "no such register: " ++ name ∷ []
 error_text (ReadOnlyRegister name) = codes "register is read only: " ++ name ∷ []
 error_text RegisterFull = codes "register is full"
 error_text SharedLine = codes "align needs one selection per line"
-error_text (NoSuchCommand name) = codes "no such command: " ++ name
+error_text (Command error) = command_text error
 error_text BadPattern = codes "bad pattern"
 error_text NothingSelected = codes "nothing selected"
 error_text TooManySelections = codes "too many selections"

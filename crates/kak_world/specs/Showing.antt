@@ -1,10 +1,11 @@
 -- Buffers that are opened, and clients that are shown another one.
-use Rattle.std.specs.Prelude.{◌≡◌, ◌≢◌, ℕ, suc, ◌<◌, Bool, true, false, List, [], ◌∷◌, slice_index_or}
+use Rattle.std.specs.Prelude.{◌≡◌, ◌≢◌, ℕ, suc, ◌<◌, ◌==◌, Bool, true, false, List, [], ◌∷◌, slice_index_or}
 use Rattle.std.specs.declared.option.Option.{Option}
 use Rattle.std.specs.Prelude.{Some, None}
 use Rattle.tables.specs.Tables.{changed_where}
 use Rattle.kak_world.specs.declared.holder.Holder.TheVariants.{Of}
 use Rattle.kak_world.specs.declared.clients.Client.{Client}
+use Rattle.kak_world.specs.declared.slots.TheConstants.{MAX_BUFFERS}
 use Rattle.kak_world.specs.Flat.{Buffer, Flat, made, is_of, listed_for, is_there, changed_at}
 
 -- a client that sees the buffer of a number
@@ -39,6 +40,10 @@ abbrev pub buffer_count : List (Option Buffer) → ℕ
 buffer_count [] = 0
 buffer_count (None ∷ bs) = buffer_count bs
 buffer_count (Some b ∷ bs) = suc (buffer_count bs)
+
+-- whether there are as many buffers as there can be
+abbrev pub has_all_buffers : Flat → Bool
+has_all_buffers flat = buffer_count flat.buffers == MAX_BUFFERS
 
 -- a number is no buffer's, and each one below it is
 pub record IsFirstGap (buffers : List (Option Buffer)) (n : ℕ) : Type 0 where

@@ -4,8 +4,10 @@ ghost use Rattle.std.specs.Prelude.{◌≡◌, ◌++◌, ◌∷◌, [], chars, I
 ghost use Rattle.kak_world.specs.declared.ask.EditError.TheVariants.{NoMemory};
 ghost use Rattle.kak_world.specs.Refusals.{of_edit, of_move, of_register};
 
+use crate::command_error::CommandError;
 use crate::purpose::PatternUse;
 use buffer_store::{BufferError, MoveError};
+use kak_ports::small::Utf8Text;
 use kak_registers::RegisterError;
 use kak_text::Chars;
 use std::alloc::{AllocError, Global};
@@ -19,8 +21,23 @@ pub enum Ask {
     Commands(Chars),
     /// Make a pattern, and go on with it.
     Make(PatternUse),
+    /// Read the file of this name, and show its text as a buffer.
+    Read(Utf8Text),
+    /// Write the text of a buffer to a file.
+    Write(Saving),
     /// Let the client leave.
     Leave,
+}
+
+/// A buffer whose text is to be written to a file.
+#[derive(Drop, Debug)]
+pub struct Saving {
+    /// The file's name.
+    pub file: Utf8Text,
+    /// The buffer's number.
+    pub buffer: u32,
+    /// Whether the client is to leave behind it.
+    pub quits: bool,
 }
 
 /// Why a key or a command was refused. Its status text is what the user is told.
@@ -44,8 +61,8 @@ pub enum EditError {
     RegisterFull,
     /// Two selections begin on one line, where one on each is asked for.
     SharedLine,
-    /// There is no such command.
-    NoSuchCommand(Chars),
+    /// Why a command was.
+    Command(CommandError),
     /// The text of a pattern is none, or that of one that is too big.
     BadPattern,
     /// No selection would be left.
@@ -137,11 +154,7 @@ impl EditError {
             EditError::ReadOnlyRegister(name) => {
                 with_name(alloc, "register is read only: ", *name)
             }
-            EditError::NoSuchCommand(name) => {
-                let mut text = Chars::from_str(alloc, "no such command: ")?;
-                text.extend_from_slice(name.as_slice())?;
-                Ok(text)
-            }
+            EditError::Command(error) => error.text(alloc),
             EditError::NoMemory => Err(AllocError),
         }
     }

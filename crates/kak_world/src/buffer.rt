@@ -7,7 +7,8 @@ ghost use Rattle.window_view.specs.View.{followed};
 ghost use Rattle.window_view.specs.Views.{view_of as window_seen};
 ghost use Rattle.undo_model.specs.Steps.{AreSteps};
 ghost use Rattle.undo_model.specs.declared.TheConstants.{MAX_NODES};
-ghost use Rattle.undo_model.specs.Stories.{committed, is_undo_full};
+ghost use Rattle.undo_model.specs.Stories.{committed, is_undo_full, is_modified};
+ghost use Rattle.kak_world.specs.Saving.{marked_as_saved, is_unsaved};
 ghost use Rattle.undo_model.specs.Moves.{target_of, move_changes};
 ghost use Rattle.undo_model.specs.Edits.{is_too_long};
 ghost use Rattle.buffer_store.specs.declared.errors.BufferError.TheVariants.{UndoFull, TextFull};
@@ -85,6 +86,35 @@ impl Buffer {
         ensures { result.now ≡ self.now.name }
     {
         self.name.as_slice()
+    }
+
+    /// Whether its name is a file's.
+    pub fn is_file(&self) -> bool
+        ensures { result ≡ self.now.is_file }
+    {
+        self.is_file
+    }
+
+    /// Whether its text may differ from what was saved.
+    pub fn is_modified(&self) -> bool
+        ensures { result ≡ is_modified self.now.story }
+    {
+        self.store.modified()
+    }
+
+    /// Whether what was changed would be lost: its name is a file's, and its text may differ from what was saved.
+    pub fn is_unsaved(&self) -> bool
+        ensures { result ≡ is_unsaved self.now }
+    {
+        self.is_file && self.store.modified()
+    }
+
+    /// Commits what is pending, whoever's it is; its text counts as saved then, and its name is a file's. Takes no memory.
+    pub fn mark_saved(&mut self)
+        ensures { self.new ≡ marked_as_saved self.old }
+    {
+        self.store.set_saved();
+        self.is_file = true;
     }
 
     /// Its text.

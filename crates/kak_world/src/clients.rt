@@ -1,7 +1,7 @@
 //! The clients that are there.
 
-ghost use Rattle.std.specs.Prelude.{◌≡◌, ◌==◌, ◌<◌, true, not, length, map, filter, OnOk, OnErr, slice_index_or, ◌++◌, ◌∷◌, []};
-ghost use Rattle.std.specs.List.{list_any};
+ghost use Rattle.std.specs.Prelude.{◌≡◌, ◌==◌, ◌||◌, ◌<◌, true, not, length, map, filter, OnOk, OnErr, slice_index_or, ◌++◌, ◌∷◌, []};
+ghost use Rattle.std.specs.List.{list_any, list_all};
 ghost use Rattle.std.specs.Borrow.{sem};
 ghost use Rattle.tables.specs.Tables.{place_where, first_where};
 ghost use Rattle.kak_world.specs.Flat.{is_of, is_here, least_free, numbers_of, newcomer};
@@ -193,6 +193,15 @@ impl Clients {
         ensures { self.new ≡ map (moved_on n to) self.old }
     {
         move_each_on(&mut self.rows, n, to);
+    }
+
+    /// Whether each one but a client was granted to leave.
+    pub(crate) fn others_leave(&self, who: u32) -> bool
+        ensures { result ≡ list_all (λ c. is_of who c || c.own.leaving) self.now }
+    {
+        self.rows
+            .iter()
+            .all(|client| client.who == who || client.own.leaving)
     }
 
     /// A client goes.

@@ -67,11 +67,12 @@ impl World {
         }
     }
 
-    /// A client goes, with all that is its own and its lists; what was pending of it is committed. Takes no memory.
+    /// A client goes, with all that is its own, its lists, and the options of its windows; what was pending of it is committed. Takes no memory.
     pub fn leave(&mut self, who: u32)
         ensures { self.new.flat ≡ left_by who self.old.flat }
     {
         self.clients.remove(who);
         leave_buffers(&mut self.buffers, who);
+        self.rest.options.clear_client(who);
     }
 }

@@ -92,7 +92,7 @@ fn drop_at(
 }
 
 impl World {
-    /// Drops a buffer, with all lists on it: clients that saw it see the buffer with the least number then, with the
+    /// Drops a buffer, with all lists on it and the options that are set there: clients that saw it see the buffer with the least number then, with the
     /// list that they have there or the one to begin with. Where no buffer is left, a new `*scratch*` is made, which
     /// takes the number 0. An `Err` leaves the world.
     pub fn drop_buffer(&mut self, alloc: Global, n: u32) -> Result<(), AllocError>
@@ -103,6 +103,7 @@ impl World {
     {
         let to = drop_at(&mut self.buffers, alloc, n, self.clients.as_slice())?;
         self.clients.move_on(n, to);
+        self.rest.options.clear_buffer(n);
         Ok(())
     }
 }

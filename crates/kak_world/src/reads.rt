@@ -1,17 +1,17 @@
 //! What the world says of a client that has joined, and what is changed for it alone.
 
-ghost use Rattle.std.specs.Prelude.{◌≡◌, ◌<◌, ◌≤◌, ◌+◌, ◌^◌, ◌&&◌, true, length};
+ghost use Rattle.std.specs.Prelude.{◌≡◌, ◌<◌, ◌≤◌, ◌+◌, ◌^◌, ◌&&◌, true, length, slice_index_or, None};
 ghost use Rattle.std.specs.Borrow.{sem};
 ghost use Rattle.selection_set.specs.Held.{selected, IsHeld};
 ghost use Rattle.window_view.specs.View.{followed};
 ghost use Rattle.window_view.specs.Views.{view_of as window_seen};
-ghost use Rattle.kak_world.specs.Flat.{is_there, buffer_at, has_list, is_joined, buffer_of, own_of, number_of, name_of, text_of, sels_of, view_of, tabstop_of, with_sels, with_view};
+ghost use Rattle.std.specs.Option.{option_copied};
+ghost use Rattle.kak_world.specs.Flat.{is_there, shown_of, buffer_at, has_list, is_joined, buffer_of, own_of, number_of, name_of, text_of, sels_of, view_of, with_sels, with_view};
 
 use crate::buffer::Buffer;
 use crate::holder::Holder;
 use crate::own::Own;
 use crate::world::World;
-use kak_text::MAX_TABSTOP;
 use line_buffer::Lines;
 use selection_set::Sels;
 use window_view::Window;
@@ -42,6 +42,24 @@ impl World {
             None => unreachable!(),
             Some(buffer) => buffer,
         }
+    }
+
+    /// The number of the buffer that a client sees.
+    pub fn shown_number(&self, who: u32) -> u32
+        requires { is_joined who self.now.flat ≡ true }
+        ensures { result ≡ shown_of who self.now.flat }
+    {
+        self.clients.client(who).shown
+    }
+
+    /// The buffer of a number, if there is one.
+    pub fn buffer(&self, n: u32) -> Option<&Buffer>
+        ensures { option_copied result ≡ slice_index_or self.now.flat.buffers n None }
+    {
+        if n as usize >= self.buffers.len() {
+            return None;
+        }
+        self.buffers[n as usize].as_ref()
     }
 
     /// Whether a client has joined and not left.
@@ -96,17 +114,6 @@ impl World {
         ensures { result.now ≡ text_of who self.now.flat }
     {
         self.shown(who).lines()
-    }
-
-    /// How many cells lie between tab stops where a client looks.
-    #[tactic(auto, unfolding(crate::specs::Flat::tabstop_of))]
-    pub fn tabstop(&self) -> u32
-        ensures value { result ≡ tabstop_of self.now.flat }
-        ensures some { 1 ≤ result }
-        ensures few { result ≤ MAX_TABSTOP }
-    {
-        let tabstop = &self.rest.tabstop;
-        tabstop.cells()
     }
 
     /// The selections of a client: a settled list inside the text that it sees.

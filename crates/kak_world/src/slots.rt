@@ -2,7 +2,7 @@
 
 ghost use Rattle.std.specs.Prelude.{◌≡◌, ◌≤◌, IfOk, OnOk, OnErr, Err, length};
 ghost use Rattle.kak_world.specs.Keeping.{KeepsClients};
-ghost use Rattle.kak_world.specs.Showing.{first_gap, placed, opened, buffer_count};
+ghost use Rattle.kak_world.specs.Showing.{first_gap, placed, opened, buffer_count, has_all_buffers};
 ghost use Rattle.kak_world.specs.declared.slots.TheConstants.{MAX_BUFFERS};
 ghost use Rattle.kak_world.specs.declared.slots.WorldError.TheVariants.{TooManyBuffers, NoMemory};
 
@@ -63,6 +63,13 @@ fn put_buffer(
 }
 
 impl World {
+    /// Whether there are as many buffers as there can be.
+    pub fn has_all_buffers(&self) -> bool
+        ensures { result ≡ has_all_buffers self.now.flat }
+    {
+        first_gap(self.buffers.as_slice()) >= MAX_BUFFERS
+    }
+
     /// Opens a buffer, with nobody's list on it, under the least number that no other has, and tells the number. It is
     /// refused exactly where there are as many buffers as there can be. An `Err` leaves the world.
     pub fn open(

@@ -7,10 +7,10 @@ ghost use Rattle.kak_world.specs.Flat.{scratch, opening, units_of, with_units};
 
 use crate::buffer::Buffer;
 use crate::clients::Clients;
-use crate::tabs::Tabstop;
 use kak_registers::Registers;
 use kak_text::{Chars, Text};
 use line_buffer::Lines;
+use scope_options::Options;
 use std::alloc::{AllocError, Global};
 use std::marker::Model;
 
@@ -24,8 +24,8 @@ pub struct Rest {
     pub units: u32,
     /// What all clients' registers hold.
     pub registers: Registers,
-    /// How many cells lie between tab stops.
-    pub tabstop: Tabstop,
+    /// What all options are set to.
+    pub options: Options,
 }
 
 /// The state that all clients share, and what is each client's own.
@@ -78,8 +78,8 @@ fn all_are_settled(buffers: &[Option<Buffer>])
 
 #[tactic(auto, unfolding(crate::specs::Flat::units_of, crate::specs::Flat::with_units))]
 impl World {
-    /// The world before anything happened: the buffer `*scratch*` with a text of one newline, no client, and tab stops at
-    /// each eighth cell.
+    /// The world before anything happened: the buffer `*scratch*` with a text of one newline, no client, and the
+    /// options that are given.
     pub fn new(alloc: Global) -> Result<World, AllocError>
         ensures { IfOk result (λ w. w.flat ≡ opening) }
     {
@@ -91,7 +91,7 @@ impl World {
             rest: Rest {
                 units: 0,
                 registers: Registers::new(alloc),
-                tabstop: Tabstop::eight(),
+                options: Options::new(alloc)?,
             },
         })
     }

@@ -59,7 +59,7 @@ keeps_put how register who flat = keeps-with (strings_read (used register) who f
 keeps-align : (who : ℕ) → KeepsIn (align_row who)
 keeps-align who flat = by (shares_line (text_of who flat) (sels_of who flat).list)
   where
-    by : (t : Bool) → KeepsClients flat (if t then fails SharedLine flat else edit_row (alignments (text_of who flat) (tabstop_of flat) (sels_of who flat).list) who flat).world
+    by : (t : Bool) → KeepsClients flat (if t then fails SharedLine flat else edit_row (alignments (text_of who flat) (tabstop_of who flat) (sels_of who flat).list) who flat).world
     by true = keeps_same flat
     by false = keeps_edit_row _ who flat
 

@@ -21,13 +21,13 @@ use Rattle.edit_ops.specs.declared.kinds.Indent.{Indent}
 use Rattle.edit_ops.specs.Indenting.{indents}
 use Rattle.edit_ops.specs.Leaving.{edited, left_by}
 use Rattle.edit_ops.specs.Left.{IsOfEdit, IsLeftBy}
-use Rattle.kak_world.specs.Flat.{Flat, is_joined, text_of, tabstop_of, sels_of, shown_of, with_sels}
+use Rattle.kak_world.specs.Flat.{Flat, is_joined, text_of, tabstop_of, indentwidth_of, sels_of, shown_of, with_sels}
 use Rattle.kak_world.specs.Rows.{does}
 use Rattle.kak_world.specs.Changing.{buffer_edited, changed_in, splice_changes_of, edited_by, IsAfterSome}
 use Rattle.kak_world.specs.Editing.{edit_row}
 use Rattle.kak_world.proofs.WorldLaws.{text_edited, joined_edited}
 use Rattle.key_rows.specs.Sequence.{then_row}
-use Rattle.key_rows.specs.Edits.{leaving_row, indentwidth}
+use Rattle.key_rows.specs.Edits.{leaving_row}
 
 pub each-length : (f : ℕ → Range → Splice) (n : ℕ) (rs : List Range) → length (each_from f n rs) ≡ length rs
 each-length f n [] = refl
@@ -80,8 +80,8 @@ all-made who flat mid ss e =
     record { made = length cs; is = e ∙ ap (λ xs. changed_in (shown_of who flat) (buffer_edited who xs) flat) (sym (take_all (length cs) cs (omega arith))) }
 
 -- the code's replacements for lines that are indented
-pub indents-are : (how : Indent) (width tabstop who : ℕ) (flat : Flat) (lines : List ℕ) (list : Listed) (ss given : List CodeSplice) → given ≡ ss → lines ≡ text_of who flat → sels_of who flat ≡ selected (text_of who flat) list → width ≡ indentwidth → tabstop ≡ tabstop_of flat
-    → flat_splices lines ss ≡ indents lines how width tabstop (ranges_of lines list.list) → flat_splices (text_of who flat) given ≡ indents (text_of who flat) how indentwidth (tabstop_of flat) (sels_of who flat).list
+pub indents-are : (how : Indent) (width tabstop who : ℕ) (flat : Flat) (lines : List ℕ) (list : Listed) (ss given : List CodeSplice) → given ≡ ss → lines ≡ text_of who flat → sels_of who flat ≡ selected (text_of who flat) list → width ≡ indentwidth_of who flat → tabstop ≡ tabstop_of who flat
+    → flat_splices lines ss ≡ indents lines how width tabstop (ranges_of lines list.list) → flat_splices (text_of who flat) given ≡ indents (text_of who flat) how (indentwidth_of who flat) (tabstop_of who flat) (sels_of who flat).list
 indents-are how width tabstop who flat lines list ss given g l s w b e =
     ap₂ (λ t x. flat_splices t x) (sym l) g ∙ e ∙ ap (λ t. indents t how width tabstop (ranges_of t list.list)) l ∙ ap₂ (λ k n. indents (text_of who flat) how k n (ranges_of (text_of who flat) list.list)) w b
-    ∙ ap (λ (x : Selected). indents (text_of who flat) how indentwidth (tabstop_of flat) x.list) (sym s)
+    ∙ ap (λ (x : Selected). indents (text_of who flat) how (indentwidth_of who flat) (tabstop_of who flat) x.list) (sym s)

@@ -77,12 +77,12 @@ crowded-puts how strings who flat lines list l s h t m =
     let here : puts lines how (map (λ w. chars w) strings) (ranges_of lines list.list) ≡ puts_of how strings who flat = ap (λ t. puts t how (map (λ w. chars w) strings) (ranges_of t list.list)) l ∙ same in
     crowded-row (puts_of how strings who flat) who flat (subst IsStored l t) (subst (λ ss. AreInOrder 0 (length (text_of who flat)) ss) same (puts-in_order (text_of who flat) how (map (λ w. chars w) strings) list h)) (subst (λ ss. MAX_CHARS < put_together ss) here m)
 
-pub crowded-aligns : (who : ℕ) (flat : Flat) (lines : List ℕ) (list : Listed) (tabstop : ℕ) → lines ≡ text_of who flat → sels_of who flat ≡ selected (text_of who flat) list → tabstop ≡ tabstop_of flat → IsHeld (text_of who flat) list → IsStored lines
-    → MAX_CHARS < put_together (alignments lines tabstop (ranges_of lines list.list)) → edit_row (alignments (text_of who flat) (tabstop_of flat) (sels_of who flat).list) who flat ≡ fails (long_refusal who flat) flat
+pub crowded-aligns : (who : ℕ) (flat : Flat) (lines : List ℕ) (list : Listed) (tabstop : ℕ) → lines ≡ text_of who flat → sels_of who flat ≡ selected (text_of who flat) list → tabstop ≡ tabstop_of who flat → IsHeld (text_of who flat) list → IsStored lines
+    → MAX_CHARS < put_together (alignments lines tabstop (ranges_of lines list.list)) → edit_row (alignments (text_of who flat) (tabstop_of who flat) (sels_of who flat).list) who flat ≡ fails (long_refusal who flat) flat
 crowded-aligns who flat lines list tabstop l s b h t m =
-    let same : alignments (text_of who flat) (tabstop_of flat) (ranges_of (text_of who flat) list.list) ≡ alignments (text_of who flat) (tabstop_of flat) (sels_of who flat).list = ap (λ (x : Selected). alignments (text_of who flat) (tabstop_of flat) x.list) (sym s) in
-    let here : alignments lines tabstop (ranges_of lines list.list) ≡ alignments (text_of who flat) (tabstop_of flat) (sels_of who flat).list = ap₂ (λ t n. alignments t n (ranges_of t list.list)) l b ∙ same in
-    crowded-row _ who flat (subst IsStored l t) (subst (λ ss. AreInOrder 0 (length (text_of who flat)) ss) same (alignments-in_order (text_of who flat) (tabstop_of flat) list h)) (subst (λ ss. MAX_CHARS < put_together ss) here m)
+    let same : alignments (text_of who flat) (tabstop_of who flat) (ranges_of (text_of who flat) list.list) ≡ alignments (text_of who flat) (tabstop_of who flat) (sels_of who flat).list = ap (λ (x : Selected). alignments (text_of who flat) (tabstop_of who flat) x.list) (sym s) in
+    let here : alignments lines tabstop (ranges_of lines list.list) ≡ alignments (text_of who flat) (tabstop_of who flat) (sels_of who flat).list = ap₂ (λ t n. alignments t n (ranges_of t list.list)) l b ∙ same in
+    crowded-row _ who flat (subst IsStored l t) (subst (λ ss. AreInOrder 0 (length (text_of who flat)) ss) same (alignments-in_order (text_of who flat) (tabstop_of who flat) list h)) (subst (λ ss. MAX_CHARS < put_together ss) here m)
 
 -- the refusal as a row, where the edit goes on with the list that it leaves or not
 long-text : (who : ℕ) (flat : Flat) → row_of (long_refusal who flat) ≡ Some (Fails (error_text (long_refusal who flat)))
@@ -113,8 +113,8 @@ pub leaving-fails : (ss : List Splice) (who : ℕ) (flat : Flat) → edit_row ss
 unfolding leaving_row
 leaving-fails ss who flat e = ap (λ x. then_row x (λ w. does (with_sels who (left_by (text_of who flat) ss (sels_of who flat).main) w))) e
 
-pub align-fails : (who : ℕ) (flat : Flat) → shares_line (text_of who flat) (sels_of who flat).list ≡ false → edit_row (alignments (text_of who flat) (tabstop_of flat) (sels_of who flat).list) who flat ≡ fails (long_refusal who flat) flat → align_row who flat ≡ fails (long_refusal who flat) flat
-align-fails who flat apart e = ap (λ t. if t then fails SharedLine flat else edit_row (alignments (text_of who flat) (tabstop_of flat) (sels_of who flat).list) who flat) apart ∙ e
+pub align-fails : (who : ℕ) (flat : Flat) → shares_line (text_of who flat) (sels_of who flat).list ≡ false → edit_row (alignments (text_of who flat) (tabstop_of who flat) (sels_of who flat).list) who flat ≡ fails (long_refusal who flat) flat → align_row who flat ≡ fails (long_refusal who flat) flat
+align-fails who flat apart e = ap (λ t. if t then fails SharedLine flat else edit_row (alignments (text_of who flat) (tabstop_of who flat) (sels_of who flat).list) who flat) apart ∙ e
 
 pub false-by : (b : Bool) → (b ≡ true → ⊥) → b ≡ false
 false-by true h = absurd (h refl)

@@ -68,7 +68,7 @@ each_range (each.Object extent object) view tabstop text r = object_range extent
 -- the world in which that was done to each selection of a client
 abbrev pub each_changed : Each → ℕ → Flat → Flat
 each_changed change who flat =
-    with_sels who (each_settled (each_range change (view_of who flat) (tabstop_of flat) (text_of who flat)) (sels_of who flat)) flat
+    with_sels who (each_settled (each_range change (view_of who flat) (tabstop_of who flat) (text_of who flat)) (sels_of who flat)) flat
 
 -- each selection of a client moved
 abbrev pub moved : Motion → Reach → ℕ → Flat → Flat

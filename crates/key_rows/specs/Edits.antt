@@ -20,7 +20,7 @@ use Rattle.edit_ops.specs.Aligning.{shares_line, alignments}
 use Rattle.edit_ops.specs.Putting.{puts}
 use Rattle.edit_ops.specs.Leaving.{left_by}
 use Rattle.kak_world.specs.declared.ask.EditError.TheVariants.{NoSuchRegister, SharedLine}
-use Rattle.kak_world.specs.Flat.{Flat, text_of, tabstop_of, sels_of, with_sels}
+use Rattle.kak_world.specs.Flat.{Flat, text_of, tabstop_of, indentwidth_of, sels_of, with_sels}
 use Rattle.kak_world.specs.Rows.{RowEnd, does, fails}
 use Rattle.kak_world.specs.Editing.{edit_row}
 use Rattle.kak_world.specs.Registers.{set_row}
@@ -46,13 +46,9 @@ open_row side who flat = leaving_row (opens (text_of who flat) side (sels_of who
 abbrev pub rotate_row : Rotation → ℕ → Flat → RowEnd
 rotate_row way who flat = leaving_row (rotations (text_of who flat) way (sels_of who flat).list) who flat
 
--- how many columns lines are indented by
-abbrev pub indentwidth : ℕ
-indentwidth = 4
-
 -- the lines that the selections touch are indented, or less so; the list is mapped
 abbrev pub indent_row : Indent → ℕ → Flat → RowEnd
-indent_row how who flat = edit_row (indents (text_of who flat) how indentwidth (tabstop_of flat) (sels_of who flat).list) who flat
+indent_row how who flat = edit_row (indents (text_of who flat) how (indentwidth_of who flat) (tabstop_of who flat) (sels_of who flat).list) who flat
 
 -- the lines that the selections touch are joined; the list is mapped
 abbrev pub join_row : ℕ → Flat → RowEnd
@@ -62,7 +58,7 @@ join_row who flat = edit_row (joins (text_of who flat) (sels_of who flat).list) 
 abbrev pub align_row : ℕ → Flat → RowEnd
 align_row who flat =
     if shares_line (text_of who flat) (sels_of who flat).list then fails SharedLine flat
-    else edit_row (alignments (text_of who flat) (tabstop_of flat) (sels_of who flat).list) who flat
+    else edit_row (alignments (text_of who flat) (tabstop_of who flat) (sels_of who flat).list) who flat
 
 -- a character takes the place of each one in the selections
 abbrev pub fill_row : ℕ → ℕ → Flat → RowEnd

@@ -39,7 +39,7 @@ IsRefused error how name who flat = ((error ≡ NoSuchRegister name) × (strings
 -- replacements are those that bring a client's cursors to one display column
 pub record AreAlignments (who : ℕ) (flat : Flat) (splices : List Splice) : Type 0 where
   pub apart : shares_line (text_of who flat) (sels_of who flat).list ≡ false
-  pub aligns : flat_splices (text_of who flat) splices ≡ alignments (text_of who flat) (tabstop_of flat) (sels_of who flat).list
+  pub aligns : flat_splices (text_of who flat) splices ≡ alignments (text_of who flat) (tabstop_of who flat) (sels_of who flat).list
   pub places : AreSplicesOf (text_of who flat) splices
 
 -- why there are none: two selections begin on one line; they put in more than a text may have; or memory was wanting

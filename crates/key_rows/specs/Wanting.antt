@@ -13,7 +13,7 @@ use Rattle.edit_ops.specs.Indenting.{indents}
 use Rattle.edit_ops.specs.Joining.{joins}
 use Rattle.edit_ops.specs.Aligning.{alignments}
 use Rattle.edit_ops.specs.Putting.{put_in_at}
-use Rattle.kak_world.specs.Flat.{Flat, text_of, tabstop_of, sels_of}
+use Rattle.kak_world.specs.Flat.{Flat, text_of, tabstop_of, indentwidth_of, sels_of}
 use Rattle.kak_world.specs.Changing.{splice_changes_of, IsAfterSome}
 use Rattle.kak_world.specs.Registers.{with_register}
 use Rattle.key_rows.specs.declared.edits.Edit.{Edit}
@@ -21,7 +21,7 @@ use Rattle.key_rows.specs.declared.edits.Edit.TheVariants as edit
 use Rattle.key_rows.specs.declared.entries.Entry.{Entry}
 use Rattle.key_rows.specs.declared.entries.Entry.TheVariants as entry
 use Rattle.key_rows.specs.Reading.{used, own_strings, strings_read}
-use Rattle.key_rows.specs.Edits.{puts_of, indentwidth}
+use Rattle.key_rows.specs.Edits.{puts_of}
 use Rattle.key_rows.specs.Entering.{reaches_end}
 
 -- replacements that a client was to make in a world that is made ready came part of the way: nothing is done yet; the world is
@@ -54,9 +54,9 @@ splices_of edit.Erase register who flat = erasures Selection (sels_of who flat).
 splices_of edit.Keep register who flat = []
 splices_of edit.Replace register who flat = puts_read Over (strings_read (used register) who flat) who flat
 splices_of (edit.Rotate way) register who flat = rotations (text_of who flat) way (sels_of who flat).list
-splices_of (edit.Indent how) register who flat = indents (text_of who flat) how indentwidth (tabstop_of flat) (sels_of who flat).list
+splices_of (edit.Indent how) register who flat = indents (text_of who flat) how (indentwidth_of who flat) (tabstop_of who flat) (sels_of who flat).list
 splices_of edit.Join register who flat = joins (text_of who flat) (sels_of who flat).list
-splices_of edit.Align register who flat = alignments (text_of who flat) (tabstop_of flat) (sels_of who flat).list
+splices_of edit.Align register who flat = alignments (text_of who flat) (tabstop_of who flat) (sels_of who flat).list
 
 -- an edit came part of the way
 abbrev pub IsPartOfEdit : Edit → Option ℕ → ℕ → Flat → Flat → Type 0

@@ -171,7 +171,7 @@ pub fn change_each(
         alloc,
         world.lines(who),
         &world.window(who),
-        world.tabstop(),
+        world.tabstop(who),
         world.sels(who),
         change,
     )?;

@@ -6,7 +6,7 @@ ghost use Rattle.kak_world.specs.declared.ask.EditError.TheVariants.{NoMemory};
 ghost use Rattle.kak_world.specs.Flat.{is_joined};
 ghost use Rattle.kak_world.specs.Rows.{Answers};
 ghost use Rattle.key_rows.specs.Handing.{AreAlignments, IsUnaligned};
-ghost use Rattle.key_rows.specs.Edits.{erase_row, open_row, rotate_row, indentwidth, indent_row, join_row, align_row, fill_row, cut_row, put_row, edit_done};
+ghost use Rattle.key_rows.specs.Edits.{erase_row, open_row, rotate_row, indent_row, join_row, align_row, fill_row, cut_row, put_row, edit_done};
 ghost use Rattle.key_rows.specs.declared.entries.Entry.TheVariants.{Open};
 ghost use Rattle.key_rows.specs.Wanting.{IsPartOfPut, IsPartOfFill, IsPartOfEdit, IsPartOfEntry};
 
@@ -78,13 +78,6 @@ pub fn fill(alloc: Global, world: &mut World, who: u32, c: char) -> Result<(), E
     edit_leaving(alloc, world, who, splices.as_slice())
 }
 
-// How many columns lines are indented by.
-fn indentwidth() -> u32
-    ensures { result ≡ indentwidth }
-{
-    4
-}
-
 // Indents the lines that a client's selections touch, or less so.
 fn indent(alloc: Global, world: &mut World, who: u32, how: Indent) -> Result<(), EditError>
     requires { is_joined who world.old.flat ≡ true }
@@ -96,8 +89,8 @@ fn indent(alloc: Global, world: &mut World, who: u32, how: Indent) -> Result<(),
         world.lines(who),
         world.sels(who),
         how,
-        indentwidth(),
-        world.tabstop(),
+        world.indentwidth(who),
+        world.tabstop(who),
     )?;
     world.edit(alloc, who, splices.as_slice())?;
     Ok(())
@@ -121,7 +114,7 @@ fn alignment(alloc: Global, world: &World, who: u32) -> Result<Vec<Splice>, Edit
     ensures refused { IfErr result (λ error. IsUnaligned error who world.now.flat) }
 {
     let lines = world.lines(who);
-    match edit_ops::align(alloc, lines, world.sels(who), world.tabstop()) {
+    match edit_ops::align(alloc, lines, world.sels(who), world.tabstop(who)) {
         Ok(splices) => Ok(splices),
         Err(AlignError::SameLine) => Err(EditError::SharedLine),
         Err(AlignError::TooLong) => {

@@ -17,5 +17,5 @@ pub use entries::{Entry, enter_insert};
 pub use leaving::edit_leaving;
 pub use naming::register_named;
 pub use patterns::{Bounds, ask_for_last, remember_main};
-pub use reading::{keep, register_puts, register_text, string_of};
+pub use reading::{joined_text, keep, register_puts, register_strings, register_text, string_of};
 pub use shapes::Shape;

@@ -146,8 +146,8 @@ pub fn register_puts(
     }
 }
 
-// Strings as one text, joined by spaces.
-fn joined_text(alloc: Global, strings: &Words) -> Result<Chars, AllocError>
+/// Strings as one text, joined by spaces.
+pub fn joined_text(alloc: Global, strings: &Words) -> Result<Chars, AllocError>
     ensures { IfOk result (λ text. text ≡ joined_text strings.now) }
 {
     if strings.len() == 0 {
@@ -160,6 +160,22 @@ fn joined_text(alloc: Global, strings: &Words) -> Result<Chars, AllocError>
         text.extend_from_slice(string.as_slice())?;
     }
     Ok(text)
+}
+
+/// The strings that a register gives a client, or None where there is no such register. It costs the characters of these.
+pub fn register_strings(
+    alloc: Global,
+    world: &World,
+    who: u32,
+    name: char,
+) -> Result<Option<Words>, AllocError>
+    requires { is_joined who world.now.flat ≡ true }
+    ensures { IfOk result (λ words. words ≡ strings_read name who world.now.flat) }
+{
+    if let Some(words) = world.registers().get(name) {
+        return Ok(Some(words.copy(alloc)?));
+    }
+    read_only(alloc, world, who, name)
 }
 
 /// What a register gives a client as one text, its strings joined by spaces, or None where there is no such register. It costs

@@ -47,7 +47,7 @@ each-few f s = omega (arith, swept-few (sorted (map f s.list)), length-sorted (m
 
 changed-few : (change : Each) (who : ℕ) (flat : Flat) → is_joined who flat ≡ true → length (sels_of who (each_changed change who flat)).list ≤ length (sels_of who flat).list
 changed-few change who flat j =
-    let f : Range → Range = each_range change (view_of who flat) (tabstop_of flat) (text_of who flat) in
+    let f : Range → Range = each_range change (view_of who flat) (tabstop_of who flat) (text_of who flat) in
     omega (arith, each-few f (sels_of who flat), ap (λ (s : Selected). length s.list) (sels_sels who (each_settled f (sels_of who flat)) flat j))
 
 -- one run that can't add selections makes no list longer

@@ -2,7 +2,7 @@
 use Rattle.std.proofs.Common.{◌≡◌, ℕ, zero, suc, ◌+◌, ◌-◌, ◌<◌, ◌≤◌, refl, sym, ap, subst, ◌∙◌, arith}
 use Rattle.std.specs.Prelude.{IfSome}
 use Rattle.kak_world.specs.declared.ask.EditError.{EditError}
-use Rattle.kak_world.specs.declared.ask.EditError.TheVariants.{TextFull, UndoFull, NothingToUndo, NothingToRedo, NoSuchNode, NoSuchRegister, ReadOnlyRegister, RegisterFull, SharedLine, NoSuchCommand, BadPattern, NothingSelected, TooManySelections, BudgetSpent, NoMemory}
+use Rattle.kak_world.specs.declared.ask.EditError.TheVariants.{TextFull, UndoFull, NothingToUndo, NothingToRedo, NoSuchNode, NoSuchRegister, ReadOnlyRegister, RegisterFull, SharedLine, Command, BadPattern, NothingSelected, TooManySelections, BudgetSpent, NoMemory}
 use Rattle.kak_world.specs.Flat.{Flat, units_of, with_units}
 use Rattle.kak_world.specs.Rows.{RowEnd, GivesUp, does, row_of}
 use Rattle.key_rows.specs.Sequence.{then_row, after_unit}
@@ -42,7 +42,7 @@ fails-all (NoSuchRegister name) next end whole rest w e = w ∙ ap (λ x. then_r
 fails-all (ReadOnlyRegister name) next end whole rest w e = w ∙ ap (λ x. then_row x rest) e
 fails-all RegisterFull next end whole rest w e = w ∙ ap (λ x. then_row x rest) e
 fails-all SharedLine next end whole rest w e = w ∙ ap (λ x. then_row x rest) e
-fails-all (NoSuchCommand name) next end whole rest w e = w ∙ ap (λ x. then_row x rest) e
+fails-all (Command error) next end whole rest w e = w ∙ ap (λ x. then_row x rest) e
 fails-all BadPattern next end whole rest w e = w ∙ ap (λ x. then_row x rest) e
 fails-all NothingSelected next end whole rest w e = w ∙ ap (λ x. then_row x rest) e
 fails-all TooManySelections next end whole rest w e = w ∙ ap (λ x. then_row x rest) e

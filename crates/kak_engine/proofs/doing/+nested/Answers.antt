@@ -1,32 +1,35 @@
-use Rattle.std.proofs.Common.{rules, ◌≡◌, refl, sym, ◌∙◌, arith, length, ◌<◌, subst}
-use Rattle.std.proofs.lemmas.Bool.{eqb-true, eqb-false}
+use Rattle.std.proofs.Common.{rules, ◌≡◌, ℕ, refl, sym, ap, ◌∙◌, arith, subst, Ok}
 use Rattle.std.specs.Prelude.{encode_utf8_all}
 use Rattle.regex_ports.specs.Making.{IfBuilt}
 use Rattle.kak_world.specs.Flat.{Flat}
 use Rattle.command_set.specs.Rows.{row_command}
+use Rattle.command_set.specs.Files.{row_read, row_saved}
 use Rattle.command_set.specs.Finishing.{row_finish, source_of}
+use Rattle.command_set.proofs.CommandLaws.{command_units, keeps_command}
+use Rattle.command_set.proofs.FileLaws.{read_falls, keeps_read, saved_falls, keeps_saved}
 use Rattle.command_set.proofs.FinishLaws.{finish_falls, keeps_finish}
 use Rattle.kak_engine.specs.Doing.{Do, go_on, top}
-use Rattle.kak_world.specs.declared.ask.Ask.TheVariants.{Nothing, Commands, Leave}
+use Rattle.kak_world.specs.declared.ask.Ask.TheVariants.{Nothing, Commands, Read, Write, Leave}
 use Rattle.kak_world.specs.Rows.{Asks, RowEnd}
 use Rattle.kak_engine.specs.Seen.{moment_of}
 use Rattle.kak_engine.proofs.DoingLemmas.{Do-body}
-use Rattle.kak_engine.proofs.EndLemmas.{ends-by, does-alone, ends-there, row-asks, row-fails, made-ends, unit-taken, unit-wanting, unit-joined, joined-row, one-command, no-command}
-use Rattle.kak_engine.proofs.StageLemmas.{low-answered, few-answered}
-use Rattle.kak_engine.proofs.KeepingLaws.{keeps_command}
+use Rattle.kak_engine.proofs.EndLemmas.{ends-by, does-alone, ends-there, row-asks, row-fails, all-read, unread, made-ends, read-ends, write-ends, unit-taken, unit-wanting, unit-joined, joined-row}
+use Rattle.kak_engine.proofs.KeepingLaws.{clients-joined}
+use Rattle.kak_engine.proofs.LoopLemmas.{one-more-run, one-failed, one-given-up, all-run}
+use Rattle.kak_engine.proofs.StageLemmas.{low-answered, low-taken}
 use Rattle.kak_engine.proofs.doing.+nested.Goals as goal
 
 pub do_ask-returns-in-Nothing : goal.do_ask-returns-in-Nothing
-do_ask-returns-in-Nothing g t c = record { does = rw c.in-Nothing.is (does-alone _ _ _ _ _ _ (λ answers. Do-body c.args.who top (Asks Nothing) (moment_of answers c.args.world.now.flat))) }
+do_ask-returns-in-Nothing g t c = record { does = rw c.in-Nothing.is (does-alone _ _ _ _ _ _ (λ exchanges answers. Do-body c.args.who top (Asks Nothing) (moment_of exchanges answers c.args.world.now.flat))) }
 
 pub do_ask-returns-in-Commands : goal.do_ask-returns-in-Commands
-do_ask-returns-in-Commands g t c = record { does = rw (c.in-Commands.is, sym c.as_slice.ensures) (ends-by c.run_commands.result _ _ _ _ (λ m. Do-body c.args.who top (Asks (Commands c.as_slice.result.now)) m) c.run_commands.ensures.does) }
+do_ask-returns-in-Commands g t c = record { does = rw (c.in-Commands.is, sym c.as_slice.ensures) (ends-by c.run_text.result _ _ _ _ (λ m. Do-body c.args.who top (Asks (Commands c.as_slice.result.now)) m) c.run_text.ensures.does) }
 
 pub do_ask-returns-in-Make : goal.do_ask-returns-in-Make
 do_ask-returns-in-Make g t c = record { does = rw c.in-Make.is c.make_and_use.ensures.does }
 
 pub do_ask-returns-in-Leave : goal.do_ask-returns-in-Leave
-do_ask-returns-in-Leave g t c = record { does = rw (c.in-Leave.is, c.grant_leave.ensures) (does-alone _ _ _ _ _ _ (λ answers. Do-body c.args.who top (Asks Leave) (moment_of answers c.args.world.now.flat))) }
+do_ask-returns-in-Leave g t c = record { does = rw (c.in-Leave.is, c.grant_leave.ensures) (does-alone _ _ _ _ _ _ (λ exchanges answers. Do-body c.args.who top (Asks Leave) (moment_of exchanges answers c.args.world.now.flat))) }
 
 pub go_on-returns-in-Ok : goal.go_on-returns-in-Ok
 go_on-returns-in-Ok g t c = record { does = rw c.in-Ok.is (row-asks c.args.who c.in-Ok.ask c.do_ask.result _ _ _ _ c.do_ask.ensures.does) }
@@ -34,48 +37,12 @@ go_on-returns-in-Ok g t c = record { does = rw c.in-Ok.is (row-asks c.args.who c
 pub go_on-returns-in-Err : goal.go_on-returns-in-Err
 go_on-returns-in-Err g t c = record { does = rw c.in-Err.is (row-fails c.args.who c.in-Err.error c.ending_of.result _ _ _ c.ending_of.ensures.ends c.ending_of.ensures.memory) }
 
-pub run_commands-returns : goal.run_commands-returns
-run_commands-returns g t c =
-    let before : Flat = c.take_unit.new.self.flat in
-    let none : length c.args.text.now ≡ 0 → ⊥ = eqb-false _ _ (sym c.is_empty.ensures ∙ c.if-is_empty.false) in
-    let some : 0 < length c.args.text.now = omega arith in
-    record {
-      does = ends-by c.go_on.result _ _ _ _ (λ m. one-command c.args.who c.args.text.now m some)
-          (unit-taken c.go_on.result _ c.args.world.now.flat before _ _ _ (c.if-not-take_unit.ensures.taken refl).0 (c.if-not-take_unit.ensures.taken refl).1
-          (ends-there c.go_on.result c.args.who (row_command c.args.text.now c.args.who) before _ _ _
-          (c.go_on.ensures.does before (row_command c.args.text.now c.args.who before) c.command-row.ensures.row)));
-    }
-
-pub run_commands-go_on-requires : goal.run_commands-go_on-requires
-run_commands-go_on-requires g t c =
-    let before : Flat = c.take_unit.new.self.flat in
-    let few = few-answered c.command-row.result in
-    let joined = joined-row c.args.who c.command-row.result before c.command-row.new.world.flat (row_command c.args.text.now c.args.who before) c.command-row.ensures.row (keeps_command c.args.text.now c.args.who before)
-    (unit-joined c.args.who c.args.world.now.flat before (c.if-not-take_unit.ensures.taken refl).1 c.requires) in
-    search rules
-
-pub run_commands-returns-then-is_empty : goal.run_commands-returns-then-is_empty
-run_commands-returns-then-is_empty g t c =
-    let none : length c.args.text.now ≡ 0 = eqb-true _ _ (sym c.is_empty.ensures ∙ c.if-is_empty.true) in
-    record { does = does-alone _ _ _ _ _ _ (λ answers. no-command c.args.who c.args.text.now (moment_of answers c.args.world.now.flat) none) }
-
-pub run_commands-returns-then-not-take_unit : goal.run_commands-returns-then-not-take_unit
-run_commands-returns-then-not-take_unit g t c =
-    let none : length c.args.text.now ≡ 0 → ⊥ = eqb-false _ _ (sym c.is_empty.ensures ∙ c.if-is_empty.false) in
-    let some : 0 < length c.args.text.now = omega arith in
-    record {
-      does = does-alone _ _ _ _ _ _ (λ answers.
-          one-command c.args.who c.args.text.now (moment_of answers c.args.world.now.flat) some
-          ∙ unit-wanting (λ n. go_on (Do c.args.who) top (row_command c.args.text.now c.args.who n.world) n) c.args.world.now.flat c.take_unit.new.self.flat answers (c.if-not-take_unit.ensures.none refl).0 (c.if-not-take_unit.ensures.none refl).1);
-    }
-
 pub make_and_use-go_on-requires : goal.make_and_use-go_on-requires
 make_and_use-go_on-requires g t c =
     let end : RowEnd = row_finish c.args.wanted.then (source_of g.M.P.Pattern.source c.in_ok-made.made) c.args.who c.args.world.now.flat in
-    let low = low-answered c.finish-row.result c.args.world.now.flat c.finish-row.new.world.flat end c.finish-row.ensures.row
-    (finish_falls c.args.wanted.then (source_of g.M.P.Pattern.source c.in_ok-made.made) c.args.who c.args.world.now.flat) c.finish-row.ensures.wanting in
+    let low = low-answered c.finish-row.result _ c.finish-row.new.world.flat end c.finish-row.ensures.row (finish_falls c.args.wanted.then (source_of g.M.P.Pattern.source c.in_ok-made.made) c.args.who c.args.world.now.flat) in
     let joined = joined-row c.args.who c.finish-row.result c.args.world.now.flat c.finish-row.new.world.flat end c.finish-row.ensures.row
-    (keeps_finish c.args.wanted.then (source_of g.M.P.Pattern.source c.in_ok-made.made) c.args.who c.args.world.now.flat) c.requires in
+    (clients-joined _ _ (keeps_finish c.args.wanted.then (source_of g.M.P.Pattern.source c.in_ok-made.made) c.args.who c.args.world.now.flat)) c.requires in
     search rules
 
 pub make_and_use-returns : goal.make_and_use-returns
@@ -84,5 +51,74 @@ make_and_use-returns g t c =
     record {
       does = made-ends c.args.who c.args.wanted g.M.P.Pattern.source c.in_ok-made.made c.go_on.result c.args.world.now.flat _ _ _ _ _
           (subst (λ text. IfBuilt c.in_ok-made.made (λ p. g.M.P.Pattern.source p ≡ encode_utf8_all text)) c.as_slice.ensures (c.in_ok-made.ensures.built))
-          c.in_ok-made.ensures.counted c.in_ok-made.ensures.kept (c.go_on.ensures.does c.args.world.now.flat end c.finish-row.ensures.row);
+          c.in_ok-made.ensures.honest c.in_ok-made.ensures.kept (c.go_on.ensures.does c.args.world.now.flat end c.finish-row.ensures.row);
     }
+
+pub run_one-go_on-requires : goal.run_one-go_on-requires
+run_one-go_on-requires g t c =
+    let before : Flat = c.take_unit.new.self.flat in
+    let end : RowEnd = row_command c.args.command.now c.args.who before in
+    let low = low-taken c.run_command-row.result _ _ c.run_command-row.new.world.flat end (c.if-not-take_unit.ensures.taken refl).0 c.run_command-row.ensures.row (command_units c.args.command.now c.args.who before) in
+    let joined = joined-row c.args.who c.run_command-row.result before c.run_command-row.new.world.flat end c.run_command-row.ensures.row (keeps_command c.args.command.now c.args.who before)
+    (unit-joined c.args.who c.args.world.now.flat before (c.if-not-take_unit.ensures.taken refl).1 c.requires) in
+    search rules
+
+pub run_one-returns : goal.run_one-returns
+run_one-returns g t c =
+    let before : Flat = c.take_unit.new.self.flat in
+    record {
+      does = unit-taken c.go_on.result _ c.args.world.now.flat before _ _ _ (c.if-not-take_unit.ensures.taken refl).0 (c.if-not-take_unit.ensures.taken refl).1
+          (ends-there c.go_on.result c.args.who (row_command c.args.command.now c.args.who) before _ _ _
+          (c.go_on.ensures.does before (row_command c.args.command.now c.args.who before) c.run_command-row.ensures.row));
+    }
+
+pub run_one-returns-then-not-take_unit : goal.run_one-returns-then-not-take_unit
+run_one-returns-then-not-take_unit g t c = record {
+  does = does-alone _ _ _ _ _ _ (λ exchanges answers.
+      unit-wanting (λ n. go_on (Do c.args.who) top (row_command c.args.command.now c.args.who n.world) n) c.args.world.now.flat c.take_unit.new.self.flat exchanges answers (c.if-not-take_unit.ensures.none refl).0 (c.if-not-take_unit.ensures.none refl).1);
+}
+
+pub run_text-returns-in-Ok : goal.run_text-returns-in-Ok
+run_text-returns-in-Ok g t c = record { does = all-read (Do c.args.who) c.args.who _ _ c.run_each.result _ _ (c.in-Ok.ensures.commands ∙ ap Ok (sym c.as_slice.ensures.value)) c.run_each.ensures.does }
+
+pub run_text-returns-in-Err : goal.run_text-returns-in-Err
+run_text-returns-in-Err g t c = record { does = unread (Do c.args.who) c.args.who _ c.in-Err.error c.ending_of.result _ _ _ c.in-Err.ensures.why c.ending_of.ensures.ends c.ending_of.ensures.memory }
+
+pub read_and_show-go_on-requires : goal.read_and_show-go_on-requires
+read_and_show-go_on-requires g t c =
+    let end : RowEnd = row_read c.args.name c.in_ok-read.read c.args.who c.args.world.now.flat in
+    let low = low-answered c.open_read-row.result _ c.open_read-row.new.world.flat end c.open_read-row.ensures.row (read_falls c.args.name c.in_ok-read.read c.args.who c.args.world.now.flat) in
+    let joined = joined-row c.args.who c.open_read-row.result c.args.world.now.flat c.open_read-row.new.world.flat end c.open_read-row.ensures.row (keeps_read c.args.name c.in_ok-read.read c.args.who c.args.world.now.flat) c.requires in
+    search rules
+
+pub read_and_show-returns : goal.read_and_show-returns
+read_and_show-returns g t c = record {
+  does = read-ends c.args.who c.args.name _ c.in_ok-read.read _ c.go_on.result c.args.world.now.flat _ _ _ _ _ c.as_str.ensures c.read_told.ensures c.in_ok-read.ensures.honest c.in_ok-push.ensures.ok
+      (c.go_on.ensures.does c.args.world.now.flat _ c.open_read-row.ensures.row);
+}
+
+pub write_and_note-go_on-requires : goal.write_and_note-go_on-requires
+write_and_note-go_on-requires g t c =
+    let end : RowEnd = row_saved c.args.saving c.in_ok-put.put c.args.who c.args.world.now.flat in
+    let low = low-answered c.note_saved-row.result _ c.note_saved-row.new.world.flat end c.note_saved-row.ensures.row (saved_falls c.args.saving c.in_ok-put.put c.args.who c.args.world.now.flat) in
+    let joined = joined-row c.args.who c.note_saved-row.result c.args.world.now.flat c.note_saved-row.new.world.flat end c.note_saved-row.ensures.row (keeps_saved c.args.saving c.in_ok-put.put c.args.who c.args.world.now.flat) c.requires in
+    search rules
+
+pub write_and_note-returns : goal.write_and_note-returns
+write_and_note-returns g t c = record { does = write-ends c.args.who c.args.saving c.in_ok-put.put c.go_on.result c.args.world.now.flat _ _ _ _ _ c.in_ok-put.ensures.honest c.in_ok-put.ensures.kept (c.go_on.ensures.does c.args.world.now.flat _ c.note_saved-row.ensures.row) }
+
+pub run_each-loop-command-preserved : goal.run_each-loop-command-preserved
+run_each-loop-command-preserved g t c = one-more-run c.args.who c.args.commands.now c.loop-command.command-index _ _ _ _ _ _ c.command-item.is c.loop-command-test.true c.loop-command.invariant c.in-Fine.is c.in_ok-run_one.ensures.does
+
+pub run_each-returns-in-Failed : goal.run_each-returns-in-Failed
+run_each-returns-in-Failed g t c = record {
+  does = one-failed c.args.who c.args.commands.now c.loop-command.command-index _ _ _ _ _ _ _ c.command-item.is c.loop-command-test.true c.loop-command.invariant c.in-Failed.is c.in_ok-run_one.ensures.does;
+}
+
+pub run_each-returns-in-GivenUp : goal.run_each-returns-in-GivenUp
+run_each-returns-in-GivenUp g t c = record {
+  does = one-given-up c.args.who c.args.commands.now c.loop-command.command-index _ _ _ _ _ _ c.command-item.is c.loop-command-test.true c.loop-command.invariant c.in-GivenUp.is c.in_ok-run_one.ensures.does;
+}
+
+pub run_each-returns : goal.run_each-returns
+run_each-returns g t c = record { does = all-run c.args.who c.args.commands.now c.loop-command.command-index _ _ c.loop-command-test.false c.loop-command.invariant }

@@ -1,7 +1,7 @@
 use Rattle.std.proofs.Common.{refl}
 use Rattle.kak_world.specs.Flat.{Flat}
 use Rattle.kak_engine.specs.Doing.{Do, go_on, row_key, strike, top}
-use Rattle.kak_engine.proofs.EndLemmas.{ends-there, unit-taken, unit-joined, joined-row, joined-part}
+use Rattle.kak_engine.proofs.EndLemmas.{does-alone, ends-there, unit-taken, unit-wanting, unit-joined, joined-row, joined-part}
 use Rattle.kak_engine.proofs.KeepingLaws.{keeps_row, keeps_strike}
 use Rattle.kak_engine.proofs.doing.strike.Goals as goal
 
@@ -20,3 +20,8 @@ go_on-requires g c =
 
 pub returns-clause-joined : goal.returns-clause-joined
 returns-clause-joined g c = joined-part c.args.who c.go_on.result (strike c.args.who top c.args.key) _ _ (returns-clause-does g c) (keeps_strike c.args.who top c.args.key) c.requires
+
+pub returns-then-not-take_unit-clause-does : goal.returns-then-not-take_unit-clause-does
+returns-then-not-take_unit-clause-does g c =
+    does-alone _ _ _ _ _ _ (λ exchanges answers.
+    unit-wanting (λ n. go_on (Do c.args.who) top (row_key c.args.key c.args.who n.world) n) c.args.world.now.flat c.take_unit.new.self.flat exchanges answers (c.if-not-take_unit.ensures.none refl).0 (c.if-not-take_unit.ensures.none refl).1)

@@ -9,4 +9,4 @@ pub returns-clause-asked : goal.returns-clause-asked
 returns-clause-asked g c = asked-struck c.args.who c.args.key c.args.world.now.flat c.begin.new.world.flat _ _ _ c.in_ok-ending.ending c.requires.stays c.begin.ensures c.requires.fresh c.in_ok-ending.ensures.does
 
 pub returns-clause-honest : goal.returns-clause-honest
-returns-clause-honest g c = honest-struck c.args.who c.args.key c.begin.new.world.flat _ _ _ c.in_ok-ending.ending c.requires.fresh c.in_ok-ending.ensures.does
+returns-clause-honest g c = honest-struck c.args.who c.args.key c.args.world.now.flat c.begin.new.world.flat _ _ _ c.in_ok-ending.ending c.requires.stays c.begin.ensures c.requires.fresh c.in_ok-ending.ensures.does

@@ -6,11 +6,6 @@ pub returns-in-TextFull-clause-text : goal.returns-in-TextFull-clause-text
 unfolding chars
 returns-in-TextFull-clause-text c = rw c.in-TextFull.is c.from_str.ensures
 
-pub returns-in_ok-extend_from_slice-in-NoSuchCommand-clause-text :
-    goal.returns-in_ok-extend_from_slice-in-NoSuchCommand-clause-text
-unfolding chars
-returns-in_ok-extend_from_slice-in-NoSuchCommand-clause-text c = rw c.in-NoSuchCommand.is (c.in_ok-extend_from_slice-in-NoSuchCommand.ensures.ok ∙ ap (λ t. t ++ c.as_slice.result.now) c.in_ok-text-in-NoSuchCommand.ensures ∙ (rw c.as_slice.ensures refl))
-
 pub returns-in-BadPattern-clause-text : goal.returns-in-BadPattern-clause-text
 unfolding chars
 returns-in-BadPattern-clause-text c = rw c.in-BadPattern.is c.from_str-in-BadPattern.ensures

@@ -1,5 +1,4 @@
 use Rattle.std.proofs.Common.{ap, ◌∙◌}
-use Rattle.kak_world.specs.Seen.{Kept}
 use Rattle.kak_world.specs.Dropping.{buffers_dropped}
 use Rattle.kak_world.proofs.DroppingLemmas.{has-dropped, now-dropped}
 use Rattle.kak_world.proofs.StayingLemmas.{drop-keeps}
@@ -10,11 +9,11 @@ invariant_of-self-2 c = has-dropped c.args.n c.as_slice.result.now c.self.inside
 
 pub returns-clause-ok : goal.returns-clause-ok
 returns-clause-ok c =
-    now-dropped c.args.n c.in_ok-to.to _ _ _ _ _ _ c.self.view_is
-    (c.in_ok-to.ensures.ok ∙ ap (λ cs. buffers_dropped c.args.n cs c.self.inside.buffers.items) c.as_slice.ensures) c.in_ok-to.ensures.number c.move_on.ensures
+    now-dropped c.args.n c.in_ok-to.to _ _ _ _ _ _ _ c.self.view_is
+    (c.in_ok-to.ensures.ok ∙ ap (λ cs. buffers_dropped c.args.n cs c.self.inside.buffers.items) c.as_slice.ensures) c.in_ok-to.ensures.number c.move_on.ensures c.clear_buffer.ensures
 
 pub returns-clause-keeps : goal.returns-clause-keeps
 returns-clause-keeps c =
-    drop-keeps c.args.n c.self.inside.buffers.items _ _ (ap (λ (k : Kept). k.flat.buffers) c.self.view_is) c.self.invariant
-    (now-dropped c.args.n c.in_ok-to.to _ _ _ _ _ _ c.self.view_is
-    (c.in_ok-to.ensures.ok ∙ ap (λ cs. buffers_dropped c.args.n cs c.self.inside.buffers.items) c.as_slice.ensures) c.in_ok-to.ensures.number c.move_on.ensures)
+    drop-keeps c.args.n _ _
+    (now-dropped c.args.n c.in_ok-to.to _ _ _ _ _ _ _ c.self.view_is
+    (c.in_ok-to.ensures.ok ∙ ap (λ cs. buffers_dropped c.args.n cs c.self.inside.buffers.items) c.as_slice.ensures) c.in_ok-to.ensures.number c.move_on.ensures c.clear_buffer.ensures)

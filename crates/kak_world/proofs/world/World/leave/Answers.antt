@@ -5,4 +5,4 @@ pub invariant_of-self : goal.invariant_of-self
 invariant_of-self c = has-mapped _ _ _ c.self.invariant c.leave_buffers.ensures
 
 pub returns : goal.returns
-returns c = went c.args.who _ _ _ _ _ _ c.self.view_is c.leave_buffers.ensures c.remove.ensures
+returns c = went c.args.who _ _ _ _ _ _ _ c.self.view_is c.leave_buffers.ensures c.remove.ensures c.clear_client.ensures

@@ -1,0 +1,182 @@
+-- What is made of files takes no units, keeps those that have joined, and asks for nothing that a row comes behind.
+use Rattle.std.proofs.Common.{◌≡◌, ◌<◌, ◌+◌, ◌*◌, ℕ, Bool, true, false, List, [], ◌∷◌, refl, sym, ap, ap₂, ◌∙◌, arith}
+use Rattle.std.specs.Prelude.{if◌then◌else◌, is_some, slice_index_or, chars, Some, None, Ok, Err}
+use Rattle.std.specs.declared.option.Option.{Option}
+use Rattle.std.specs.declared.result.Result.{Result}
+use Rattle.kak_ports.specs.declared.sink.Put.{Put}
+use Rattle.kak_ports.specs.declared.sink.Put.TheVariants as put
+use Rattle.kak_files.specs.declared.files.FileRead.{FileRead}
+use Rattle.kak_files.specs.declared.files.FileRead.TheVariants as read
+use Rattle.text_coding.specs.declared.form.Eol.{Eol}
+use Rattle.text_coding.specs.declared.form.Bom.{Bom}
+use Rattle.text_coding.specs.declared.form.Loaded.{Loaded}
+use Rattle.text_coding.specs.declared.form.DecodeError.{DecodeError}
+use Rattle.text_coding.specs.Coding.{loaded}
+use Rattle.scope_options.specs.declared.scope.Scope.{Scope}
+use Rattle.scope_options.specs.declared.scope.Scope.TheVariants.{Buffer as InBuffer}
+use Rattle.scope_options.specs.declared.setting.Setting.{Setting}
+use Rattle.scope_options.specs.declared.options.OptionError.{OptionError}
+use Rattle.scope_options.specs.Changes.{set_in}
+use Rattle.kak_world.specs.declared.ask.Saving.{Saving}
+use Rattle.kak_world.specs.Flat.{Buffer, Flat, units_of, options_of, is_there, is_joined, with_options}
+use Rattle.kak_world.specs.Dropping.{KeepsJoined}
+use Rattle.kak_world.specs.Showing.{first_gap, placed, has_all_buffers, opened, shows}
+use Rattle.kak_world.specs.Saving.{is_named, unsaved_names, others_leave, saved_in}
+use Rattle.kak_world.specs.Rows.{Row, RowEnd, does, stages_of}
+use Rattle.kak_world.proofs.ShownLaws.{units_shows, units_opened}
+use Rattle.kak_world.proofs.GapLemmas.{gaps_are_taken, keeps_opened}
+use Rattle.kak_world.proofs.JoinedLemmas.{joined_kept, joined_same, joined_then, stays_shows, keeps_options, units_options, keeps_saved as keeps_marked, units_saved}
+use Rattle.command_set.specs.Buffers.{quit_unless, quit_row}
+use Rattle.command_set.specs.Files.{set_or_same, set_to, formatted, eol_word, bom_word, load_row, empty_row, loaded_row, row_read, marked_if_own, behind_write, row_saved}
+use Rattle.command_set.specs.Laws.{IsTame}
+
+-- a world that came of another, without a unit taken, and with those that had joined
+record Follows (old new : Flat) : Type 0 where
+  pub units : units_of new ≡ units_of old
+  pub keeps : KeepsJoined old new
+
+follows-same : (flat : Flat) → Follows flat flat
+follows-same flat = record { units = refl; keeps = joined_same flat }
+
+follows-then : (a b c : Flat) → Follows a b → Follows b c → Follows a c
+follows-then a b c h g = record { units = g.units ∙ h.units; keeps = joined_then a b c h.keeps g.keeps }
+
+-- a row over such a world, behind which no row comes
+record Ends (flat : Flat) (end : RowEnd) : Type 0 where
+  pub world : Follows flat end.world
+  pub last : stages_of end.row ≡ 0
+
+ends-if : (flat : Flat) (t : Bool) (a b : RowEnd) → Ends flat a → Ends flat b → Ends flat (if t then a else b)
+ends-if flat true a b h g = h
+ends-if flat false a b h g = g
+
+-- an option is set, where it takes the word
+follows-set : (r : Result (List Setting) OptionError) (flat : Flat) → Follows flat (set_or_same r flat)
+follows-set (Ok rows) flat = record { units = units_options rows flat; keeps = joined_kept flat (with_options rows flat) (keeps_options rows flat) }
+follows-set (Err e) flat = follows-same flat
+
+buffers-set : (r : Result (List Setting) OptionError) (flat : Flat) → (set_or_same r flat).buffers ≡ flat.buffers
+unfolding with_options
+buffers-set (Ok rows) flat = refl
+buffers-set (Err e) flat = refl
+
+follows-to : (scope : Scope) (name word : List ℕ) (flat : Flat) → Follows flat (set_to scope name word flat)
+follows-to scope name word flat = follows-set (set_in scope name (word ∷ []) false (options_of flat)) flat
+
+buffers-to : (scope : Scope) (name word : List ℕ) (flat : Flat) → (set_to scope name word flat).buffers ≡ flat.buffers
+buffers-to scope name word flat = buffers-set (set_in scope name (word ∷ []) false (options_of flat)) flat
+
+follows-form : (n : ℕ) (eol : Eol) (bom : Bom) (flat : Flat) → Follows flat (formatted n eol bom flat)
+follows-form n eol bom flat = follows-then flat _ _ (follows-to (InBuffer n) _ (eol_word eol) flat) (follows-to (InBuffer n) _ (bom_word bom) _)
+
+pub buffers_form : (n : ℕ) (eol : Eol) (bom : Bom) (flat : Flat) → (formatted n eol bom flat).buffers ≡ flat.buffers
+buffers_form n eol bom flat = buffers-to (InBuffer n) _ (bom_word bom) _ ∙ buffers-to (InBuffer n) _ (eol_word eol) flat
+
+-- a buffer that was opened is there
+pub opened_there : (name : List ℕ) (file : Bool) (text : List ℕ) (flat : Flat) → is_there (first_gap flat.buffers) (opened name file text flat).buffers ≡ true
+unfolding opened
+opened_there name file text flat = ap is_some (gaps_are_taken.stands _ flat.buffers).here
+
+follows-opened : (name : List ℕ) (file : Bool) (text : List ℕ) (flat : Flat) → Follows flat (opened name file text flat)
+follows-opened name file text flat = record { units = units_opened name file text flat; keeps = joined_kept flat _ (keeps_opened name file text flat) }
+
+follows-shows : (who n : ℕ) (flat : Flat) → is_there n flat.buffers ≡ true → Follows flat (shows who n flat)
+follows-shows who n flat t = record { units = units_shows who n flat; keeps = stays_shows who n flat t }
+
+ends-load : (name : List ℕ) (l : Loaded) (who : ℕ) (flat : Flat) → Ends flat (load_row name l who flat)
+ends-load name l who flat =
+    let n : ℕ = first_gap flat.buffers in
+    let new : Flat = opened (chars name) true l.text flat in
+    let set : Flat = formatted n l.eol l.bom new in
+    ends-if flat (has_all_buffers flat) _ _ (record { world = follows-same flat; last = refl })
+    (record {
+      world = follows-then flat new _ (follows-opened (chars name) true l.text flat)
+          (follows-then new set _ (follows-form n l.eol l.bom new)
+          (follows-shows who n set (ap (is_there n) (buffers_form n l.eol l.bom new) ∙ opened_there (chars name) true l.text flat)));
+      last = refl;
+    })
+
+ends-empty : (name : List ℕ) (who : ℕ) (flat : Flat) → Ends flat (empty_row name who flat)
+ends-empty name who flat =
+    let new : Flat = opened (chars name) true (10 ∷ []) flat in
+    ends-if flat (has_all_buffers flat) _ _ (record { world = follows-same flat; last = refl })
+    (record { world = follows-then flat new _ (follows-opened (chars name) true (10 ∷ []) flat) (follows-shows who (first_gap flat.buffers) new (opened_there (chars name) true (10 ∷ []) flat)); last = refl })
+
+ends-loaded : (r : Result Loaded DecodeError) (name : List ℕ) (who : ℕ) (flat : Flat) → Ends flat (loaded_row r name who flat)
+ends-loaded (Ok l) name who flat = ends-load name l who flat
+ends-loaded (Err e) name who flat = record { world = follows-same flat; last = refl }
+
+ends-read : (name : List ℕ) (answer : FileRead) (who : ℕ) (flat : Flat) → Ends flat (row_read name answer who flat)
+unfolding row_read
+ends-read name (read.Bytes bytes) who flat = ends-loaded (loaded bytes) name who flat
+ends-read name read.NotThere who flat = ends-empty name who flat
+ends-read name read.TooBig who flat = record { world = follows-same flat; last = refl }
+ends-read name read.Failed who flat = record { world = follows-same flat; last = refl }
+
+-- a file was written
+follows-marked : (saving : Saving) (flat : Flat) → Follows flat (marked_if_own saving flat)
+follows-marked saving flat = by (is_named (chars saving.file) (slice_index_or flat.buffers saving.buffer None))
+  where
+    by : (t : Bool) → Follows flat (if t then saved_in saving.buffer flat else flat)
+    by true = record { units = units_saved saving.buffer flat; keeps = joined_kept flat (saved_in saving.buffer flat) (keeps_marked saving.buffer flat) }
+    by false = follows-same flat
+
+ends-quit : (who : ℕ) (flat : Flat) → Ends flat (quit_row who flat)
+ends-quit who flat = ends-if flat (others_leave who flat) _ _ (by (unsaved_names flat)) (record { world = follows-same flat; last = refl })
+  where
+    by : (o : Option (List ℕ)) → Ends flat (quit_unless o flat)
+    by None = record { world = follows-same flat; last = refl }
+    by (Some names) = record { world = follows-same flat; last = refl }
+
+ends-behind : (quits : Bool) (who : ℕ) (flat : Flat) → Ends flat (behind_write quits who flat)
+ends-behind true who flat = ends-quit who flat
+ends-behind false who flat = record { world = follows-same flat; last = refl }
+
+ends-saved : (saving : Saving) (answer : Put) (who : ℕ) (flat : Flat) → Ends flat (row_saved saving answer who flat)
+unfolding row_saved
+ends-saved saving put.Failed who flat = record { world = follows-same flat; last = refl }
+ends-saved saving put.Done who flat =
+    let later = ends-behind saving.quits who (marked_if_own saving flat) in
+    record { world = follows-then flat (marked_if_own saving flat) _ (follows-marked saving flat) later.world; last = later.last }
+
+tame-ends : (flat : Flat) (end : RowEnd) → Ends flat end → IsTame flat end
+tame-ends flat end h = record { units = h.world.units; keeps = h.world.keeps }
+
+pub tame_read : (name : List ℕ) (answer : FileRead) (who : ℕ) (flat : Flat) → IsTame flat (row_read name answer who flat)
+tame_read name answer who flat = tame-ends flat _ (ends-read name answer who flat)
+
+pub tame_saved : (saving : Saving) (answer : Put) (who : ℕ) (flat : Flat) → IsTame flat (row_saved saving answer who flat)
+tame_saved saving answer who flat = tame-ends flat _ (ends-saved saving answer who flat)
+
+pub read_ends : (name : List ℕ) (answer : FileRead) (who : ℕ) (flat : Flat) → stages_of (row_read name answer who flat).row ≡ 0
+read_ends name answer who flat = (ends-read name answer who flat).last
+
+pub saved_ends : (saving : Saving) (answer : Put) (who : ℕ) (flat : Flat) → stages_of (row_saved saving answer who flat).row ≡ 0
+saved_ends saving answer who flat = (ends-saved saving answer who flat).last
+
+-- what may come behind is less than what might have come before
+pub read_falls : (name : List ℕ) (answer : FileRead) (who : ℕ) (flat : Flat)
+    → 3 * units_of (row_read name answer who flat).world + stages_of (row_read name answer who flat).row < 3 * units_of flat + 1
+read_falls name answer who flat = omega (arith, (tame_read name answer who flat).units, read_ends name answer who flat)
+
+pub saved_falls : (saving : Saving) (answer : Put) (who : ℕ) (flat : Flat)
+    → 3 * units_of (row_saved saving answer who flat).world + stages_of (row_saved saving answer who flat).row < 3 * units_of flat + 1
+saved_falls saving answer who flat = omega (arith, (tame_saved saving answer who flat).units, saved_ends saving answer who flat)
+
+pub keeps_read : (name : List ℕ) (answer : FileRead) (who : ℕ) (flat : Flat) → KeepsJoined flat (row_read name answer who flat).world
+keeps_read name answer who flat = (tame_read name answer who flat).keeps
+
+pub keeps_saved : (saving : Saving) (answer : Put) (who : ℕ) (flat : Flat) → KeepsJoined flat (row_saved saving answer who flat).world
+keeps_saved saving answer who flat = (tame_saved saving answer who flat).keeps
+
+-- so it is with the world in which a file's text was opened
+pub joined_loaded : (who n : ℕ) (name text : List ℕ) (eol : Eol) (bom : Bom) (flat mid now : Flat) → is_joined who flat ≡ true → mid ≡ opened name true text flat → now ≡ formatted n eol bom mid → is_joined who now ≡ true
+joined_loaded who n name text eol bom flat mid now j e f =
+    ap (is_joined who) f ∙ (follows-form n eol bom mid).keeps.joined who (ap (is_joined who) e ∙ (follows-opened name true text flat).keeps.joined who j)
+
+pub there_opened : (n : ℕ) (name text : List ℕ) (flat now : Flat) → n ≡ first_gap flat.buffers → now ≡ opened name true text flat → is_there n now.buffers ≡ true
+there_opened n name text flat now g e = ap₂ (λ (k : ℕ) (w : Flat). is_there k w.buffers) g e ∙ opened_there name true text flat
+
+pub there_loaded : (n : ℕ) (name text : List ℕ) (eol : Eol) (bom : Bom) (flat mid now : Flat) → n ≡ first_gap flat.buffers → mid ≡ opened name true text flat → now ≡ formatted n eol bom mid → is_there n now.buffers ≡ true
+there_loaded n name text eol bom flat mid now g e f =
+    ap (λ (w : Flat). is_there n w.buffers) f ∙ ap (is_there n) (buffers_form n eol bom mid) ∙ there_opened n name text flat mid g e

@@ -1,0 +1,254 @@
+//! The table of expansions, as a client's world gives it.
+#![tactic(auto, using(kak_world::proofs::WorldLaws::world_laws))]
+
+ghost use Rattle.std.specs.Prelude.{◌≡◌, ◌∷◌, ◌++◌, [], true, codes, decimal, string_bytes, encode_utf8_all, IfOk, option_map};
+ghost use Rattle.undo_model.specs.Stories.{is_modified};
+ghost use Rattle.edit_ops.specs.Reading.{text_of_range};
+ghost use Rattle.selection_set.specs.Inside.{IsInside, range_of};
+ghost use Rattle.selection_texts.specs.Telling.{told_text};
+ghost use Rattle.kak_registers.specs.Names.{named};
+ghost use Rattle.kak_world.specs.Flat.{is_joined, option_of, text_of, story_of};
+ghost use Rattle.command_set.specs.Expanding.{truth, main_selection, main_place, value_strings, value_named, option_strings, register_strings, arguments, table_of};
+
+use crate::value_names::{Kind, ValueName, kind_named, value_named};
+use command_forms::{Columns, Place};
+use kak_ports::Words;
+use kak_registers::register_named;
+use kak_words::Lookup;
+use kak_world::World;
+use key_rows::{register_strings, string_of};
+use scope_options::{OptionValue, Scope};
+use selection_set::Sel;
+use selection_texts::{main_cursor, selection_desc, selections_desc};
+use std::alloc::{AllocError, Global};
+
+/// The expansions of a client.
+#[derive(Drop)]
+pub(crate) struct Expansions<'a> {
+    pub(crate) world: &'a World,
+    pub(crate) who: u32,
+    ghost joined: { is_joined who world.now.flat ≡ true },
+}
+
+// One string.
+fn only(alloc: Global, string: String) -> Result<Words, AllocError>
+    ensures { IfOk result (λ words. words ≡ string_bytes string ∷ []) }
+{
+    let mut words = Words::new(alloc);
+    words.push(string)?;
+    Ok(words)
+}
+
+// A truth value as a word.
+fn truth(is: bool) -> &'static str
+    ensures { result.now ≡ truth is }
+{
+    if is { "true" } else { "false" }
+}
+
+// A number as a word.
+fn number(alloc: Global, n: u64) -> Result<Words, AllocError>
+    ensures { IfOk result (λ words. words ≡ decimal n ∷ []) }
+{
+    only(alloc, format!(in alloc; "{n}")?)
+}
+
+// The name of a client.
+fn client_name(alloc: Global, n: u32) -> Result<Words, AllocError>
+    ensures { IfOk result (λ words. words ≡ (codes "client" ++ decimal n) ∷ []) }
+{
+    only(alloc, format!(in alloc; "client{n}")?)
+}
+
+// The place of a client's main cursor.
+fn main_place(world: &World, who: u32, columns: Columns) -> Place
+    requires { is_joined who world.now.flat ≡ true }
+    ensures { result ≡ main_place columns who world.now.flat }
+{
+    main_cursor(world.lines(who), columns, world.sels(who))
+}
+
+// The main selection of a client.
+fn main_selection(world: &World, who: u32) -> Sel
+    requires { is_joined who world.now.flat ≡ true }
+    ensures inside { IsInside (text_of who world.now.flat) result }
+    ensures value { range_of (text_of who world.now.flat) result ≡ main_selection who world.now.flat }
+{
+    let sels = world.sels(who);
+    sels.at(sels.main())
+}
+
+// The main selection of a client, as it is described.
+fn main_described(alloc: Global, world: &World, who: u32) -> Result<Words, AllocError>
+    requires { is_joined who world.now.flat ≡ true }
+    ensures { IfOk result (λ words. words ≡ told_text (text_of who world.now.flat) (main_selection who world.now.flat) ∷ []) }
+{
+    let sel = main_selection(world, who);
+    only(alloc, selection_desc(alloc, world.lines(who), sel)?)
+}
+
+// The text of the main selection of a client.
+fn main_text(alloc: Global, world: &World, who: u32) -> Result<Words, AllocError>
+    requires { is_joined who world.now.flat ≡ true }
+    ensures { IfOk result (λ words. words ≡ encode_utf8_all (text_of_range (text_of who world.now.flat) (main_selection who world.now.flat)) ∷ []) }
+{
+    let sel = main_selection(world, who);
+    let text = edit_ops::text_of(alloc, world.lines(who), sel)?;
+    only(alloc, string_of(alloc, text.as_slice())?)
+}
+
+// Whether the text of the buffer that a client sees may differ from what was saved.
+fn is_modified(world: &World, who: u32) -> bool
+    requires { is_joined who world.now.flat ≡ true }
+    ensures { result ≡ is_modified (story_of who world.now.flat) }
+{
+    match world.buffer(world.shown_number(who)) {
+        None => unreachable!(),
+        Some(buffer) => buffer.is_modified(),
+    }
+}
+
+// The strings of a value.
+fn value_strings(
+    alloc: Global,
+    world: &World,
+    who: u32,
+    value: ValueName,
+) -> Result<Words, AllocError>
+    requires { is_joined who world.now.flat ≡ true }
+    ensures { IfOk result (λ words. words ≡ value_strings value who world.now.flat) }
+{
+    match value {
+        ValueName::BufferName => only(alloc, string_of(alloc, world.buffer_name(who))?),
+        ValueName::Client => client_name(alloc, world.number(who)),
+        ValueName::CursorLine => {
+            number(
+                alloc,
+                u64::from(main_place(world, who, Columns::Bytes).line),
+            )
+        }
+        ValueName::CursorColumn => {
+            number(
+                alloc,
+                u64::from(main_place(world, who, Columns::Bytes).column),
+            )
+        }
+        ValueName::CursorCharColumn => {
+            number(
+                alloc,
+                u64::from(main_place(world, who, Columns::Characters).column),
+            )
+        }
+        ValueName::Selection => main_text(alloc, world, who),
+        ValueName::Selections => edit_ops::strings(alloc, world.lines(who), world.sels(who)),
+        ValueName::Description => main_described(alloc, world, who),
+        ValueName::Descriptions => selections_desc(alloc, world.lines(who), world.sels(who)),
+        ValueName::Count => number(alloc, world.sels(who).len() as u64),
+        ValueName::Modified => only(
+            alloc,
+            String::from_str(alloc, truth(is_modified(world, who)))?,
+        ),
+    }
+}
+
+// The strings of an option's value.
+fn option_strings(alloc: Global, value: &OptionValue) -> Result<Words, AllocError>
+    ensures { IfOk result (λ words. words ≡ option_strings value.now) }
+{
+    match value {
+        OptionValue::Int(n) => only(alloc, format!(in alloc; "{n}")?),
+        OptionValue::Bool(is) => only(alloc, String::from_str(alloc, truth(*is))?),
+        OptionValue::Str(text) => only(alloc, String::from_str(alloc, text.as_str())?),
+        OptionValue::StrList(list) => list.copy(alloc),
+    }
+}
+
+// The strings of the value of a name.
+fn named_value(
+    alloc: Global,
+    world: &World,
+    who: u32,
+    name: &str,
+) -> Result<Option<Words>, AllocError>
+    requires { is_joined who world.now.flat ≡ true }
+    ensures { IfOk result (λ words. words ≡ option_map (λ v. value_strings v who world.now.flat) (value_named name.now)) }
+{
+    match value_named(name) {
+        None => Ok(None),
+        Some(value) => Ok(Some(value_strings(alloc, world, who, value)?)),
+    }
+}
+
+// The strings of the option of a name.
+fn named_option(
+    alloc: Global,
+    world: &World,
+    who: u32,
+    name: &str,
+) -> Result<Option<Words>, AllocError>
+    requires { is_joined who world.now.flat ≡ true }
+    ensures { IfOk result (λ words. words ≡ option_map option_strings (option_of name.now who world.now.flat)) }
+{
+    match world
+        .options()
+        .seen(Scope::Window(who, world.shown_number(who)), name)
+    {
+        None => Ok(None),
+        Some(value) => Ok(Some(option_strings(alloc, value)?)),
+    }
+}
+
+// The strings of the register of a name.
+fn named_register(
+    alloc: Global,
+    world: &World,
+    who: u32,
+    name: &str,
+) -> Result<Option<Words>, AllocError>
+    requires { is_joined who world.now.flat ≡ true }
+    ensures { IfOk result (λ words. words ≡ register_strings (named name.now) who world.now.flat) }
+{
+    match register_named(name) {
+        None => Ok(None),
+        Some(c) => register_strings(alloc, world, who, c),
+    }
+}
+
+// The arguments of a defined command: there are none, as none runs.
+fn arguments(alloc: Global, name: &str) -> Option<Words>
+    ensures { result ≡ arguments name.now }
+{
+    if name == "@" {
+        return Some(Words::new(alloc));
+    }
+    None
+}
+
+// The strings of an expansion.
+#[tactic(auto, using(kak_world::proofs::WorldLaws::world_laws), unfolding(crate::specs::Expanding::table_of))]
+fn strings_of(
+    alloc: Global,
+    world: &World,
+    who: u32,
+    kind: &str,
+    name: &str,
+) -> Result<Option<Words>, AllocError>
+    requires { is_joined who world.now.flat ≡ true }
+    ensures { IfOk result (λ words. words ≡ table_of who world.now.flat kind.now name.now) }
+{
+    match kind_named(kind) {
+        None => Ok(None),
+        Some(Kind::Value) => named_value(alloc, world, who, name),
+        Some(Kind::Option) => named_option(alloc, world, who, name),
+        Some(Kind::Register) => named_register(alloc, world, who, name),
+        Some(Kind::Argument) => Ok(arguments(alloc, name)),
+    }
+}
+
+impl<'a> Lookup for Expansions<'a> {
+    ghost table = { λ e. table_of e.who e.world.now.flat };
+
+    fn look(&self, alloc: Global, kind: &str, name: &str) -> Result<Option<Words>, AllocError> {
+        strings_of(alloc, self.world, self.who, kind, name)
+    }
+}

@@ -1,0 +1,117 @@
+//! What commands do to options.
+#![tactic(auto, using(kak_world::proofs::WorldLaws::world_laws))]
+
+ghost use Rattle.std.specs.Prelude.{◌≡◌, true, [], IfOk, IfErr, IfSome};
+ghost use Rattle.kak_world.specs.Flat.{is_joined};
+ghost use Rattle.kak_world.specs.Rows.{Answers};
+ghost use Rattle.command_set.specs.Options.{scope_named, is_declared, refusal_by, declare_row, set_option_row, unset_option_row};
+
+use command_forms::{Declaration, OptionName, Setting};
+use kak_ports::small::Utf8Text;
+use kak_world::{CommandError, EditError, World};
+use scope_options::{OptionError, Scope};
+use std::alloc::Global;
+
+// The scope that a word names for a client.
+fn scope_named(word: &str, world: &World, who: u32) -> Option<Scope>
+    requires { is_joined who world.now.flat ≡ true }
+    ensures { result ≡ scope_named word.now who world.now.flat }
+{
+    match word {
+        "global" => Some(Scope::Global),
+        "buffer" => Some(Scope::Buffer(world.shown_number(who))),
+        "window" => Some(Scope::Window(who, world.shown_number(who))),
+        _ => None,
+    }
+}
+
+// Whether there is an option of a name.
+fn is_declared(world: &World, name: &str) -> bool
+    ensures { result ≡ is_declared name.now world.now.flat }
+{
+    world.options().seen(Scope::Global, name).is_some()
+}
+
+// By what a client is told why an option wasn't declared, set or unset.
+fn refusal_by(option: OptionName, error: OptionError) -> EditError
+    ensures { result ≡ refusal_by option.name option.scope error }
+{
+    match error {
+        OptionError::NoOption => EditError::Command(CommandError::NoSuchOption(option.name)),
+        OptionError::Exists => EditError::Command(CommandError::OptionExists(option.name)),
+        OptionError::BadType => EditError::Command(CommandError::BadValue),
+        OptionError::BadValue => EditError::Command(CommandError::BadValue),
+        OptionError::NoScope => EditError::Command(CommandError::NoSuchScope(option.scope)),
+        OptionError::NoMemory => EditError::NoMemory,
+    }
+}
+
+// The name of an option, without the word of a scope.
+fn unscoped(alloc: Global, name: Utf8Text) -> OptionName
+    ensures name { result.name ≡ name }
+    ensures scope { result.scope ≡ [] }
+{
+    OptionName {
+        scope: Utf8Text::of_string(String::new(alloc)),
+        name,
+    }
+}
+
+/// Declares an option. `OptionExists` and `BadValue` leave the world.
+pub(crate) fn declare(
+    alloc: Global,
+    world: &mut World,
+    declaration: Declaration,
+) -> Result<(), EditError>
+    ensures row { Answers result world.new.flat (declare_row declaration.kind declaration.name declaration.values world.old.flat) }
+{
+    let Declaration { kind, name, values } = declaration;
+    match world.declare_option(alloc, kind, name.as_str(), &values) {
+        Ok(()) => Ok(()),
+        Err(error) => Err(refusal_by(unscoped(alloc, name), error)),
+    }
+}
+
+/// Sets an option at a scope. `NoSuchOption`, `NoSuchScope` and `BadValue` leave the world.
+pub(crate) fn set(
+    alloc: Global,
+    world: &mut World,
+    who: u32,
+    setting: Setting,
+) -> Result<(), EditError>
+    requires { is_joined who world.old.flat ≡ true }
+    ensures row { Answers result world.new.flat (set_option_row setting.add setting.option.scope setting.option.name setting.values who world.old.flat) }
+{
+    let Setting {
+        add,
+        option,
+        values,
+    } = setting;
+    if !is_declared(world, option.name.as_str()) {
+        return Err(EditError::Command(CommandError::NoSuchOption(option.name)));
+    }
+    let Some(scope) = scope_named(option.scope.as_str(), world, who) else {
+        return Err(EditError::Command(CommandError::NoSuchScope(option.scope)));
+    };
+    match world.set_option(alloc, scope, option.name.as_str(), &values, add) {
+        Ok(()) => Ok(()),
+        Err(error) => Err(refusal_by(option, error)),
+    }
+}
+
+/// Takes away what an option is set to at a scope. `NoSuchOption` and `NoSuchScope` leave the world.
+pub(crate) fn unset(world: &mut World, who: u32, option: OptionName) -> Result<(), EditError>
+    requires { is_joined who world.old.flat ≡ true }
+    ensures row { Answers result world.new.flat (unset_option_row option.scope option.name who world.old.flat) }
+{
+    if !is_declared(world, option.name.as_str()) {
+        return Err(EditError::Command(CommandError::NoSuchOption(option.name)));
+    }
+    let Some(scope) = scope_named(option.scope.as_str(), world, who) else {
+        return Err(EditError::Command(CommandError::NoSuchScope(option.scope)));
+    };
+    match world.unset_option(scope, option.name.as_str()) {
+        Ok(()) => Ok(()),
+        Err(error) => Err(refusal_by(option, error)),
+    }
+}

@@ -1,0 +1,65 @@
+//! What commands do to registers, and what they say.
+#![tactic(auto, using(kak_world::proofs::WorldLaws::world_laws))]
+
+ghost use Rattle.std.specs.Prelude.{◌≡◌, true};
+ghost use Rattle.kak_world.specs.declared.own.Status.TheVariants.{Said};
+ghost use Rattle.kak_world.specs.Flat.{is_joined, with_own};
+ghost use Rattle.kak_world.specs.Rows.{Answers};
+ghost use Rattle.command_set.specs.Registers.{register_row, echo_row, failing};
+
+use command_forms::RegisterValues;
+use kak_ports::Words;
+use kak_ports::small::Utf8Text;
+use kak_registers::register_named;
+use kak_text::Chars;
+use kak_world::{CommandError, EditError, Status, World};
+use key_rows::joined_text;
+use std::alloc::Global;
+
+/// Sets a register. `NoSuchRegister`, `ReadOnlyRegister` and `RegisterFull` leave the world.
+pub(crate) fn set(
+    alloc: Global,
+    world: &mut World,
+    register: RegisterValues,
+) -> Result<(), EditError>
+    ensures row { Answers result world.new.flat (register_row register.name register.values world.old.flat) }
+{
+    let RegisterValues { name, values } = register;
+    match register_named(name.as_str()) {
+        None => Err(EditError::Command(CommandError::NoSuchRegister(name))),
+        Some(c) => world.set_register(alloc, c, &values),
+    }
+}
+
+// Says a text to a client.
+fn say(world: &mut World, who: u32, text: Chars)
+    requires { is_joined who world.old.flat ≡ true }
+    ensures { world.new.flat ≡ with_own who (λ o. record o { status = Said text }) world.old.flat }
+{
+    world.own_mut(who).status = Status::Said(text);
+}
+
+/// Says words to a client, with a space between each two.
+pub(crate) fn echo(
+    alloc: Global,
+    world: &mut World,
+    who: u32,
+    words: &Words,
+) -> Result<(), EditError>
+    requires { is_joined who world.old.flat ≡ true }
+    ensures row { Answers result world.new.flat (echo_row words.now who world.old.flat) }
+{
+    let text = joined_text(alloc, words)?;
+    say(world, who, text);
+    Ok(())
+}
+
+/// Fails with a text, or with the empty one.
+pub(crate) fn fail(alloc: Global, text: Option<Utf8Text>) -> EditError
+    ensures { result ≡ failing text }
+{
+    match text {
+        Some(text) => EditError::Command(CommandError::Failed(text)),
+        None => EditError::Command(CommandError::Failed(Utf8Text::of_string(String::new(alloc)))),
+    }
+}

@@ -1,0 +1,67 @@
+use Rattle.std.proofs.Common.{refl, ap, ◌∙◌}
+use Rattle.std.specs.Str.{chars}
+use Rattle.kak_world.proofs.command_error.CommandError.text.Goals as goal
+
+pub returns-in-Unclosed : goal.returns-in-Unclosed
+unfolding chars
+returns-in-Unclosed c = rw c.in-Unclosed.is c.with_number.ensures
+
+pub returns-in-UnknownExpansion : goal.returns-in-UnknownExpansion
+unfolding chars
+returns-in-UnknownExpansion c = rw c.in-UnknownExpansion.is c.with_word.ensures
+
+pub returns-in-NoSuchCommand : goal.returns-in-NoSuchCommand
+unfolding chars
+returns-in-NoSuchCommand c = rw c.in-NoSuchCommand.is c.with_word-in-NoSuchCommand.ensures
+
+pub returns-in-WrongArgumentCount : goal.returns-in-WrongArgumentCount
+unfolding chars
+returns-in-WrongArgumentCount c = rw c.in-WrongArgumentCount.is c.from_str.ensures
+
+pub returns-in-UnknownSwitch : goal.returns-in-UnknownSwitch
+unfolding chars
+returns-in-UnknownSwitch c = rw c.in-UnknownSwitch.is c.with_word-in-UnknownSwitch.ensures
+
+pub returns-in-BadValue : goal.returns-in-BadValue
+unfolding chars
+returns-in-BadValue c = rw c.in-BadValue.is c.from_str-in-BadValue.ensures
+
+pub returns-in-BadSelection : goal.returns-in-BadSelection
+unfolding chars
+returns-in-BadSelection c = rw c.in-BadSelection.is c.with_word-in-BadSelection.ensures
+
+pub returns-in-NoSuchRegister : goal.returns-in-NoSuchRegister
+unfolding chars
+returns-in-NoSuchRegister c = rw c.in-NoSuchRegister.is c.with_word-in-NoSuchRegister.ensures
+
+pub returns-in-NoSuchOption : goal.returns-in-NoSuchOption
+unfolding chars
+returns-in-NoSuchOption c = rw c.in-NoSuchOption.is c.with_word-in-NoSuchOption.ensures
+
+pub returns-in-NoSuchScope : goal.returns-in-NoSuchScope
+unfolding chars
+returns-in-NoSuchScope c = rw c.in-NoSuchScope.is c.with_word-in-NoSuchScope.ensures
+
+pub returns-in-OptionExists : goal.returns-in-OptionExists
+unfolding chars
+returns-in-OptionExists c = rw c.in-OptionExists.is c.with_word-in-OptionExists.ensures
+
+pub returns-in-NoSuchBuffer : goal.returns-in-NoSuchBuffer
+unfolding chars
+returns-in-NoSuchBuffer c = rw c.in-NoSuchBuffer.is c.with_word-in-NoSuchBuffer.ensures
+
+pub returns-in-TooManyBuffers : goal.returns-in-TooManyBuffers
+unfolding chars
+returns-in-TooManyBuffers c = rw c.in-TooManyBuffers.is c.from_str-in-TooManyBuffers.ensures
+
+pub returns-in-ModifiedRemain : goal.returns-in-ModifiedRemain
+unfolding chars
+returns-in-ModifiedRemain c = rw c.in-ModifiedRemain.is c.with_names.ensures
+
+pub returns-in-FileFault : goal.returns-in-FileFault
+unfolding chars
+returns-in-FileFault c = rw c.in-FileFault.is c.with_word-in-FileFault.ensures
+
+pub returns-in-NotUtf8 : goal.returns-in-NotUtf8
+unfolding chars
+returns-in-NotUtf8 c = rw c.in-NotUtf8.is c.with_number-in-NotUtf8.ensures

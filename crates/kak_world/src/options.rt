@@ -1,0 +1,95 @@
+//! What options are set to, and what counts for a client.
+#![tactic(auto, unfolding(crate::specs::Flat::options_of, crate::specs::Flat::with_options))]
+
+ghost use Rattle.std.specs.Prelude.{◌≡◌, ◌≤◌, Ok, Err, true, IfErr, OnOk, OnErr};
+ghost use Rattle.scope_options.specs.Changes.{declare_in, set_in, unset_in, IsDue};
+ghost use Rattle.kak_world.specs.Flat.{is_joined, options_of, with_options, tabstop_of, indentwidth_of};
+ghost use Rattle.kak_world.specs.declared.options.TheConstants.{MAX_INDENT};
+
+use crate::world::World;
+use kak_ports::Words;
+use kak_text::MAX_TABSTOP;
+use scope_options::{OptionError, OptionType, Options, Scope};
+use std::alloc::Global;
+
+/// The most columns that a line is indented by at once.
+pub const MAX_INDENT: u32 = 64;
+
+impl World {
+    /// What options are set to.
+    pub fn options(&self) -> &Options
+        ensures { result.now ≡ options_of self.now.flat }
+    {
+        &self.rest.options
+    }
+
+    /// How many cells lie between tab stops where a client looks: its option `tabstop`.
+    #[tactic(auto, unfolding(crate::specs::Flat::options_of, crate::specs::Flat::tabstop_of), using(crate::proofs::WorldLaws::world_laws))]
+    pub fn tabstop(&self, who: u32) -> u32
+        requires { is_joined who self.now.flat ≡ true }
+        ensures value { result ≡ tabstop_of who self.now.flat }
+        ensures some { 1 ≤ result }
+        ensures few { result ≤ MAX_TABSTOP }
+    {
+        let window = Scope::Window(who, self.shown_number(who));
+        self.options()
+            .number_seen(window, "tabstop", 1, MAX_TABSTOP, 8)
+    }
+
+    /// By how many columns a line is indented where a client looks: its option `indentwidth`.
+    #[tactic(auto, unfolding(crate::specs::Flat::options_of, crate::specs::Flat::indentwidth_of), using(crate::proofs::WorldLaws::world_laws))]
+    pub fn indentwidth(&self, who: u32) -> u32
+        requires { is_joined who self.now.flat ≡ true }
+        ensures value { result ≡ indentwidth_of who self.now.flat }
+        ensures few { result ≤ MAX_INDENT }
+    {
+        let window = Scope::Window(who, self.shown_number(who));
+        self.options()
+            .number_seen(window, "indentwidth", 0, MAX_INDENT, 4)
+    }
+
+    /// Declares an option of a type, with a value that words give; one that exists with this type keeps its value. It is
+    /// refused as `Options::declare` is; an error leaves the world.
+    pub fn declare_option(
+        &mut self,
+        alloc: Global,
+        kind: OptionType,
+        name: &str,
+        value: &Words,
+    ) -> Result<(), OptionError>
+        ensures declares { OnOk result (declare_in kind name.now value.now (options_of self.old.flat) ≡ Ok (options_of self.new.flat)) }
+        ensures rest { self.new.flat ≡ with_options (options_of self.new.flat) self.old.flat }
+        ensures refused { IfErr result (λ e. IsDue e (declare_in kind name.now value.now (options_of self.old.flat))) }
+        ensures err { OnErr result (self.new.flat ≡ self.old.flat) }
+    {
+        self.rest.options.declare(alloc, kind, name, value)
+    }
+
+    /// Sets an option at a scope to a value that words give, or adds that to what is seen from there. It is refused as
+    /// `Options::set` is; an error leaves the world.
+    pub fn set_option(
+        &mut self,
+        alloc: Global,
+        scope: Scope,
+        name: &str,
+        value: &Words,
+        add: bool,
+    ) -> Result<(), OptionError>
+        ensures sets { OnOk result (set_in scope name.now value.now add (options_of self.old.flat) ≡ Ok (options_of self.new.flat)) }
+        ensures rest { self.new.flat ≡ with_options (options_of self.new.flat) self.old.flat }
+        ensures refused { IfErr result (λ e. IsDue e (set_in scope name.now value.now add (options_of self.old.flat))) }
+        ensures err { OnErr result (self.new.flat ≡ self.old.flat) }
+    {
+        self.rest.options.set(alloc, scope, name, value, add)
+    }
+
+    /// Takes away what an option is set to at a scope. It is refused as `Options::unset` is; an error leaves the world.
+    pub fn unset_option(&mut self, scope: Scope, name: &str) -> Result<(), OptionError>
+        ensures unsets { OnOk result (unset_in scope name.now (options_of self.old.flat) ≡ Ok (options_of self.new.flat)) }
+        ensures rest { self.new.flat ≡ with_options (options_of self.new.flat) self.old.flat }
+        ensures refused { IfErr result (λ e. unset_in scope name.now (options_of self.old.flat) ≡ Err e) }
+        ensures err { OnErr result (self.new.flat ≡ self.old.flat) }
+    {
+        self.rest.options.unset(scope, name)
+    }
+}
