@@ -1,5 +1,6 @@
 """Programs as processes: a whole input at once, or line by line over pipes."""
 import os
+import pathlib
 import resource
 import subprocess
 import tempfile
@@ -35,6 +36,25 @@ def run_whole(program, words, given, room=None):
         except subprocess.TimeoutExpired as late:
             return Ended("timeout", late.stdout or b"", late.stderr or b"")
     return Ended(done.returncode, done.stdout, done.stderr)
+
+
+def run_with_files(program, words, given, before):
+    """Runs the program on an input, in a folder with these files: the run, and the files that the folder has then.
+
+    Files are told by their paths, each with its bytes.
+    """
+    with tempfile.TemporaryDirectory() as folder:
+        top = pathlib.Path(folder)
+        for name, content in before.items():
+            path = top / name
+            path.parent.mkdir(parents=True, exist_ok=True)
+            path.write_bytes(content)
+        try:
+            done = subprocess.run([program, *words], input=given, capture_output=True, cwd=folder, timeout=SECONDS)
+            ended = Ended(done.returncode, done.stdout, done.stderr)
+        except subprocess.TimeoutExpired as late:
+            ended = Ended("timeout", late.stdout or b"", late.stderr or b"")
+        return ended, {str(path.relative_to(top)): path.read_bytes() for path in top.rglob("*") if path.is_file()}
 
 
 class EndedEarly(Exception):
