@@ -7,7 +7,7 @@ from processes import run_whole
 TOP = pathlib.Path(__file__).resolve().parent.parent
 
 # the session that docs/PROTOCOL.md tells of
-PROTOCOL_SESSION = [keys_line("ihi<esc>"), keys_line("h"), keys_line(":wq"), keys_line("<ret>"), keys_line("ia", "<nope>")]
+PROTOCOL_SESSION = [keys_line("ihi<esc>"), keys_line("h"), keys_line(":wr"), keys_line("<ret>"), keys_line("ia", "<nope>")]
 
 
 def shown_lines(text):
