@@ -1,4 +1,4 @@
-//! `kak -ui json`: one client over standard input and output.
+//! `kak -ui json [file]`: one client over standard input and output.
 #![tactic(auto)]
 
 use kak_app::{Status, run};

@@ -1,9 +1,10 @@
 -- Runs that came to nothing, and runs that ended in one way or another.
-use Rattle.std.proofs.Common.{◌≡◌, ℕ, inl, inr, zero, suc, [], drop, Ok, Err, refl, ◌∙◌, subst, arith}
+use Rattle.std.proofs.Common.{◌≡◌, ℕ, inl, inr, zero, suc, List, [], drop, Ok, Err, refl, ◌∙◌, subst, arith}
 use Rattle.std.specs.declared.result.Result.{Result}
 use Rattle.std.proofs.KnownBytes.{Consumes-nil, Appends-nil}
 use Rattle.session_turns.specs.Headline.{Due, Sent}
 use Rattle.kak_ports.specs.Ports.{Inlet, Outlet}
+use Rattle.key_names.specs.declared.key.Key.{Key}
 use Rattle.session_events.specs.Entries.{AreOf}
 use Rattle.session_events.specs.Legal.{AreLeavings, IsLegal}
 use Rattle.session_events.specs.Meaning.{rules}
@@ -15,6 +16,7 @@ use Rattle.session_lines.specs.declared.reading.InputEnd.{InputEnd}
 use Rattle.session_lines.specs.declared.reading.InputEnd.TheVariants as ending
 use Rattle.session_lines.specs.Session.{protocol}
 use Rattle.session_lines.specs.Reading.{FaultIs}
+use Rattle.session_lines.specs.Serving.{service}
 use Rattle.session_lines.specs.Connections.{WasServed, EndCauses}
 use Rattle.kak_engine.specs.Steps.{given_by, AllAsked}
 use Rattle.kak_app.specs.declared.program.TheConstants.{MAX_ENTRIES}
@@ -22,8 +24,8 @@ use Rattle.kak_app.specs.declared.program.Status.TheVariants.{Done}
 use Rattle.kak_app.specs.Runs.{Ran, Answers, IsFull, ReadsAre, WritesAre}
 
 -- nothing was played
-pub nothing-ran : (left : Inlet) (before : Outlet) → Ran (Err stop.NoMemory) left left before before
-nothing-ran left before = record {
+pub nothing-ran : (keys : List Key) (left : Inlet) (before : Outlet) → Ran keys (Err stop.NoMemory) left left before before
+nothing-ran keys left before = record {
   history = [];
   alone = tt;
   legal = record { lives = λ who. refl; within = none MAX_ENTRIES };
@@ -36,7 +38,7 @@ nothing-ran left before = record {
     sends = Appends-nil before.told;
     served = record {
       lines = inl refl;
-      stands = (record { front = []; begins = (Due protocol (rules given_by) 0 [] [], refl); stands = inl refl }, (Sent protocol (rules given_by) 0 [] [], refl));
+      stands = (record { front = []; begins = (Due (protocol keys) (rules given_by) 0 [] [], refl); stands = inl refl }, (Sent (protocol keys) (rules given_by) 0 [] [], refl));
     };
     end_is = tt;
   };
@@ -76,13 +78,13 @@ writes-are (Err stop.NoMemory) z before now c = c
 writes-are (Err stop.WriteFault) z before now c = c
 
 -- client 0 was served
-pub served-ran : (r : Result InputEnd Stop) (x z : Seated) (left rest : Inlet) (before now : Outlet) → x.number ≡ 0 → x.limit ≡ MAX_ENTRIES → IsSameSeat x z → AreOf z.number z.seen → IsLegal z.limit z.seen
-    → WasServed given_by x.number z.seen before now left rest r → FaultIs r left rest → EndCauses r z before now → AllAsked z.seen → Ran r left rest before now
-served-ran r x z left rest before now first most same o l s f c a = record {
+pub served-ran : (keys : List Key) (r : Result InputEnd Stop) (x z : Seated) (left rest : Inlet) (before now : Outlet) → x.number ≡ 0 → x.limit ≡ MAX_ENTRIES → IsSameSeat x z → AreOf z.number z.seen → IsLegal z.limit z.seen
+    → WasServed (service given_by keys) x.number z.seen before now left rest r → FaultIs r left rest → EndCauses r z before now → AllAsked z.seen → Ran keys r left rest before now
+served-ran keys r x z left rest before now first most same o l s f c a = record {
   history = z.seen;
   alone = mine;
   legal = subst (λ n. IsLegal n z.seen) (same.limit ∙ most) l;
-  served = subst (λ n. WasServed given_by n z.seen before now left rest r) first s;
+  served = subst (λ n. WasServed (service given_by keys) n z.seen before now left rest r) first s;
   asked = a;
   full = full-length r z before now (same.limit ∙ most) mine l c;
   reads = reads-are r left rest f;
@@ -93,8 +95,8 @@ served-ran r x z left rest before now first most same o l s f c a = record {
     mine = subst (λ n. AreOf n z.seen) (same.number ∙ first) o
 
 -- a session that broke is as lost as one without memory
-pub broken-ran : (at : ℕ) (left rest : Inlet) (before now : Outlet) → Ran (Err (stop.Broken at)) left rest before now → Ran (Err stop.NoMemory) left rest before now
-broken-ran at left rest before now r = record {
+pub broken-ran : (keys : List Key) (at : ℕ) (left rest : Inlet) (before now : Outlet) → Ran keys (Err (stop.Broken at)) left rest before now → Ran keys (Err stop.NoMemory) left rest before now
+broken-ran keys at left rest before now r = record {
   history = r.history;
   alone = r.alone;
   legal = r.legal;
@@ -106,5 +108,5 @@ broken-ran at left rest before now r = record {
 }
 
 -- a run whose input ended
-pub ended-done : (e : InputEnd) (left rest : Inlet) (before now : Outlet) → e ≡ ending.Ended → Ran (Ok e) left rest before now → Answers Done left rest before now
-ended-done e left rest before now end ran = inr (subst (λ q. Ran (Ok q) left rest before now) end ran)
+pub ended-done : (keys : List Key) (e : InputEnd) (left rest : Inlet) (before now : Outlet) → e ≡ ending.Ended → Ran keys (Ok e) left rest before now → Answers keys Done left rest before now
+ended-done keys e left rest before now end ran = inr (subst (λ q. Ran keys (Ok q) left rest before now) end ran)

@@ -1,4 +1,4 @@
-//! The whole of the program for one client: `kak -ui json`.
+//! The whole of the program for one client: `kak -ui json [file]`.
 #![tactic(auto)]
 
 pub mod limits;

@@ -46,7 +46,7 @@ fn play(alloc: Global, input: &str, piece: usize) -> Result<Session, Fail>
     let mut seat = LoneSeat::new(alloc, NoFiles::new(), NoPatterns::new(), 1_000, 0)?;
     let mut out = Vec::new(alloc);
     let mut part = Vec::new(alloc);
-    open(alloc, &mut seat, &mut sink, &mut out)?;
+    open(alloc, &mut seat, &mut sink, &mut out, &[])?;
     let ending = play_source(
         alloc,
         &mut seat,

@@ -1,16 +1,19 @@
 //! The run of the program: one client, from its first drawing to its leaving.
 
-ghost use Rattle.std.specs.Prelude.{◌≡◌, map, string_bytes, IsTrue, false};
+ghost use Rattle.std.specs.Prelude.{◌≡◌, List, map, string_bytes, true, false, IfOk};
+ghost use Rattle.key_names.specs.declared.key.Key.{Key};
 ghost use Rattle.kak_ports.specs.Ports.{Inlet, Outlet};
 ghost use Rattle.kak_engine.specs.Honesty.{IsUntouched};
-ghost use Rattle.kak_app.specs.Runs.{Ran, code_of, ui_json, Answers};
+ghost use Rattle.kak_app.specs.Runs.{Ran, code_of, is_ui_json, is_call, opens, Answers};
 
+use file_words::{edit_keys, is_file_name};
 use kak_engine::{LoneSeat, NoEngine};
 use kak_files::Files;
 use kak_ports::{Sink, Source};
+use key_names::Key;
 use regex_ports::PatternMaker;
 use session_lines::{InputEnd, Stop, serve};
-use std::alloc::Global;
+use std::alloc::{AllocError, Global};
 
 /// How many entries the history may have, the leaving aside: 4,000,000.
 pub const MAX_ENTRIES: u64 = 4_000_000;
@@ -20,7 +23,7 @@ pub const MAX_ENTRIES: u64 = 4_000_000;
 pub enum Status {
     /// The client was let go, or the input was read to its end.
     Done,
-    /// The words aren't `-ui json`. Nothing was read or written.
+    /// The words aren't `-ui json`, or these and a file's name. Nothing was read or written.
     Usage,
     /// The input failed. What was read before is answered.
     ReadFault,
@@ -52,30 +55,50 @@ impl Status {
 }
 
 // Whether these are the words of a client that speaks JSON.
-fn are_ui_json(words: &[String]) -> bool
-    ensures right { IsTrue result → map (λ word. string_bytes word) words.now ≡ ui_json }
-    ensures wrong { result ≡ false → map (λ word. string_bytes word) words.now ≡ ui_json → ⊥ }
+fn is_ui_json(kind: &str, form: &str) -> bool
+    ensures { result ≡ is_ui_json kind.now form.now }
+{
+    kind == "-ui" && form == "json"
+}
+
+// Whether the program may be called by these words.
+fn is_call(words: &[String]) -> bool
+    ensures { result ≡ is_call (map (λ word. string_bytes word) words.now) }
 {
     match words {
-        [kind, form] => kind.as_str() == "-ui" && form.as_str() == "json",
+        [kind, form] => is_ui_json(kind.as_str(), form.as_str()),
+        [kind, form, file] => {
+            is_ui_json(kind.as_str(), form.as_str()) && is_file_name(file.as_str())
+        }
         _ => false,
     }
 }
 
-// Serves the one client of a new session. Gives back the files and the maker of patterns.
+// The keys that are struck before the first drawing.
+fn opening_keys(alloc: Global, words: &[String]) -> Result<Vec<Key>, AllocError>
+    ensures { IfOk result (λ keys. keys.items ≡ opens (map (λ word. string_bytes word) words.now)) }
+{
+    match words {
+        [_kind, _form, file] => edit_keys(alloc, file.as_str()),
+        _ => Ok(Vec::new(alloc)),
+    }
+}
+
+// Serves the one client of a new session, with keys before its first drawing. Gives back the files and the maker of patterns.
 fn serve_client<I: Source, K: Sink, F: Files, M: PatternMaker>(
     alloc: Global,
+    keys: &[Key],
     input: &mut I,
     output: &mut K,
     files: F,
     patterns: M,
 ) -> (Result<InputEnd, Stop>, F, M)
     requires { IsUntouched (F.shelf files).told }
-    ensures { Ran result.0 (I.inlet input.old) (I.inlet input.new) (K.outlet output.old) (K.outlet output.new) }
+    ensures { Ran keys.now result.0 (I.inlet input.old) (I.inlet input.new) (K.outlet output.old) (K.outlet output.new) }
 {
     match LoneSeat::new(alloc, files, patterns, MAX_ENTRIES, 0) {
         Ok(mut seat) => {
-            let ended = serve(alloc, &mut seat, input, output);
+            let ended = serve(alloc, &mut seat, input, output, keys);
             let (files, patterns) = seat.into_outside();
             (ended, files, patterns)
         }
@@ -85,7 +108,7 @@ fn serve_client<I: Source, K: Sink, F: Files, M: PatternMaker>(
 
 // The status of a run, by how its client was served.
 fn status_of(ended: Result<InputEnd, Stop>) -> Status
-    ensures answers { (left rest : Inlet) (before now : Outlet) → Ran ended left rest before now → Answers result left rest before now }
+    ensures answers { (keys : List Key) (left rest : Inlet) (before now : Outlet) → Ran keys ended left rest before now → Answers keys result left rest before now }
     ensures used { result ≡ Status.Usage → ⊥ }
 {
     match ended {
@@ -100,9 +123,9 @@ fn status_of(ended: Result<InputEnd, Stop>) -> Status
     }
 }
 
-/// Runs the program: its words are to be `-ui json`, its input has the client's lines, and its output is sent what the
-/// client is shown and refused. The client has the number 0. The files, which hold what they held when they were made where
-/// they tell it, and the maker of patterns are given back.
+/// Runs the program: its words are to be `-ui json`, with a file's name behind them where one is to be opened first, its
+/// input has the client's lines, and its output is sent what the client is shown and refused. The client has the number 0.
+/// The files, which hold what they held when they were made where they tell it, and the maker of patterns are given back.
 pub fn run<I: Source, K: Sink, F: Files, M: PatternMaker>(
     alloc: Global,
     words: &[String],
@@ -112,13 +135,25 @@ pub fn run<I: Source, K: Sink, F: Files, M: PatternMaker>(
     patterns: M,
 ) -> (Status, F, M)
     requires { IsUntouched (F.shelf files).told }
-    ensures refused { (map (λ word. string_bytes word) words.now ≡ ui_json → ⊥) → result.0 ≡ Status.Usage }
-    ensures taken { map (λ word. string_bytes word) words.now ≡ ui_json → result.0 ≡ Status.Usage → ⊥ }
-    ensures answers { Answers result.0 (I.inlet input.old) (I.inlet input.new) (K.outlet output.old) (K.outlet output.new) }
+    ensures refused { is_call (map (λ word. string_bytes word) words.now) ≡ false → result.0 ≡ Status.Usage }
+    ensures taken { is_call (map (λ word. string_bytes word) words.now) ≡ true → result.0 ≡ Status.Usage → ⊥ }
+    ensures answers { Answers (opens (map (λ word. string_bytes word) words.now)) result.0 (I.inlet input.old) (I.inlet input.new) (K.outlet output.old) (K.outlet output.new) }
 {
-    if !are_ui_json(words) {
+    if !is_call(words) {
         return (Status::Usage, files, patterns);
     }
-    let (ended, files, patterns) = serve_client(alloc, input, output, files, patterns);
-    (status_of(ended), files, patterns)
+    match opening_keys(alloc, words) {
+        Ok(keys) => {
+            let (ended, files, patterns) = serve_client(
+                alloc,
+                keys.as_slice(),
+                input,
+                output,
+                files,
+                patterns,
+            );
+            (status_of(ended), files, patterns)
+        }
+        Err(_error) => (Status::NoMemory, files, patterns),
+    }
 }

@@ -38,9 +38,9 @@ impl Files for NoFiles {
     }
 }
 
-/// A pattern, of which there is none.
+/// A pattern that no memory is ever found for. None is made.
 #[derive(Drop)]
-pub enum NoPattern {}
+pub struct NoPattern {}
 
 impl Pattern for NoPattern {
     ghost use Rattle.std.specs.Prelude.{[]};
@@ -48,7 +48,7 @@ impl Pattern for NoPattern {
     ghost source = { λ p. [] };
 
     fn matches(&self, alloc: Global, text: &str) -> Result<Vec<Span>, AllocError> {
-        match *self {}
+        Err(AllocError)
     }
 }
 

@@ -1,16 +1,19 @@
 -- From what was played of a connection to what stands when it has ended.
-use Rattle.std.proofs.Common.{◌≡◌, ℕ, ◌⊎◌, inl, inr, Bool, true, false, List, [], ◌∷◌, ◌++◌, length, take, map, Ok, Err, refl, sym, ap, ◌∙◌, subst, arith, append-nil, length-append, ◌||◌, ◌+◌, ◌==◌, ◌≤◌}
+use Rattle.std.proofs.Common.{◌≡◌, ℕ, inl, inr, Bool, true, false, List, [], ◌∷◌, ◌++◌, length, take, Ok, Err, refl, sym, ap, ◌∙◌, subst, arith, append-nil, length-append, ◌||◌, ◌+◌, ◌==◌, ◌≤◌}
 use Rattle.std.specs.List.{flat_map}
 use Rattle.std.specs.declared.result.Result.{Result}
 use Rattle.std.proofs.Math.Seq.{take-append-add}
 use Rattle.std.proofs.lemmas.Bool.{eq-eqb}
 use Rattle.std.proofs.KnownBytes.{Consumes-nil}
+use Rattle.std.specs.Prelude.{if◌then◌else◌}
+use Rattle.std.proofs.lemmas.List.{take_all}
 use Rattle.kak_ports.specs.Ports.{Inlet, Outlet}
+use Rattle.key_names.specs.declared.key.Key.{Key}
 use Rattle.session_turns.specs.Lines.{whole_lines, last_part, as_line, lines_of_input}
-use Rattle.session_turns.specs.Histories.{Answer, own, answers, events_of, is_leaving}
+use Rattle.session_turns.specs.Histories.{Answer, own, answers, is_leaving}
 use Rattle.session_turns.specs.Turns.{Phase, Opening, turns_of, lines_among, plays, answers_to}
-use Rattle.session_turns.specs.Growth.{Whole, Over, Unsent, Adds, IsWhole}
-use Rattle.session_turns.specs.Headline.{Lost, Stands, LinesRead, AreLines, IsServed}
+use Rattle.session_turns.specs.Growth.{Whole, Over, Adds, IsWhole, IsOver}
+use Rattle.session_turns.specs.Headline.{Lost, Stands, LinesRead, AreLines}
 use Rattle.session_turns.proofs.Lists.{is_leaving-append, length-events_of}
 use Rattle.session_turns.proofs.TurnLemmas.{flat_map-append}
 use Rattle.session_turns.proofs.HistoryLemmas.{adds-others, adds-append, adds-answers, adds-own_events, leave-answers, leave-own}
@@ -19,7 +22,7 @@ use Rattle.session_events.specs.declared.event.Event.{Event}
 use Rattle.session_events.specs.declared.event.Event.TheVariants.{Leave}
 use Rattle.session_events.specs.declared.event.Entry.{Entry}
 use Rattle.session_events.specs.Entries.{entry_with}
-use Rattle.session_events.specs.Meaning.{Gives, rules}
+use Rattle.session_events.specs.Meaning.{rules}
 use Rattle.session_events.specs.Seats.{Seated, IsSameSeat, Sees}
 use Rattle.session_lines.specs.declared.playing.Stop.{Stop}
 use Rattle.session_lines.specs.declared.playing.Stop.TheVariants as stop
@@ -27,13 +30,12 @@ use Rattle.session_lines.specs.declared.reading.InputEnd.{InputEnd}
 use Rattle.session_lines.specs.declared.reading.InputEnd.TheVariants.{Left, Ended, ReadFault, Full}
 use Rattle.session_lines.specs.Session.{protocol}
 use Rattle.session_lines.specs.Stops.{IsLoss}
-use Rattle.session_lines.specs.Serving.{Serves, HasGone, how_of, how_opened, line_phases, unseen}
-use Rattle.session_lines.specs.Reading.{Reads, how_read, IsAll, EndIs, WasKept, WasLetGoLast}
+use Rattle.session_lines.specs.Serving.{Service, Serves, HasGone, how_of, line_phases}
+use Rattle.session_lines.specs.Reading.{Reads, how_read, IsAll, EndIs}
 use Rattle.session_lines.specs.Connections.{end_of, is_unwritten, Plays, WasServed}
 use Rattle.session_lines.proofs.LineLemmas.{turns-append}
 use Rattle.session_lines.proofs.ReadingLemmas.{with-phases}
 use Rattle.session_lines.proofs.ServingLemmas.{serves-append}
-use Rattle.session_lines.proofs.TakingLemmas.{adds-as}
 
 -- the lines of turns
 lines-are : (lines : List (List ℕ)) → lines_among (turns_of lines) ≡ lines
@@ -41,7 +43,7 @@ lines-are [] = refl
 lines-are (l ∷ lines) = ap (λ r. l ∷ r) (lines-are lines)
 
 -- an end that isn't told by a last line
-pub input-played : (g : Gives) (old new : Seated) (a b : Outlet) (left rest : Inlet) (ending : InputEnd) (part : List ℕ) → (ending ≡ Ended → ⊥) → Reads g old new a b left rest (Ok ending) part → Plays [] g old new a b left rest (Ok ending)
+pub input-played : (g : Service) (old new : Seated) (a b : Outlet) (left rest : Inlet) (ending : InputEnd) (part : List ℕ) → (ending ≡ Ended → ⊥) → Reads g old new a b left rest (Ok ending) part → Plays [] g old new a b left rest (Ok ending)
 input-played g old new a b left rest Left part n r = record { bytes = r.bytes; takes = r.takes; few = r.few; lines = whole_lines [] r.bytes; lines_are = inl refl; serves = r.serves; end_is = r.end_is }
 input-played g old new a b left rest Ended part n r = absurd (n refl)
 input-played g old new a b left rest ReadFault part n r = record { bytes = r.bytes; takes = r.takes; few = r.few; lines = whole_lines [] r.bytes; lines_are = refl; serves = r.serves; end_is = r.end_is }
@@ -55,11 +57,11 @@ stopped-lines stop.NoMemory ended bytes lines a = a
 stopped-lines stop.WriteFault ended bytes lines a = a
 
 -- playing stopped before the input's end was known
-pub input-stopped : (g : Gives) (old new : Seated) (a b : Outlet) (left rest : Inlet) (why : Stop) (part : List ℕ) → Reads g old new a b left rest (Err why) part → Plays [] g old new a b left rest (Err why)
+pub input-stopped : (g : Service) (old new : Seated) (a b : Outlet) (left rest : Inlet) (why : Stop) (part : List ℕ) → Reads g old new a b left rest (Err why) part → Plays [] g old new a b left rest (Err why)
 input-stopped g old new a b left rest why part r = record { bytes = r.bytes; takes = r.takes; few = r.few; lines = whole_lines [] r.bytes; lines_are = stopped-lines why _ r.bytes _ (inl refl); serves = r.serves; end_is = tt }
 
 -- an end that was told
-pub ended : (g : Gives) (old new : Seated) (a b : Outlet) (left rest : Inlet) (ending : InputEnd) (part : List ℕ) → ending ≡ Ended → Reads g old new a b left rest (Ok ending) part → Reads g old new a b left rest (Ok Ended) part
+pub ended : (g : Service) (old new : Seated) (a b : Outlet) (left rest : Inlet) (ending : InputEnd) (part : List ℕ) → ending ≡ Ended → Reads g old new a b left rest (Ok ending) part → Reads g old new a b left rest (Ok Ended) part
 ended g old new a b left rest ending part e r = subst (λ q. Reads g old new a b left rest (Ok q) part) e r
 
 -- the phases of the last line behind those of the whole ones
@@ -67,7 +69,7 @@ last-phases : (bytes line : List ℕ) → line ≡ last_part [] bytes → line_p
 last-phases bytes line e = ap (λ p. line_phases (whole_lines [] bytes) ++ line_phases (as_line p)) e ∙ sym (turns-append (whole_lines [] bytes) (as_line (last_part [] bytes)))
 
 -- the last line was played, and the client stays, or may leave
-pub last-stays : (g : Gives) (old mid new : Seated) (a b c : Outlet) (left rest : Inlet) (part line : List ℕ) (l : Bool) → l ≡ false → IsSameSeat old mid → line ≡ part
+pub last-stays : (g : Service) (old mid new : Seated) (a b c : Outlet) (left rest : Inlet) (part line : List ℕ) (l : Bool) → l ≡ false → IsSameSeat old mid → line ≡ part
     → Reads g old mid a b left rest (Ok Ended) part → Serves g mid new b c (how_of (Ok l)) (line_phases (as_line line)) → Plays [] g old new a c left rest (Ok Ended)
 last-stays g old mid new a b c left rest part line l f same e r t = record {
   bytes = r.bytes;
@@ -80,7 +82,7 @@ last-stays g old mid new a b c left rest part line l f same e r t = record {
   end_is = r.end_is;
 }
 
-pub last-leaves : (g : Gives) (old mid new : Seated) (a b c : Outlet) (left rest : Inlet) (part line : List ℕ) (l : Bool) → l ≡ true → IsSameSeat old mid → line ≡ part
+pub last-leaves : (g : Service) (old mid new : Seated) (a b c : Outlet) (left rest : Inlet) (part line : List ℕ) (l : Bool) → l ≡ true → IsSameSeat old mid → line ≡ part
     → Reads g old mid a b left rest (Ok Ended) part → Serves g mid new b c (how_of (Ok l)) (line_phases (as_line line)) → Plays [] g old new a c left rest (Ok Left)
 last-leaves g old mid new a b c left rest part line l f same e r t = record {
   bytes = r.bytes;
@@ -89,12 +91,12 @@ last-leaves g old mid new a b c left rest part line l f same e r t = record {
   lines = lines_of_input r.bytes;
   lines_are = inr (r.end_is, refl);
   serves = found.0;
-  end_is = inr (
+  end_is = inr (inr (
     r.end_is,
-    ap (λ q. is_leaving (answers_to protocol (line_phases (whole_lines [] r.bytes)) q)) found.1
-        ∙ ap is_leaving (whole-answers protocol (line_phases (whole_lines [] r.bytes)) r.serves.got now.got r.serves.out r.serves.fits)
+    ap (λ q. is_leaving (answers_to (protocol g.opens) (line_phases (whole_lines [] r.bytes)) q)) found.1
+        ∙ ap is_leaving (whole-answers (protocol g.opens) (line_phases (whole_lines [] r.bytes)) r.serves.got now.got r.serves.out r.serves.fits)
         ∙ r.serves.fits.stays,
-  );
+  ));
 }
   where
     now : Serves g mid new b c Over (line_phases (as_line line))
@@ -104,7 +106,7 @@ last-leaves g old mid new a b c left rest part line l f same e r t = record {
     found = with-phases g old new a c Over _ _ (last-phases r.bytes line (e ∙ r.part_is)) (serves-append g old mid new a b c Over (line_phases (whole_lines [] r.bytes)) (line_phases (as_line line)) same r.serves now)
 
 -- playing stopped in the last line
-pub last-stopped : (g : Gives) (old mid new : Seated) (a b c : Outlet) (left rest : Inlet) (part line : List ℕ) (why : Stop) → IsSameSeat old mid → line ≡ part
+pub last-stopped : (g : Service) (old mid new : Seated) (a b c : Outlet) (left rest : Inlet) (part line : List ℕ) (why : Stop) → IsSameSeat old mid → line ≡ part
     → Reads g old mid a b left rest (Ok Ended) part → Serves g mid new b c (how_of (Err why)) (line_phases (as_line line)) → Plays [] g old new a c left rest (Err why)
 last-stopped g old mid new a b c left rest part line why same e r t = record {
   bytes = r.bytes;
@@ -118,15 +120,44 @@ last-stopped g old mid new a b c left rest part line why same e r t = record {
 }
 
 -- an opening that stopped: nothing was read
-pub opening-stopped : (A : Type 0) (g : Gives) (old new : Seated) (a b : Outlet) (left : Inlet) (why : Stop) → Serves g old new a b (how_opened {A = A} (Err why)) (Opening ∷ []) → Plays (Opening ∷ []) g old new a b left left (Err why)
-opening-stopped A g old new a b left why s = record { bytes = []; takes = Consumes-nil left.left; few = omega arith; lines = []; lines_are = stopped-lines why _ [] [] (inl refl); serves = s; end_is = tt }
+pub opening-stopped : (g : Service) (old new : Seated) (a b : Outlet) (left : Inlet) (why : Stop) → Serves g old new a b (how_of (Err why)) (Opening ∷ []) → Plays (Opening ∷ []) g old new a b left left (Err why)
+opening-stopped g old new a b left why s = record { bytes = []; takes = Consumes-nil left.left; few = omega arith; lines = []; lines_are = stopped-lines why _ [] [] (inl refl); serves = s; end_is = tt }
+
+-- what is over with its opening has that opening's answers
+opening-over : (opens : List Key) (got : List (Answer Event)) (out : List ℕ) → IsOver (protocol opens) (Opening ∷ []) got out → is_leaving (answers_to (protocol opens) (Opening ∷ []) got) ≡ true
+opening-over opens got out o =
+    let opening : List Event = plays (protocol opens) Opening in
+    let count : length (flat_map (plays (protocol opens)) (Opening ∷ [])) ≡ length got = ap length (none-behind (is_leaving (take (length opening) got)) opening ∙ o.events []) ∙ length-events_of got in
+    ap (λ n. is_leaving (take n got)) count ∙ ap is_leaving (take_all (length got) got (least (length got))) ∙ o.leaves
+  where
+    none-behind : (t : Bool) (es : List Event) → es ++ [] ≡ es ++ flat_map (plays (protocol opens)) (if t then [] else [])
+    none-behind true es = refl
+    none-behind false es = refl
+
+    least : (n : ℕ) → n ≤ n
+    least n = omega arith
+
+-- an opening in which the client was let go: nothing was read
+pub opening-left : (g : Service) (old new : Seated) (a b : Outlet) (left : Inlet) (l : Bool) → l ≡ true → Serves g old new a b (how_of (Ok l)) (Opening ∷ []) → Plays (Opening ∷ []) g old new a b left left (Ok Left)
+opening-left g old new a b left l e s = record {
+  bytes = [];
+  takes = Consumes-nil left.left;
+  few = omega arith;
+  lines = [];
+  lines_are = inl refl;
+  serves = now;
+  end_is = inl (opening-over g.opens now.got now.out now.fits, refl);
+}
+  where
+    now : Serves g old new a b Over (Opening ∷ [])
+    now = subst (λ q. Serves g old new a b (how_of (Ok q)) (Opening ∷ [])) e s
 
 -- the phases behind whole ones kept the client, and so did all
-kept-behind : (first more : List Phase) (a b : List (Answer Event)) (x : List ℕ) → IsWhole protocol first a x → is_leaving (answers_to protocol more b) ≡ false → is_leaving (answers_to protocol (first ++ more) (a ++ b)) ≡ false
-kept-behind first more a b x w k =
-    let m : ℕ = length (flat_map (plays protocol) more) in
-    let e : length (flat_map (plays protocol) (first ++ more)) ≡ length a + m =
-    ap length (flat_map-append protocol first more) ∙ length-append (flat_map (plays protocol) first) (flat_map (plays protocol) more) ∙ ap (λ n. n + m) (sym (ap length w.events) ∙ length-events_of a) in
+kept-behind : (opens : List Key) (first more : List Phase) (a b : List (Answer Event)) (x : List ℕ) → IsWhole (protocol opens) first a x → is_leaving (answers_to (protocol opens) more b) ≡ false → is_leaving (answers_to (protocol opens) (first ++ more) (a ++ b)) ≡ false
+kept-behind opens first more a b x w k =
+    let m : ℕ = length (flat_map (plays (protocol opens)) more) in
+    let e : length (flat_map (plays (protocol opens)) (first ++ more)) ≡ length a + m =
+    ap length (flat_map-append (protocol opens) first more) ∙ length-append (flat_map (plays (protocol opens)) first) (flat_map (plays (protocol opens)) more) ∙ ap (λ n. n + m) (sym (ap length w.events) ∙ length-events_of a) in
     ap (λ n. is_leaving (take n (a ++ b))) e
     ∙ ap is_leaving (take-append-add a b m)
     ∙ is_leaving-append a (take m b)
@@ -136,9 +167,9 @@ kept-behind first more a b x w k =
     both x y d e = rw (d, e) refl
 
 -- an input behind the opening
-pub opened-played : {A : Type 0} (done : A) (r : Result InputEnd Stop) (g : Gives) (old mid new : Seated) (a b c : Outlet) (left rest : Inlet) → IsSameSeat old mid
-    → Serves g old mid a b (how_opened (Ok done)) (Opening ∷ []) → Plays [] g mid new b c left rest r → Plays (Opening ∷ []) g old new a c left rest r
-opened-played done r g old mid new a b c left rest same s p = record {
+pub opened-played : (r : Result InputEnd Stop) (g : Service) (old mid new : Seated) (a b c : Outlet) (left rest : Inlet) (l : Bool) → l ≡ false → IsSameSeat old mid
+    → Serves g old mid a b (how_of (Ok l)) (Opening ∷ []) → Plays [] g mid new b c left rest r → Plays (Opening ∷ []) g old new a c left rest r
+opened-played r g old mid new a b c left rest l f same opened p = record {
   bytes = p.bytes;
   takes = p.takes;
   few = p.few;
@@ -148,52 +179,56 @@ opened-played done r g old mid new a b c left rest same s p = record {
   end_is = ends r p.bytes p.serves.got p.end_is;
 }
   where
-    ends : (r : Result InputEnd Stop) (bytes : List ℕ) (got : List (Answer Event)) → EndIs [] got r left bytes → EndIs (Opening ∷ []) (s.got ++ got) r left bytes
-    ends (Ok Left) bytes got (inl e) = inl (record { before = e.before; piece = e.piece; cut = e.cut; one = e.one; most = e.most; kept = kept-behind (Opening ∷ []) (line_phases (whole_lines [] e.before)) s.got got s.out s.fits e.kept })
-    ends (Ok Left) bytes got (inr e) = inr (e.0, kept-behind (Opening ∷ []) (line_phases (whole_lines [] bytes)) s.got got s.out s.fits e.1)
+    s : Serves g old mid a b Whole (Opening ∷ [])
+    s = subst (λ q. Serves g old mid a b (how_of (Ok q)) (Opening ∷ [])) f opened
+
+    ends : (r : Result InputEnd Stop) (bytes : List ℕ) (got : List (Answer Event)) → EndIs g.opens [] got r left bytes → EndIs g.opens (Opening ∷ []) (s.got ++ got) r left bytes
+    ends (Ok Left) bytes got (inl e) = cc
+    ends (Ok Left) bytes got (inr (inl e)) = inr (inl (record { before = e.before; piece = e.piece; cut = e.cut; one = e.one; most = e.most; kept = kept-behind g.opens (Opening ∷ []) (line_phases (whole_lines [] e.before)) s.got got s.out s.fits e.kept }))
+    ends (Ok Left) bytes got (inr (inr e)) = inr (inr (e.0, kept-behind g.opens (Opening ∷ []) (line_phases (whole_lines [] bytes)) s.got got s.out s.fits e.1))
     ends (Ok Ended) bytes got e = e
     ends (Ok ReadFault) bytes got e = tt
     ends (Ok Full) bytes got e = e
     ends (Err why) bytes got e = tt
 
 -- the client has left behind what was added
-gone : (g : Gives) (x y z : Seated) (got : List (Answer Event)) → x.seen ≡ [] → IsSameSeat x y → Adds (rules g) x.number x.seen y.seen got → HasGone g y z → HasLeft protocol (rules g) x.number z.seen got
+gone : (g : Service) (x y z : Seated) (got : List (Answer Event)) → x.seen ≡ [] → IsSameSeat x y → Adds (rules g.gives) x.number x.seen y.seen got → HasGone g.gives y z → HasLeft (protocol g.opens) (rules g.gives) x.number z.seen got
 gone g x y z got none same adds e =
     let here : List Entry = y.seen ++ e.between in
-    let foreign : own (rules g) x.number e.between ≡ [] = subst (λ n. own (rules g) n e.between ≡ []) same.number e.foreign in
-    let start : Adds (rules g) x.number [] y.seen got = subst (λ h. Adds (rules g) x.number h y.seen got) none adds in
-    let more : Adds (rules g) x.number [] here got = subst (λ q. Adds (rules g) x.number [] here q) (append-nil got) (adds-append (rules g) x.number [] y.seen here got [] start (adds-others (rules g) x.number y.seen e.between foreign)) in
+    let foreign : own (rules g.gives) x.number e.between ≡ [] = subst (λ n. own (rules g.gives) n e.between ≡ []) same.number e.foreign in
+    let start : Adds (rules g.gives) x.number [] y.seen got = subst (λ h. Adds (rules g.gives) x.number h y.seen got) none adds in
+    let more : Adds (rules g.gives) x.number [] here got = subst (λ q. Adds (rules g.gives) x.number [] here q) (append-nil got) (adds-append (rules g.gives) x.number [] y.seen here got [] start (adds-others (rules g.gives) x.number y.seen e.between foreign)) in
     let entry : Entry = entry_with y.number Leave e.answers in
     let mine : (entry.who == x.number) ≡ true = eq-eqb y.number x.number same.number in
     record {
-      answered = ap (answers (rules g) x.number) e.stands ∙ leave-answers (rules g) x.number here entry mine refl ∙ adds-answers (rules g) x.number here got more;
-      stood = ap (own (rules g) x.number) e.stands ∙ leave-own (rules g) x.number here entry mine ∙ ap (λ es. es ++ Leave ∷ []) (adds-own_events (rules g) x.number here got more);
+      answered = ap (answers (rules g.gives) x.number) e.stands ∙ leave-answers (rules g.gives) x.number here entry mine refl ∙ adds-answers (rules g.gives) x.number here got more;
+      stood = ap (own (rules g.gives) x.number) e.stands ∙ leave-own (rules g.gives) x.number here entry mine ∙ ap (λ es. es ++ Leave ∷ []) (adds-own_events (rules g.gives) x.number here got more);
     }
 
 -- the client may not have left
-stayed : (g : Gives) (x y z : Seated) (got : List (Answer Event)) → x.seen ≡ [] → IsSameSeat x y → Adds (rules g) x.number x.seen y.seen got → Sees g y z → HasStayed (rules g) x.number z.seen got
+stayed : (g : Service) (x y z : Seated) (got : List (Answer Event)) → x.seen ≡ [] → IsSameSeat x y → Adds (rules g.gives) x.number x.seen y.seen got → Sees g.gives y z → HasStayed (rules g.gives) x.number z.seen got
 stayed g x y z got none same adds s =
     let here : List Entry = y.seen ++ s.between in
-    let foreign : own (rules g) x.number s.between ≡ [] = subst (λ n. own (rules g) n s.between ≡ []) same.number s.foreign in
-    let start : Adds (rules g) x.number [] y.seen got = subst (λ h. Adds (rules g) x.number h y.seen got) none adds in
-    let more : Adds (rules g) x.number [] here got = subst (λ q. Adds (rules g) x.number [] here q) (append-nil got) (adds-append (rules g) x.number [] y.seen here got [] start (adds-others (rules g) x.number y.seen s.between foreign)) in
-    record { answered = ap (answers (rules g) x.number) s.stands ∙ adds-answers (rules g) x.number here got more; stood = ap (own (rules g) x.number) s.stands ∙ adds-own_events (rules g) x.number here got more }
+    let foreign : own (rules g.gives) x.number s.between ≡ [] = subst (λ n. own (rules g.gives) n s.between ≡ []) same.number s.foreign in
+    let start : Adds (rules g.gives) x.number [] y.seen got = subst (λ h. Adds (rules g.gives) x.number h y.seen got) none adds in
+    let more : Adds (rules g.gives) x.number [] here got = subst (λ q. Adds (rules g.gives) x.number [] here q) (append-nil got) (adds-append (rules g.gives) x.number [] y.seen here got [] start (adds-others (rules g.gives) x.number y.seen s.between foreign)) in
+    record { answered = ap (answers (rules g.gives) x.number) s.stands ∙ adds-answers (rules g.gives) x.number here got more; stood = ap (own (rules g.gives) x.number) s.stands ∙ adds-own_events (rules g.gives) x.number here got more }
 
 -- nothing came behind
-still : (g : Gives) (x y : Seated) (got : List (Answer Event)) → x.seen ≡ [] → Adds (rules g) x.number x.seen y.seen got → HasStayed (rules g) x.number y.seen got
+still : (g : Service) (x y : Seated) (got : List (Answer Event)) → x.seen ≡ [] → Adds (rules g.gives) x.number x.seen y.seen got → HasStayed (rules g.gives) x.number y.seen got
 still g x y got none adds =
-    let start : Adds (rules g) x.number [] y.seen got = subst (λ h. Adds (rules g) x.number h y.seen got) none adds in
-    record { answered = adds-answers (rules g) x.number y.seen got start; stood = adds-own_events (rules g) x.number y.seen got start }
+    let start : Adds (rules g.gives) x.number [] y.seen got = subst (λ h. Adds (rules g.gives) x.number h y.seen got) none adds in
+    record { answered = adds-answers (rules g.gives) x.number y.seen got start; stood = adds-own_events (rules g.gives) x.number y.seen got start }
 
-lost-left : (g : Gives) (k : ℕ) (h : List Entry) (got : List (Answer Event)) → HasLeft protocol (rules g) k h got → HasLost protocol (rules g) k h got
+lost-left : (g : Service) (k : ℕ) (h : List Entry) (got : List (Answer Event)) → HasLeft (protocol g.opens) (rules g.gives) k h got → HasLost (protocol g.opens) (rules g.gives) k h got
 lost-left g k h got f = record { answered = f.answered; stood = inr f.stood }
 
-lost-stayed : (g : Gives) (k : ℕ) (h : List Entry) (got : List (Answer Event)) → HasStayed (rules g) k h got → HasLost protocol (rules g) k h got
+lost-stayed : (g : Service) (k : ℕ) (h : List Entry) (got : List (Answer Event)) → HasStayed (rules g.gives) k h got → HasLost (protocol g.opens) (rules g.gives) k h got
 lost-stayed g k h got f = record { answered = f.answered; stood = inl f.stood }
 
 -- the headline, from what stands
-served : (g : Gives) (x y : Seated) (a b : Outlet) (left rest : Inlet) (r q : Result InputEnd Stop) (z : Seated) → (p : Plays (Opening ∷ []) g x y a b left rest r) → LinesRead (end_of q) (IsAll left p.bytes) p.bytes p.lines
-    → Stands protocol (rules g) (end_of q) x.number z.seen (turns_of p.lines) p.serves.out → EndIs (Opening ∷ []) (answers (rules g) x.number z.seen) q left p.bytes → WasServed g x.number z.seen a b left rest q
+served : (g : Service) (x y : Seated) (a b : Outlet) (left rest : Inlet) (r q : Result InputEnd Stop) (z : Seated) → (p : Plays (Opening ∷ []) g x y a b left rest r) → LinesRead (end_of q) (IsAll left p.bytes) p.bytes p.lines
+    → Stands (protocol g.opens) (rules g.gives) (end_of q) x.number z.seen (turns_of p.lines) p.serves.out → EndIs g.opens (Opening ∷ []) (answers (rules g.gives) x.number z.seen) q left p.bytes → WasServed g x.number z.seen a b left rest q
 served g x y a b left rest r q z p l s e = record {
   bytes = p.bytes;
   takes = p.takes;
@@ -209,21 +244,21 @@ served g x y a b left rest r q z p l s e = record {
 }
 
 -- the connection ended, and the client left
-ended-left : (g : Gives) (x y z : Seated) (a b : Outlet) (left rest : Inlet) (ending : InputEnd) → (p : Plays (Opening ∷ []) g x y a b left rest (Ok ending)) → HasLeft protocol (rules g) x.number z.seen p.serves.got → WasServed g x.number z.seen a b left rest (Ok ending)
+ended-left : (g : Service) (x y z : Seated) (a b : Outlet) (left rest : Inlet) (ending : InputEnd) → (p : Plays (Opening ∷ []) g x y a b left rest (Ok ending)) → HasLeft (protocol g.opens) (rules g.gives) x.number z.seen p.serves.got → WasServed g x.number z.seen a b left rest (Ok ending)
 ended-left g x y z a b left rest ending p f =
-    served g x y a b left rest (Ok ending) (Ok ending) z p p.lines_are (stands ending p f) (subst (λ got. EndIs (Opening ∷ []) got (Ok ending) left p.bytes) (sym f.answered) p.end_is)
+    served g x y a b left rest (Ok ending) (Ok ending) z p p.lines_are (stands ending p f) (subst (λ got. EndIs g.opens (Opening ∷ []) got (Ok ending) left p.bytes) (sym f.answered) p.end_is)
   where
-    stands : (ending : InputEnd) (p : Plays (Opening ∷ []) g x y a b left rest (Ok ending)) → HasLeft protocol (rules g) x.number z.seen p.serves.got → Stands protocol (rules g) (end_of (Ok ending)) x.number z.seen (turns_of p.lines) p.serves.out
-    stands Left p f = left-stands protocol (rules g) x.number z.seen (turns_of p.lines) p.serves.got p.serves.out p.serves.fits f
-    stands Ended p f = closed-stands protocol (rules g) x.number z.seen (turns_of p.lines) p.serves.got p.serves.out p.serves.fits f
-    stands ReadFault p f = closed-stands protocol (rules g) x.number z.seen (turns_of p.lines) p.serves.got p.serves.out p.serves.fits f
-    stands Full p f = closed-stands protocol (rules g) x.number z.seen (turns_of p.lines) p.serves.got p.serves.out p.serves.fits f
+    stands : (ending : InputEnd) (p : Plays (Opening ∷ []) g x y a b left rest (Ok ending)) → HasLeft (protocol g.opens) (rules g.gives) x.number z.seen p.serves.got → Stands (protocol g.opens) (rules g.gives) (end_of (Ok ending)) x.number z.seen (turns_of p.lines) p.serves.out
+    stands Left p f = left-stands (protocol g.opens) (rules g.gives) x.number z.seen (turns_of p.lines) p.serves.got p.serves.out p.serves.fits f
+    stands Ended p f = closed-stands (protocol g.opens) (rules g.gives) x.number z.seen (turns_of p.lines) p.serves.got p.serves.out p.serves.fits f
+    stands ReadFault p f = closed-stands (protocol g.opens) (rules g.gives) x.number z.seen (turns_of p.lines) p.serves.got p.serves.out p.serves.fits f
+    stands Full p f = closed-stands (protocol g.opens) (rules g.gives) x.number z.seen (turns_of p.lines) p.serves.got p.serves.out p.serves.fits f
 
 -- what was lost, was lost whatever had been played, unless a write failed
-lost-served : (g : Gives) (x y z : Seated) (a b : Outlet) (left rest : Inlet) (r : Result InputEnd Stop) (why : Stop) → end_of (Err why) ≡ Lost → is_unwritten r ≡ false → (p : Plays (Opening ∷ []) g x y a b left rest r) → HasLost protocol (rules g) x.number z.seen p.serves.got → WasServed g x.number z.seen a b left rest (Err why)
+lost-served : (g : Service) (x y z : Seated) (a b : Outlet) (left rest : Inlet) (r : Result InputEnd Stop) (why : Stop) → end_of (Err why) ≡ Lost → is_unwritten r ≡ false → (p : Plays (Opening ∷ []) g x y a b left rest r) → HasLost (protocol g.opens) (rules g.gives) x.number z.seen p.serves.got → WasServed g x.number z.seen a b left rest (Err why)
 lost-served g x y z a b left rest r why is_lost written p f =
     served g x y a b left rest r (Err why) z p (subst (λ e. LinesRead e (IsAll left p.bytes) p.bytes p.lines) (sym is_lost) (any-lines r p))
-    (subst (λ e. Stands protocol (rules g) e x.number z.seen (turns_of p.lines) p.serves.out) (sym is_lost) (stands r written p f)) tt
+    (subst (λ e. Stands (protocol g.opens) (rules g.gives) e x.number z.seen (turns_of p.lines) p.serves.out) (sym is_lost) (stands r written p f)) tt
   where
     any-lines : (r : Result InputEnd Stop) (p : Plays (Opening ∷ []) g x y a b left rest r) → AreLines (IsAll left p.bytes) p.bytes p.lines
     any-lines (Ok Left) p = p.lines_are
@@ -235,14 +270,14 @@ lost-served g x y z a b left rest r why is_lost written p f =
     any-lines (Err stop.NoMemory) p = p.lines_are
     any-lines (Err stop.WriteFault) p = p.lines_are
 
-    stands : (r : Result InputEnd Stop) → is_unwritten r ≡ false → (p : Plays (Opening ∷ []) g x y a b left rest r) → HasLost protocol (rules g) x.number z.seen p.serves.got → Stands protocol (rules g) Lost x.number z.seen (turns_of p.lines) p.serves.out
-    stands (Ok Left) w p f = over-lost protocol (rules g) x.number z.seen (turns_of p.lines) p.serves.got p.serves.out p.serves.fits f
-    stands (Ok Ended) w p f = whole-lost protocol (rules g) x.number z.seen (turns_of p.lines) p.serves.got p.serves.out p.serves.fits f
-    stands (Ok ReadFault) w p f = whole-lost protocol (rules g) x.number z.seen (turns_of p.lines) p.serves.got p.serves.out p.serves.fits f
-    stands (Ok Full) w p f = whole-lost protocol (rules g) x.number z.seen (turns_of p.lines) p.serves.got p.serves.out p.serves.fits f
-    stands (Err stop.HistoryFull) w p f = short-lost protocol (rules g) x.number z.seen (turns_of p.lines) p.serves.got p.serves.out p.serves.fits f
-    stands (Err (stop.Broken at)) w p f = lost-lost protocol (rules g) x.number z.seen (turns_of p.lines) p.serves.got p.serves.out p.serves.fits f
-    stands (Err stop.NoMemory) w p f = lost-lost protocol (rules g) x.number z.seen (turns_of p.lines) p.serves.got p.serves.out p.serves.fits f
+    stands : (r : Result InputEnd Stop) → is_unwritten r ≡ false → (p : Plays (Opening ∷ []) g x y a b left rest r) → HasLost (protocol g.opens) (rules g.gives) x.number z.seen p.serves.got → Stands (protocol g.opens) (rules g.gives) Lost x.number z.seen (turns_of p.lines) p.serves.out
+    stands (Ok Left) w p f = over-lost (protocol g.opens) (rules g.gives) x.number z.seen (turns_of p.lines) p.serves.got p.serves.out p.serves.fits f
+    stands (Ok Ended) w p f = whole-lost (protocol g.opens) (rules g.gives) x.number z.seen (turns_of p.lines) p.serves.got p.serves.out p.serves.fits f
+    stands (Ok ReadFault) w p f = whole-lost (protocol g.opens) (rules g.gives) x.number z.seen (turns_of p.lines) p.serves.got p.serves.out p.serves.fits f
+    stands (Ok Full) w p f = whole-lost (protocol g.opens) (rules g.gives) x.number z.seen (turns_of p.lines) p.serves.got p.serves.out p.serves.fits f
+    stands (Err stop.HistoryFull) w p f = short-lost (protocol g.opens) (rules g.gives) x.number z.seen (turns_of p.lines) p.serves.got p.serves.out p.serves.fits f
+    stands (Err (stop.Broken at)) w p f = lost-lost (protocol g.opens) (rules g.gives) x.number z.seen (turns_of p.lines) p.serves.got p.serves.out p.serves.fits f
+    stands (Err stop.NoMemory) w p f = lost-lost (protocol g.opens) (rules g.gives) x.number z.seen (turns_of p.lines) p.serves.got p.serves.out p.serves.fits f
     stands (Err stop.WriteFault) w p f = cc
 
 -- a leaving that failed is a loss
@@ -253,29 +288,29 @@ loss-is stop.NoMemory seat l = absurd l
 loss-is stop.WriteFault seat l = absurd l
 
 -- leaving failed behind whatever was played
-pub leaving-lost : (g : Gives) (x y z : Seated) (a b : Outlet) (left rest : Inlet) (r : Result InputEnd Stop) (why : Stop) → x.seen ≡ [] → IsSameSeat x y → is_unwritten r ≡ false → Plays (Opening ∷ []) g x y a b left rest r → Sees g y z × IsLoss why z → WasServed g x.number z.seen a b left rest (Err why)
+pub leaving-lost : (g : Service) (x y z : Seated) (a b : Outlet) (left rest : Inlet) (r : Result InputEnd Stop) (why : Stop) → x.seen ≡ [] → IsSameSeat x y → is_unwritten r ≡ false → Plays (Opening ∷ []) g x y a b left rest r → Sees g.gives y z × IsLoss why z → WasServed g x.number z.seen a b left rest (Err why)
 leaving-lost g x y z a b left rest r why none same written p s =
     lost-served g x y z a b left rest r why (loss-is why z s.1) written p (lost-stayed g x.number z.seen p.serves.got (stayed g x y z p.serves.got none same p.serves.adds s.0))
 
 -- the client left behind whatever was played
-pub all-left : (r : Result InputEnd Stop) (g : Gives) (x y z : Seated) (a b : Outlet) (left rest : Inlet) → x.seen ≡ [] → IsSameSeat x y → is_unwritten r ≡ false → Plays (Opening ∷ []) g x y a b left rest r → HasGone g y z → WasServed g x.number z.seen a b left rest r
+pub all-left : (r : Result InputEnd Stop) (g : Service) (x y z : Seated) (a b : Outlet) (left rest : Inlet) → x.seen ≡ [] → IsSameSeat x y → is_unwritten r ≡ false → Plays (Opening ∷ []) g x y a b left rest r → HasGone g.gives y z → WasServed g x.number z.seen a b left rest r
 all-left r g x y z a b left rest none same written p e = by r written p (gone g x y z p.serves.got none same p.serves.adds e)
   where
-    by : (r : Result InputEnd Stop) → is_unwritten r ≡ false → (p : Plays (Opening ∷ []) g x y a b left rest r) → HasLeft protocol (rules g) x.number z.seen p.serves.got → WasServed g x.number z.seen a b left rest r
+    by : (r : Result InputEnd Stop) → is_unwritten r ≡ false → (p : Plays (Opening ∷ []) g x y a b left rest r) → HasLeft (protocol g.opens) (rules g.gives) x.number z.seen p.serves.got → WasServed g x.number z.seen a b left rest r
     by (Ok ending) w p f = ended-left g x y z a b left rest ending p f
     by (Err stop.HistoryFull) w p f =
         served g x y a b left rest (Err stop.HistoryFull) (Err stop.HistoryFull) z p p.lines_are
-        (refused-stands protocol (rules g) x.number z.seen (turns_of p.lines) p.serves.got p.serves.out p.serves.fits f) tt
+        (refused-stands (protocol g.opens) (rules g.gives) x.number z.seen (turns_of p.lines) p.serves.got p.serves.out p.serves.fits f) tt
     by (Err (stop.Broken at)) w p f = lost-served g x y z a b left rest (Err (stop.Broken at)) (stop.Broken at) refl w p (lost-left g x.number z.seen p.serves.got f)
     by (Err stop.NoMemory) w p f = lost-served g x y z a b left rest (Err stop.NoMemory) stop.NoMemory refl w p (lost-left g x.number z.seen p.serves.got f)
     by (Err stop.WriteFault) w p f = cc
 
 -- a write failed, and nothing more was played
-pub unwritten-served : (r : Result InputEnd Stop) (g : Gives) (x y : Seated) (a b : Outlet) (left rest : Inlet) → is_unwritten r ≡ true → x.seen ≡ [] → IsSameSeat x y → Plays (Opening ∷ []) g x y a b left rest r → WasServed g x.number y.seen a b left rest r
+pub unwritten-served : (r : Result InputEnd Stop) (g : Service) (x y : Seated) (a b : Outlet) (left rest : Inlet) → is_unwritten r ≡ true → x.seen ≡ [] → IsSameSeat x y → Plays (Opening ∷ []) g x y a b left rest r → WasServed g x.number y.seen a b left rest r
 unwritten-served (Ok ending) g x y a b left rest e none same p = cc
 unwritten-served (Err stop.HistoryFull) g x y a b left rest e none same p = cc
 unwritten-served (Err (stop.Broken at)) g x y a b left rest e none same p = cc
 unwritten-served (Err stop.NoMemory) g x y a b left rest e none same p = cc
 unwritten-served (Err stop.WriteFault) g x y a b left rest e none same p =
     served g x y a b left rest (Err stop.WriteFault) (Err stop.WriteFault) y p p.lines_are
-    (unsent-stands protocol (rules g) x.number y.seen (turns_of p.lines) p.serves.got p.serves.out p.serves.fits (still g x y p.serves.got none p.serves.adds)) tt
+    (unsent-stands (protocol g.opens) (rules g.gives) x.number y.seen (turns_of p.lines) p.serves.got p.serves.out p.serves.fits (still g x y p.serves.got none p.serves.adds)) tt

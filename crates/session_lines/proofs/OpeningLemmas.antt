@@ -1,21 +1,23 @@
 -- The opening of a connection, whose client has joined and done nothing else.
 use Rattle.std.proofs.Common.{◌≡◌, ℕ, Bool, true, false, List, [], ◌∷◌, ◌++◌, drop, get_or, Ok, Err, refl, sym, ap, ◌∙◌, append-nil}
 use Rattle.std.specs.Prelude.{if◌then◌else◌, ◌==◌, None}
-use Rattle.std.specs.declared.result.Result.{Result}
-use Rattle.kak_ports.specs.Ports.{Outlet}
+use Rattle.std.specs.Io.KnownBytes.{Appends}
+use Rattle.kak_ports.specs.Ports.{Outlet, AppendsFront}
+use Rattle.key_names.specs.declared.key.Key.{Key}
 use Rattle.session_turns.specs.Histories.{Answer, own, answers_behind}
 use Rattle.session_turns.specs.Turns.{Opening}
 use Rattle.session_turns.proofs.HistoryLemmas.{answers_behind-others}
 use Rattle.session_events.specs.declared.event.Event.{Event}
-use Rattle.session_events.specs.declared.event.Event.TheVariants.{Join, Refresh}
+use Rattle.session_events.specs.declared.event.Event.TheVariants.{Join}
 use Rattle.session_events.specs.declared.event.Answered.{Answered}
 use Rattle.session_events.specs.declared.event.Entry.{Entry}
-use Rattle.session_events.specs.Entries.{entry_with, is_leave}
+use Rattle.session_events.specs.Entries.{entry_with}
 use Rattle.session_events.specs.Meaning.{Gives, IsMeaning, rules, answer_of, answers_to}
 use Rattle.session_events.specs.Seats.{Seated}
 use Rattle.session_lines.specs.declared.playing.Stop.{Stop}
-use Rattle.session_lines.specs.Sending.{Sends}
-use Rattle.session_lines.specs.Serving.{AreTaken, AreCut, Serves, how_opened, unseen}
+use Rattle.session_lines.specs.declared.playing.Stop.TheVariants.{WriteFault}
+use Rattle.session_lines.specs.Session.{keys_played}
+use Rattle.session_lines.specs.Serving.{AreTaken, AreCut, Service, Serves, how_of, unseen}
 use Rattle.session_lines.proofs.TakingLemmas.{taken-more, cut-after}
 use Rattle.session_lines.proofs.ServingLemmas.{serves-sent-as, serves-failed}
 
@@ -51,15 +53,19 @@ joined-taken g x out m e = record {
   leaving_is = refl;
 }
 
-opening-taken : (g : Gives) (x y : Seated) (before out : List ℕ) → IsMeaning g → own (rules g) x.number x.seen ≡ Join ∷ [] → AreTaken g x y (Refresh true ∷ []) before out false → AreTaken g (unseen x) y (Join ∷ Refresh true ∷ []) before out false
-opening-taken g x y before out m new t = taken-more g (unseen x) x y (Join ∷ []) (Refresh true ∷ []) before before out false false (record { number = refl; limit = refl }) (joined-taken g x before m new) t
+opening-taken : (g : Gives) (x y : Seated) (keys : List Key) (before out : List ℕ) (l : Bool) → IsMeaning g → own (rules g) x.number x.seen ≡ Join ∷ [] → AreTaken g x y (keys_played keys) before out l → AreTaken g (unseen x) y (Join ∷ keys_played keys) before out l
+opening-taken g x y keys before out l m new t = taken-more g (unseen x) x y (Join ∷ []) (keys_played keys) before before out false l (record { number = refl; limit = refl }) (joined-taken g x before m new) t
 
--- the drawing was refused or lost
-pub opening-cut : (g : Gives) (x y : Seated) (why : Stop) → IsMeaning g → own (rules g) x.number x.seen ≡ Join ∷ [] → AreCut g x y (Refresh true ∷ []) why → AreCut g (unseen x) y (Join ∷ Refresh true ∷ []) why
-opening-cut g x y why m new t = cut-after g (unseen x) x y (Join ∷ []) (Refresh true ∷ []) [] [] false why (record { number = refl; limit = refl }) (joined-taken g x [] m new) t
+-- one of the keys, or the drawing, was refused or lost
+pub opening-cut : (g : Gives) (x y : Seated) (keys : List Key) (why : Stop) → IsMeaning g → own (rules g) x.number x.seen ≡ Join ∷ [] → AreCut g x y (keys_played keys) why → AreCut g (unseen x) y (Join ∷ keys_played keys) why
+opening-cut g x y keys why m new t = cut-after g (unseen x) x y (Join ∷ []) (keys_played keys) [] [] false why (record { number = refl; limit = refl }) (joined-taken g x [] m new) t
 
--- the drawing was sent, or a front of it
-pub opening-sent : {A : Type 0} (r : Result A Stop) (g : Gives) (x y : Seated) (before out put : List ℕ) (a b : Outlet) → IsMeaning g → own (rules g) x.number x.seen ≡ Join ∷ [] → AreTaken g x y (Refresh true ∷ []) before out false → before ≡ [] → put ≡ out
-    → Sends r a b put → Serves g (unseen x) y a b (how_opened r) (Opening ∷ [])
-opening-sent (Ok done) g x y before out put a b m new t e same s = serves-sent-as g (unseen x) y a b Opening (Join ∷ Refresh true ∷ []) before out put false (opening-taken g x y before out m new t) refl e refl same s
-opening-sent (Err why) g x y before out put a b m new t e same s = serves-failed g (unseen x) y a b Opening (Join ∷ Refresh true ∷ []) before out put false why (opening-taken g x y before out m new t) refl e refl same s
+-- the drawing was sent
+pub opening-sent : (g : Service) (x y : Seated) (before out put : List ℕ) (l : Bool) (a b : Outlet) → IsMeaning g.gives → own (rules g.gives) x.number x.seen ≡ Join ∷ [] → AreTaken g.gives x y (keys_played g.opens) before out l → before ≡ [] → put ≡ out
+    → Appends a.told b.told put → Serves g (unseen x) y a b (how_of (Ok l)) (Opening ∷ [])
+opening-sent g x y before out put l a b m new t e same s = serves-sent-as g (unseen x) y a b Opening (Join ∷ keys_played g.opens) before out put l (opening-taken g.gives x y g.opens before out l m new t) refl e refl same s
+
+-- or a front of it
+pub opening-failed : (g : Service) (x y : Seated) (before out put : List ℕ) (l : Bool) (why : Stop) (a b : Outlet) → IsMeaning g.gives → own (rules g.gives) x.number x.seen ≡ Join ∷ [] → AreTaken g.gives x y (keys_played g.opens) before out l → before ≡ [] → put ≡ out
+    → (why ≡ WriteFault) × AppendsFront a.told b.told put → Serves g (unseen x) y a b (how_of (Err why)) (Opening ∷ [])
+opening-failed g x y before out put l why a b m new t e same s = serves-failed g (unseen x) y a b Opening (Join ∷ keys_played g.opens) before out put l why (opening-taken g.gives x y g.opens before out l m new t) refl e refl same s

@@ -1,5 +1,5 @@
 -- How the reading of an input goes on, piece by piece.
-use Rattle.std.proofs.Common.{◌≡◌, ℕ, zero, suc, take, ◌+◌, ◌-◌, ◌≤◌, ◌⊎◌, inl, inr, Bool, true, false, ◌==◌, List, [], ◌∷◌, ◌++◌, length, map, Ok, Err, refl, sym, ap, ◌∙◌, subst, arith, length-append}
+use Rattle.std.proofs.Common.{◌≡◌, ℕ, zero, suc, take, ◌+◌, ◌-◌, ◌≤◌, ◌⊎◌, inl, inr, Bool, true, false, ◌==◌, List, [], ◌∷◌, ◌++◌, length, Ok, Err, refl, sym, ap, ◌∙◌, subst, arith, length-append}
 use Rattle.std.specs.Prelude.{if◌then◌else◌}
 use Rattle.std.specs.declared.result.Result.{Result}
 use Rattle.std.specs.Io.KnownBytes.{Consumes, Keeps, IsAtEnd}
@@ -11,7 +11,6 @@ use Rattle.std.specs.List.{flat_map}
 use Rattle.session_turns.specs.Turns.{Phase, plays}
 use Rattle.session_turns.specs.Growth.{How, Whole, Over}
 use Rattle.session_turns.proofs.Ends.{whole-answers}
-use Rattle.session_events.specs.Meaning.{Gives}
 use Rattle.session_events.specs.Seats.{Seated, IsSameSeat}
 use Rattle.session_lines.specs.declared.reading.TheConstants.{MAX_INPUT, MAX_PIECE}
 use Rattle.session_lines.specs.declared.playing.Stop.{Stop}
@@ -20,14 +19,14 @@ use Rattle.session_lines.specs.declared.reading.InputEnd.{InputEnd}
 use Rattle.session_lines.specs.Stops.{IsLoss}
 use Rattle.session_lines.specs.declared.reading.InputEnd.TheVariants.{Left, Ended, ReadFault, Full}
 use Rattle.session_lines.specs.Session.{protocol}
-use Rattle.session_lines.specs.Serving.{Serves, how_of, line_phases, KeepsPart}
-use Rattle.session_lines.specs.Reading.{Reads, WasKept, FaultIs}
+use Rattle.session_lines.specs.Serving.{Service, Serves, how_of, line_phases, KeepsPart}
+use Rattle.session_lines.specs.Reading.{Reads, FaultIs}
 use Rattle.session_lines.proofs.ServingLemmas.{serves-append, serves-nothing}
 use Rattle.session_lines.proofs.Indices.{none-below}
 use Rattle.session_lines.proofs.LineLemmas.{turns-append}
 
 -- what was read so far, where the client stays
-pub record HasRead (g : Gives) (old new : Seated) (before now : Outlet) (left rest : Inlet) (part : List ℕ) (taken : ℕ) : Type 0 where
+pub record HasRead (g : Service) (old new : Seated) (before now : Outlet) (left rest : Inlet) (part : List ℕ) (taken : ℕ) : Type 0 where
   pub bytes : List ℕ
   pub takes : Consumes left.left rest.left bytes
   pub serves : Serves g old new before now Whole (line_phases (whole_lines [] bytes))
@@ -68,17 +67,17 @@ pub few-more : (taken n room : ℕ) (p : List ℕ) → n ≤ length (take room p
 few-more taken n room p le few before = omega (arith, length-front room p, le, few, before)
 
 -- nothing was read yet
-pub begin-reading : (g : Gives) (h : Seated) (a : Outlet) (left : Inlet) (part : List ℕ) → part ≡ [] → HasRead g h h a a left left part 0
+pub begin-reading : (g : Service) (h : Seated) (a : Outlet) (left : Inlet) (part : List ℕ) → part ≡ [] → HasRead g h h a a left left part 0
 begin-reading g h a left part e = record { bytes = []; takes = Consumes-nil left.left; serves = serves-nothing g h a; part_is = e; count = refl; most = refl }
 
 -- the phases of a piece behind those before
-abbrev serves-more : (g : Gives) (taken : ℕ) (old mid new : Seated) (a b c : Outlet) (left rest : Inlet) (how : How) (part bs piece : List ℕ) → IsSameSeat old mid → bs ≡ piece → (s : HasRead g old mid a b left rest part taken)
+abbrev serves-more : (g : Service) (taken : ℕ) (old mid new : Seated) (a b c : Outlet) (left rest : Inlet) (how : How) (part bs piece : List ℕ) → IsSameSeat old mid → bs ≡ piece → (s : HasRead g old mid a b left rest part taken)
     → Serves g mid new b c how (line_phases (whole_lines part bs)) → Serves g old new a c how (line_phases (whole_lines [] s.bytes) ++ line_phases (whole_lines part bs))
 serves-more g taken old mid new a b c left rest how part bs piece same here s t =
     serves-append g old mid new a b c how (line_phases (whole_lines [] s.bytes)) (line_phases (whole_lines part bs)) same s.serves t
 
 -- they are the phases of all the bytes so far
-phases-more : (taken : ℕ) (g : Gives) (old mid : Seated) (a b : Outlet) (left rest : Inlet) (part bs piece : List ℕ) → bs ≡ piece → (s : HasRead g old mid a b left rest part taken)
+phases-more : (taken : ℕ) (g : Service) (old mid : Seated) (a b : Outlet) (left rest : Inlet) (part bs piece : List ℕ) → bs ≡ piece → (s : HasRead g old mid a b left rest part taken)
     → line_phases (whole_lines [] s.bytes) ++ line_phases (whole_lines part bs) ≡ line_phases (whole_lines [] (s.bytes ++ piece))
 phases-more taken g old mid a b left rest part bs piece here s =
     sym (turns-append (whole_lines [] s.bytes) (whole_lines part bs))
@@ -89,11 +88,11 @@ kept-part false later part f k = k
 kept-part true later part f k = cc
 
 -- a serving with other phases that are the same, with its answers
-pub with-phases : (g : Gives) (old new : Seated) (a b : Outlet) (how : How) (ts us : List Phase) → ts ≡ us → (s : Serves g old new a b how ts) → (t : Serves g old new a b how us) × (t.got ≡ s.got)
+pub with-phases : (g : Service) (old new : Seated) (a b : Outlet) (how : How) (ts us : List Phase) → ts ≡ us → (s : Serves g old new a b how ts) → (t : Serves g old new a b how us) × (t.got ≡ s.got)
 with-phases g old new a b how ts us e s = subst (λ q. (t : Serves g old new a b how q) × (t.got ≡ s.got)) e (s, refl)
 
 -- a piece was played, and the client stays
-pub piece-played : (g : Gives) (taken all : ℕ) (old mid new : Seated) (a b c : Outlet) (left rest more : Inlet) (part later bs piece : List ℕ) (l : Bool) → l ≡ false → IsSameSeat old mid → bs ≡ piece → Consumes rest.left more.left piece → more.most ≡ rest.most → KeepsPart (Ok l) later (last_part part bs) → all ≡ taken + length piece
+pub piece-played : (g : Service) (taken all : ℕ) (old mid new : Seated) (a b c : Outlet) (left rest more : Inlet) (part later bs piece : List ℕ) (l : Bool) → l ≡ false → IsSameSeat old mid → bs ≡ piece → Consumes rest.left more.left piece → more.most ≡ rest.most → KeepsPart (Ok l) later (last_part part bs) → all ≡ taken + length piece
     → HasRead g old mid a b left rest part taken → Serves g mid new b c (how_of (Ok l)) (line_phases (whole_lines part bs)) → HasRead g old new a c left more later all
 piece-played g taken all old mid new a b c left rest more part later bs piece l f same here takes most k m s t = record {
   bytes = s.bytes ++ piece;
@@ -110,7 +109,7 @@ few-bytes : (taken n : ℕ) (bytes piece : List ℕ) → taken ≡ length bytes 
 few-bytes taken n bytes piece e f le = omega (arith, e, f, le, length-append bytes piece)
 
 -- the client may leave in a piece
-pub piece-left : (g : Gives) (taken n : ℕ) (old mid new : Seated) (a b c : Outlet) (left rest more : Inlet) (part later bs piece : List ℕ) (l : Bool) → l ≡ true → IsSameSeat old mid → bs ≡ piece → Consumes rest.left more.left piece
+pub piece-left : (g : Service) (taken n : ℕ) (old mid new : Seated) (a b c : Outlet) (left rest more : Inlet) (part later bs piece : List ℕ) (l : Bool) → l ≡ true → IsSameSeat old mid → bs ≡ piece → Consumes rest.left more.left piece
     → n ≡ length piece → taken + n ≤ MAX_INPUT → n ≤ MAX_PIECE → n ≤ rest.most
     → HasRead g old mid a b left rest part taken → Serves g mid new b c (how_of (Ok l)) (line_phases (whole_lines part bs)) → Reads g old new a c left more (Ok Left) later
 piece-left g taken n old mid new a b c left rest more part later bs piece l f same here takes e few one most s t = record {
@@ -119,16 +118,16 @@ piece-left g taken n old mid new a b c left rest more part later bs piece l f sa
   few = few-bytes taken n s.bytes piece s.count e few;
   serves = found.0;
   part_is = tt;
-  end_is = inl (record {
+  end_is = inr (inl (record {
     before = s.bytes;
     piece = piece;
     cut = refl;
     one = omega (arith, e, one);
     most = omega (arith, e, most, s.most);
-    kept = ap (λ q. is_leaving (take (length (flat_map (plays protocol) (line_phases (whole_lines [] s.bytes)))) q)) found.1
-        ∙ ap is_leaving (whole-answers protocol (line_phases (whole_lines [] s.bytes)) s.serves.got now.got s.serves.out s.serves.fits)
+    kept = ap (λ q. is_leaving (take (length (flat_map (plays (protocol g.opens)) (line_phases (whole_lines [] s.bytes)))) q)) found.1
+        ∙ ap is_leaving (whole-answers (protocol g.opens) (line_phases (whole_lines [] s.bytes)) s.serves.got now.got s.serves.out s.serves.fits)
         ∙ s.serves.fits.stays;
-  });
+  }));
 }
   where
     now : Serves g mid new b c Over (line_phases (whole_lines part bs))
@@ -138,7 +137,7 @@ piece-left g taken n old mid new a b c left rest more part later bs piece l f sa
     found = with-phases g old new a c Over _ _ (phases-more taken g old mid a b left rest part bs piece here s) (serves-more g taken old mid new a b c left rest Over part bs piece same here s now)
 
 -- playing stopped in a piece
-pub piece-stopped : (g : Gives) (taken n : ℕ) (old mid new : Seated) (a b c : Outlet) (left rest more : Inlet) (why : Stop) (part later bs piece : List ℕ) → IsSameSeat old mid → bs ≡ piece → Consumes rest.left more.left piece
+pub piece-stopped : (g : Service) (taken n : ℕ) (old mid new : Seated) (a b c : Outlet) (left rest more : Inlet) (why : Stop) (part later bs piece : List ℕ) → IsSameSeat old mid → bs ≡ piece → Consumes rest.left more.left piece
     → n ≡ length piece → taken + n ≤ MAX_INPUT
     → HasRead g old mid a b left rest part taken → Serves g mid new b c (how_of (Err why)) (line_phases (whole_lines part bs)) → Reads g old new a c left more (Err why) later
 piece-stopped g taken n old mid new a b c left rest more why part later bs piece same here takes e few s t = record {
@@ -151,7 +150,7 @@ piece-stopped g taken n old mid new a b c left rest more why part later bs piece
 }
 
 -- the input ended
-pub input-ended : (g : Gives) (taken : ℕ) (old new : Seated) (a b : Outlet) (left rest more : Inlet) (part : List ℕ) → taken ≤ MAX_INPUT → IsAtEnd rest.left → Keeps rest.left more.left → HasRead g old new a b left rest part taken → Reads g old new a b left more (Ok Ended) part
+pub input-ended : (g : Service) (taken : ℕ) (old new : Seated) (a b : Outlet) (left rest more : Inlet) (part : List ℕ) → taken ≤ MAX_INPUT → IsAtEnd rest.left → Keeps rest.left more.left → HasRead g old new a b left rest part taken → Reads g old new a b left more (Ok Ended) part
 input-ended g taken old new a b left rest more part le e k s = record {
   bytes = s.bytes;
   takes = Consumes-kept left.left rest.left more.left s.bytes s.takes k;
@@ -162,7 +161,7 @@ input-ended g taken old new a b left rest more part le e k s = record {
 }
 
 -- the input failed
-pub input-failed : (g : Gives) (taken : ℕ) (old new : Seated) (a b : Outlet) (left rest more : Inlet) (part : List ℕ) → taken ≤ MAX_INPUT → Keeps rest.left more.left → HasRead g old new a b left rest part taken → Reads g old new a b left more (Ok ReadFault) part
+pub input-failed : (g : Service) (taken : ℕ) (old new : Seated) (a b : Outlet) (left rest more : Inlet) (part : List ℕ) → taken ≤ MAX_INPUT → Keeps rest.left more.left → HasRead g old new a b left rest part taken → Reads g old new a b left more (Ok ReadFault) part
 input-failed g taken old new a b left rest more part le k s = record {
   bytes = s.bytes;
   takes = Consumes-kept left.left rest.left more.left s.bytes s.takes k;
@@ -173,7 +172,7 @@ input-failed g taken old new a b left rest more part le k s = record {
 }
 
 -- all that may be taken was taken
-pub input-full : (g : Gives) (taken : ℕ) (old new : Seated) (a b : Outlet) (left rest : Inlet) (part : List ℕ) → taken ≤ MAX_INPUT → MAX_INPUT ≤ taken → HasRead g old new a b left rest part taken → Reads g old new a b left rest (Ok Full) part
+pub input-full : (g : Service) (taken : ℕ) (old new : Seated) (a b : Outlet) (left rest : Inlet) (part : List ℕ) → taken ≤ MAX_INPUT → MAX_INPUT ≤ taken → HasRead g old new a b left rest part taken → Reads g old new a b left rest (Ok Full) part
 input-full g taken old new a b left rest part le ge s = record {
   bytes = s.bytes;
   takes = s.takes;

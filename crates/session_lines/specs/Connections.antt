@@ -7,7 +7,7 @@ use Rattle.session_turns.specs.Histories.{answers}
 use Rattle.session_turns.specs.Turns.{Phase, Opening, turns_of}
 use Rattle.session_turns.specs.Headline.{End, Left as WasLeft, Closed, Cut, Refused, Unwritten, Lost, LinesRead, IsServed}
 use Rattle.session_events.specs.declared.event.Entry.{Entry}
-use Rattle.session_events.specs.Meaning.{Gives, rules}
+use Rattle.session_events.specs.Meaning.{rules}
 use Rattle.session_events.specs.Seats.{Seated}
 use Rattle.session_lines.specs.declared.playing.Stop.{Stop}
 use Rattle.session_lines.specs.declared.playing.Stop.TheVariants.{HistoryFull, WriteFault}
@@ -16,7 +16,7 @@ use Rattle.session_lines.specs.declared.reading.InputEnd.{InputEnd}
 use Rattle.session_lines.specs.declared.reading.InputEnd.TheVariants.{Left, Ended, ReadFault, Full}
 use Rattle.session_lines.specs.Session.{protocol}
 use Rattle.session_lines.specs.Stops.{NoneFailed, Causes}
-use Rattle.session_lines.specs.Serving.{Serves, line_phases}
+use Rattle.session_lines.specs.Serving.{Service, Serves, line_phases}
 use Rattle.session_lines.specs.Reading.{how_read, IsAll, EndIs}
 
 -- how a connection ended
@@ -35,26 +35,26 @@ is_unwritten (Err WriteFault) = true
 is_unwritten _ = false
 
 -- Behind some first phases the lines of an input were played.
-pub record Plays (first : List Phase) (gives : Gives) (old new : Seated) (before now : Outlet) (left rest : Inlet) (result : Result InputEnd Stop) : Type 0 where
+pub record Plays (first : List Phase) (with : Service) (old new : Seated) (before now : Outlet) (left rest : Inlet) (result : Result InputEnd Stop) : Type 0 where
   pub bytes : List ℕ
   pub takes : Consumes left.left rest.left bytes
   pub few : length bytes ≤ MAX_INPUT
   pub lines : List (List ℕ)
   pub lines_are : LinesRead (end_of result) (IsAll left bytes) bytes lines
-  pub serves : Serves gives old new before now (how_read result) (first ++ line_phases lines)
-  pub end_is : EndIs first serves.got result left bytes
+  pub serves : Serves with old new before now (how_read result) (first ++ line_phases lines)
+  pub end_is : EndIs with.opens first serves.got result left bytes
 
 -- A connection was served: these bytes were read, no more than may be, these were sent, and the history is what serving
 -- the lines that were read makes, with no drawing that nobody asked for.
-pub record WasServed (gives : Gives) (who : ℕ) (history : List Entry) (before now : Outlet) (left rest : Inlet) (result : Result InputEnd Stop) : Type 0 where
+pub record WasServed (with : Service) (who : ℕ) (history : List Entry) (before now : Outlet) (left rest : Inlet) (result : Result InputEnd Stop) : Type 0 where
   pub bytes : List ℕ
   pub takes : Consumes left.left rest.left bytes
   pub few : length bytes ≤ MAX_INPUT
   pub lines : List (List ℕ)
   pub out : List ℕ
   pub sends : Appends before.told now.told out
-  pub served : IsServed protocol (rules gives) (end_of result) who history (turns_of lines) (IsAll left bytes) bytes out
-  pub end_is : EndIs (Opening ∷ []) (answers (rules gives) who history) result left bytes
+  pub served : IsServed (protocol with.opens) (rules with.gives) (end_of result) who history (turns_of lines) (IsAll left bytes) bytes out
+  pub end_is : EndIs with.opens (Opening ∷ []) (answers (rules with.gives) who history) result left bytes
 
 -- why a connection ended, behind the client's leaving: a full history has more entries than it may have by that leaving
 abbrev pub EndCauses : Result InputEnd Stop → Seated → Outlet → Outlet → Type 0

@@ -1,14 +1,14 @@
 -- What the reading of a connection's input did.
-use Rattle.std.specs.Prelude.{◌≡◌, ℕ, ◌≤◌, ◌⊎◌, false, List, [], ◌++◌, length, ⊤, Ok, Err, IfSome}
+use Rattle.std.specs.Prelude.{◌≡◌, ℕ, ◌≤◌, ◌⊎◌, true, false, List, [], ◌++◌, length, ⊤, Ok, Err, IfSome}
 use Rattle.std.specs.declared.result.Result.{Result}
 use Rattle.std.specs.Io.KnownBytes.{Consumes}
 use Rattle.kak_ports.specs.Ports.{Inlet, Outlet, Rose}
+use Rattle.key_names.specs.declared.key.Key.{Key}
 use Rattle.session_turns.specs.Lines.{whole_lines, last_part}
 use Rattle.session_turns.specs.Histories.{Answer, is_leaving}
 use Rattle.session_turns.specs.Turns.{Phase, answers_to}
 use Rattle.session_turns.specs.Growth.{How, Whole, Over}
 use Rattle.session_events.specs.declared.event.Event.{Event}
-use Rattle.session_events.specs.Meaning.{Gives}
 use Rattle.session_events.specs.Seats.{Seated}
 use Rattle.session_lines.specs.declared.reading.TheConstants.{MAX_INPUT, MAX_PIECE}
 use Rattle.session_lines.specs.declared.playing.Stop.{Stop}
@@ -16,7 +16,7 @@ use Rattle.session_lines.specs.declared.playing.Stop.TheVariants as stop
 use Rattle.session_lines.specs.declared.reading.InputEnd.{InputEnd}
 use Rattle.session_lines.specs.declared.reading.InputEnd.TheVariants.{Left, Ended, ReadFault, Full}
 use Rattle.session_lines.specs.Session.{protocol}
-use Rattle.session_lines.specs.Serving.{Serves, how_of, line_phases}
+use Rattle.session_lines.specs.Serving.{Service, Serves, how_of, line_phases}
 
 -- how the phases of the lines got on
 abbrev pub how_read : Result InputEnd Stop → How
@@ -31,30 +31,35 @@ PartIs (Ok _) part bytes = part ≡ last_part [] bytes
 PartIs (Err stop) part bytes = ⊤
 
 -- the client wasn't let go in the phases before the lines that some bytes complete, nor in these
-abbrev pub WasKept : List Phase → List (Answer Event) → List ℕ → Type 0
-WasKept first got bytes = is_leaving (answers_to protocol (first ++ line_phases (whole_lines [] bytes)) got) ≡ false
+abbrev pub WasKept : List Key → List Phase → List (Answer Event) → List ℕ → Type 0
+WasKept opens first got bytes = is_leaving (answers_to (protocol opens) (first ++ line_phases (whole_lines [] bytes)) got) ≡ false
+
+-- the client was let go in the phases before all lines, and nothing was taken
+abbrev pub WasLetGoFirst : List Key → List Phase → List (Answer Event) → List ℕ → Type 0
+WasLetGoFirst opens first got bytes = (is_leaving (answers_to (protocol opens) first got) ≡ true) × (bytes ≡ [])
 
 -- The client was let go in the last piece of the bytes, which is no longer than what one take gives: nothing was taken
 -- behind the piece with the line that let it go.
-pub record WasLetGoLast (first : List Phase) (got : List (Answer Event)) (left : Inlet) (bytes : List ℕ) : Type 0 where
+pub record WasLetGoLast (opens : List Key) (first : List Phase) (got : List (Answer Event)) (left : Inlet) (bytes : List ℕ) : Type 0 where
   pub before : List ℕ
   pub piece : List ℕ
   pub cut : bytes ≡ before ++ piece
   pub one : length piece ≤ MAX_PIECE
   pub most : length piece ≤ left.most
-  pub kept : WasKept first got before
+  pub kept : WasKept opens first got before
 
 -- the bytes are all that the input had, where its bytes are told: it has ended
 abbrev pub IsAll : Inlet → List ℕ → Type 0
 IsAll left bytes = IfSome left.left (λ input. input ≡ bytes)
 
--- At each end of the reading: the client was let go in the last piece, or in a last part where the input has ended; an
--- input that ended is the bytes that were taken; one that is too long gave all that may be taken.
-abbrev pub EndIs : List Phase → List (Answer Event) → Result InputEnd Stop → Inlet → List ℕ → Type 0
-EndIs first got (Ok Left) left bytes = WasLetGoLast first got left bytes ⊎ (IsAll left bytes × WasKept first got bytes)
-EndIs first got (Ok Ended) left bytes = IsAll left bytes
-EndIs first got (Ok Full) left bytes = length bytes ≡ MAX_INPUT
-EndIs first got _ left bytes = ⊤
+-- At each end of the reading: the client was let go before all lines, in the last piece, or in a last part where the input
+-- has ended; an input that ended is the bytes that were taken; one that is too long gave all that may be taken.
+abbrev pub EndIs : List Key → List Phase → List (Answer Event) → Result InputEnd Stop → Inlet → List ℕ → Type 0
+EndIs opens first got (Ok Left) left bytes =
+    WasLetGoFirst opens first got bytes ⊎ (WasLetGoLast opens first got left bytes ⊎ (IsAll left bytes × WasKept opens first got bytes))
+EndIs opens first got (Ok Ended) left bytes = IsAll left bytes
+EndIs opens first got (Ok Full) left bytes = length bytes ≡ MAX_INPUT
+EndIs opens first got _ left bytes = ⊤
 
 -- a read fault is told only where the count of the source's faults rose, and else none was met, unless the session was
 -- broken when the client was to leave
@@ -65,10 +70,10 @@ FaultIs (Err (stop.Broken at)) left rest = (rest.faults ≡ left.faults) ⊎ Ros
 FaultIs (Err _) left rest = rest.faults ≡ left.faults
 
 -- Bytes were taken from the input, no more than may be, and the lines that they complete were played.
-pub record Reads (gives : Gives) (old new : Seated) (before now : Outlet) (left rest : Inlet) (result : Result InputEnd Stop) (part : List ℕ) : Type 0 where
+pub record Reads (with : Service) (old new : Seated) (before now : Outlet) (left rest : Inlet) (result : Result InputEnd Stop) (part : List ℕ) : Type 0 where
   pub bytes : List ℕ
   pub takes : Consumes left.left rest.left bytes
   pub few : length bytes ≤ MAX_INPUT
-  pub serves : Serves gives old new before now (how_read result) (line_phases (whole_lines [] bytes))
+  pub serves : Serves with old new before now (how_read result) (line_phases (whole_lines [] bytes))
   pub part_is : PartIs result part bytes
-  pub end_is : EndIs [] serves.got result left bytes
+  pub end_is : EndIs with.opens [] serves.got result left bytes

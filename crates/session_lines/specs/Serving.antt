@@ -1,8 +1,9 @@
 -- What the playing of phases did to the history and to the bytes that were sent.
-use Rattle.std.specs.Prelude.{◌≡◌, ℕ, ◌<◌, Bool, true, false, List, [], ◌∷◌, ◌++◌, length, ⊤, None, Some, Ok, Err}
+use Rattle.std.specs.Prelude.{◌≡◌, ℕ, ◌<◌, Bool, true, false, List, [], ◌∷◌, ◌++◌, length, ⊤, Ok, Err}
 use Rattle.std.specs.declared.result.Result.{Result}
 use Rattle.std.specs.Io.KnownBytes.{Appends}
 use Rattle.kak_ports.specs.Ports.{Outlet}
+use Rattle.key_names.specs.declared.key.Key.{Key}
 use Rattle.session_turns.specs.Histories.{Answer, own, events_of, bytes_of, is_leaving}
 use Rattle.session_turns.specs.Turns.{Phase, later, turns_of}
 use Rattle.session_turns.specs.Growth.{Begins, How, Whole, Over, Short, Unsent, Lost, Fits, Adds}
@@ -68,18 +69,21 @@ how_of (Err stop.HistoryFull) = Short
 how_of (Err stop.WriteFault) = Unsent
 how_of (Err _) = Lost
 
--- how an opening got on; no client may leave by it
-abbrev pub how_opened : {A : Type 0} → Result A Stop → How
-how_opened (Ok _) = Whole
-how_opened (Err stop) = how_of (Err stop)
+-- What a connection is served with: what entries give, and the keys that are struck before its first drawing.
+pub record Service : Type 0 where
+  pub gives : Gives
+  pub opens : List Key
+
+abbrev pub service : Gives → List Key → Service
+service gives opens = record { gives = gives; opens = opens }
 
 -- phases were played: the history grew by the client's part of them, and the bytes that were sent by what they send
-pub record Serves (gives : Gives) (old new : Seated) (before now : Outlet) (how : How) (all : List Phase) : Type 0 where
+pub record Serves (with : Service) (old new : Seated) (before now : Outlet) (how : How) (all : List Phase) : Type 0 where
   pub got : List (Answer Event)
   pub out : List ℕ
-  pub adds : Adds (rules gives) old.number old.seen new.seen got
+  pub adds : Adds (rules with.gives) old.number old.seen new.seen got
   pub sends : Appends before.told now.told out
-  pub fits : Fits protocol how all got out
+  pub fits : Fits (protocol with.opens) how all got out
 
 -- the phases that some lines are
 abbrev pub line_phases : List (List ℕ) → List Phase

@@ -26,10 +26,10 @@ abbrev pub refused_by : Result Request Refusal → List ℕ
 refused_by (Ok request) = []
 refused_by (Err refusal) = refusal_bytes refusal
 
--- the protocol of the editor's connections
-abbrev pub protocol : Protocol Event
-protocol = record {
-  opening = Join ∷ Refresh true ∷ [];
+-- the protocol of the editor's connections, where these keys are struck before the first drawing
+abbrev pub protocol : List Key → Protocol Event
+protocol opens = record {
+  opening = Join ∷ keys_played opens;
   asks = λ line. played_by (read_request line);
   refuses = λ line. refused_by (read_request line);
   idles = Refresh false;

@@ -1,6 +1,7 @@
 //! A connection, from its first drawing to its leaving.
 
-ghost use Rattle.std.specs.Prelude.{◌≡◌, ◌∷◌, []};
+ghost use Rattle.std.specs.Prelude.{◌≡◌, List, ◌∷◌, []};
+ghost use Rattle.key_names.specs.declared.key.Key.{Key};
 ghost use Rattle.session_turns.specs.Histories.{own};
 ghost use Rattle.session_turns.specs.Lines.{as_line};
 ghost use Rattle.session_turns.specs.Turns.{Opening};
@@ -9,13 +10,14 @@ ghost use Rattle.session_events.specs.Meaning.{rules};
 ghost use Rattle.session_events.specs.Seats.{IsSameSeat, IsLegalSeat};
 ghost use Rattle.session_lines.specs.Connections.{Plays, WasServed, EndCauses, is_unwritten};
 ghost use Rattle.session_lines.specs.Reading.{FaultIs};
-ghost use Rattle.session_lines.specs.Serving.{Serves, how_of, line_phases, unseen};
+ghost use Rattle.session_lines.specs.Serving.{service, Serves, how_of, line_phases, unseen};
 ghost use Rattle.session_lines.specs.Stops.{IsReady, Stays, Causes};
 
 use crate::playing::{Stop, leave};
 use crate::reading::{InputEnd, play_source};
 use crate::turns::{open, play_line};
 use kak_ports::{Sink, Source};
+use key_names::Key;
 use session_events::Seat;
 use std::alloc::Global;
 
@@ -29,7 +31,7 @@ fn play_last<S: Seat, K: Sink>(
 ) -> Result<bool, Stop>
     requires { IsReady S.is_in (S.seated seat.old) }
     ensures stays { Stays S.is_in (S.seated seat.old) (S.seated seat.new) }
-    ensures serves { Serves S.gives (S.seated seat.old) (S.seated seat.new) (K.outlet sink.old) (K.outlet sink.new) (how_of result) (line_phases (as_line part.now)) }
+    ensures serves { (opens : List Key) → Serves (service S.gives opens) (S.seated seat.old) (S.seated seat.new) (K.outlet sink.old) (K.outlet sink.new) (how_of result) (line_phases (as_line part.now)) }
     ensures cause { Causes result (S.seated seat.new) (K.outlet sink.old) (K.outlet sink.new) }
 {
     if part.is_empty() {
@@ -48,7 +50,7 @@ fn play_input<S: Seat, I: Source, K: Sink>(
 ) -> Result<InputEnd, Stop>
     requires { IsReady S.is_in (S.seated seat.old) }
     ensures stays { Stays S.is_in (S.seated seat.old) (S.seated seat.new) }
-    ensures plays { Plays [] S.gives (S.seated seat.old) (S.seated seat.new) (K.outlet sink.old) (K.outlet sink.new) (I.inlet source.old) (I.inlet source.new) result }
+    ensures plays { (opens : List Key) → Plays [] (service S.gives opens) (S.seated seat.old) (S.seated seat.new) (K.outlet sink.old) (K.outlet sink.new) (I.inlet source.old) (I.inlet source.new) result }
     ensures fault { FaultIs result (I.inlet source.old) (I.inlet source.new) }
     ensures cause { Causes result (S.seated seat.new) (K.outlet sink.old) (K.outlet sink.new) }
 {
@@ -64,23 +66,26 @@ fn play_input<S: Seat, I: Source, K: Sink>(
     }
 }
 
-/// Plays a connection whose client has joined and done nothing else: it is drawn, and its input is read and played line
-/// by line, a last part without a newline too. It doesn't leave yet.
+/// Plays a connection whose client has joined and done nothing else: keys are struck, it is drawn, and its input is read and
+/// played line by line, a last part without a newline too. Where the keys let it go, nothing is read. It doesn't leave yet.
 pub fn play_connection<S: Seat, I: Source, K: Sink>(
     alloc: Global,
     seat: &mut S,
     source: &mut I,
     sink: &mut K,
+    keys: &[Key],
 ) -> Result<InputEnd, Stop>
     requires ready { IsReady S.is_in (S.seated seat.old) }
     requires new { own (rules S.gives) (S.seated seat.old).number (S.seated seat.old).seen ≡ Join ∷ [] }
     ensures stays { Stays S.is_in (S.seated seat.old) (S.seated seat.new) }
-    ensures plays { Plays (Opening ∷ []) S.gives (unseen (S.seated seat.old)) (S.seated seat.new) (K.outlet sink.old) (K.outlet sink.new) (I.inlet source.old) (I.inlet source.new) result }
+    ensures plays { Plays (Opening ∷ []) (service S.gives keys.now) (unseen (S.seated seat.old)) (S.seated seat.new) (K.outlet sink.old) (K.outlet sink.new) (I.inlet source.old) (I.inlet source.new) result }
     ensures fault { FaultIs result (I.inlet source.old) (I.inlet source.new) }
     ensures cause { Causes result (S.seated seat.new) (K.outlet sink.old) (K.outlet sink.new) }
 {
     let mut out = Vec::new(alloc);
-    open(alloc, seat, sink, &mut out)?;
+    if open(alloc, seat, sink, &mut out, keys)? {
+        return Ok(InputEnd::Left);
+    }
     play_input(alloc, seat, source, sink, &mut out)
 }
 
@@ -91,23 +96,24 @@ fn is_unwritten(played: Result<InputEnd, Stop>) -> bool
     matches!(played, Err(Stop::WriteFault))
 }
 
-/// Serves a connection whose client has joined and done nothing else: what it plays is played, and then it leaves. Where
-/// a write failed, nothing more is played, not even its leaving; where leaving fails, that is told, whatever came before.
+/// Serves a connection whose client has joined and done nothing else: keys are struck before its first drawing, what it plays
+/// is played, and then it leaves. Where a write failed, nothing more is played, not even its leaving; where leaving fails, that is told, whatever came before.
 pub fn serve<S: Seat, I: Source, K: Sink>(
     alloc: Global,
     seat: &mut S,
     source: &mut I,
     sink: &mut K,
+    keys: &[Key],
 ) -> Result<InputEnd, Stop>
     requires ready { IsReady S.is_in (S.seated seat.old) }
     requires new { own (rules S.gives) (S.seated seat.old).number (S.seated seat.old).seen ≡ Join ∷ [] }
     ensures same { IsSameSeat (S.seated seat.old) (S.seated seat.new) }
     ensures legal { IsLegalSeat (S.seated seat.new) }
-    ensures served { WasServed S.gives (S.seated seat.old).number (S.seated seat.new).seen (K.outlet sink.old) (K.outlet sink.new) (I.inlet source.old) (I.inlet source.new) result }
+    ensures served { WasServed (service S.gives keys.now) (S.seated seat.old).number (S.seated seat.new).seen (K.outlet sink.old) (K.outlet sink.new) (I.inlet source.old) (I.inlet source.new) result }
     ensures fault { FaultIs result (I.inlet source.old) (I.inlet source.new) }
     ensures cause { EndCauses result (S.seated seat.new) (K.outlet sink.old) (K.outlet sink.new) }
 {
-    let played = play_connection(alloc, seat, source, sink);
+    let played = play_connection(alloc, seat, source, sink, keys);
     if is_unwritten(played) {
         return played;
     }

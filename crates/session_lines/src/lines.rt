@@ -1,8 +1,9 @@
 //! Lines, cut from a connection's bytes and played one after another.
 
-ghost use Rattle.std.specs.Prelude.{◌≡◌, ◌++◌, ◌∷◌, [], OnOk};
+ghost use Rattle.std.specs.Prelude.{◌≡◌, List, ◌++◌, ◌∷◌, [], OnOk};
+ghost use Rattle.key_names.specs.declared.key.Key.{Key};
 ghost use Rattle.session_turns.specs.Lines.{whole_lines, last_part};
-ghost use Rattle.session_lines.specs.Serving.{Serves, how_of, line_phases, KeepsPart};
+ghost use Rattle.session_lines.specs.Serving.{service, Serves, how_of, line_phases, KeepsPart};
 ghost use Rattle.session_lines.specs.Stops.{IsReady, Stays, Causes};
 
 use crate::playing::Stop;
@@ -31,7 +32,7 @@ pub fn play_bytes<S: Seat, K: Sink>(
 ) -> Result<bool, Stop>
     requires { IsReady S.is_in (S.seated seat.old) }
     ensures stays { Stays S.is_in (S.seated seat.old) (S.seated seat.new) }
-    ensures serves { Serves S.gives (S.seated seat.old) (S.seated seat.new) (K.outlet sink.old) (K.outlet sink.new) (how_of result) (line_phases (whole_lines part.old.items bytes.now)) }
+    ensures serves { (opens : List Key) → Serves (service S.gives opens) (S.seated seat.old) (S.seated seat.new) (K.outlet sink.old) (K.outlet sink.new) (how_of result) (line_phases (whole_lines part.old.items bytes.now)) }
     ensures part { KeepsPart result part.new.items (last_part part.old.items bytes.now) }
     ensures cause { Causes result (S.seated seat.new) (K.outlet sink.old) (K.outlet sink.new) }
 {

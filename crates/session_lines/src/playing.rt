@@ -75,6 +75,7 @@ fn add_drawing(drawing: &Option<Drawing>, out: &mut Vec<u8>) -> Result<(), Alloc
 // Strikes a key, which gives no drawing. Tells whether the client may leave by it.
 fn strike<S: Seat>(alloc: Global, seat: &mut S, key: Key) -> Result<bool, Stop>
     requires { IsReady S.is_in (S.seated seat.old) }
+    ensures meaning { IsMeaning S.gives }
     ensures stays { Stays S.is_in (S.seated seat.old) (S.seated seat.new) }
     ensures takes { Takes S.gives (S.seated seat.old) (S.seated seat.new) (Struck key ∷ []) [] [] result }
     ensures stops { Stops result (S.seated seat.new) }
@@ -84,7 +85,11 @@ fn strike<S: Seat>(alloc: Global, seat: &mut S, key: Key) -> Result<bool, Stop>
 }
 
 /// Draws the client; the bytes of the drawing are added.
-pub fn play_drawing<S: Seat>(alloc: Global, seat: &mut S, out: &mut Vec<u8>) -> Result<(), Stop>
+pub(crate) fn play_drawing<S: Seat>(
+    alloc: Global,
+    seat: &mut S,
+    out: &mut Vec<u8>,
+) -> Result<(), Stop>
     requires { IsReady S.is_in (S.seated seat.old) }
     ensures meaning { IsMeaning S.gives }
     ensures stays { Stays S.is_in (S.seated seat.old) (S.seated seat.new) }
@@ -104,6 +109,7 @@ pub fn play_keys<S: Seat>(
     out: &mut Vec<u8>,
 ) -> Result<bool, Stop>
     requires { IsReady S.is_in (S.seated seat.old) }
+    ensures meaning { IsMeaning S.gives }
     ensures stays { Stays S.is_in (S.seated seat.old) (S.seated seat.new) }
     ensures takes { Takes S.gives (S.seated seat.old) (S.seated seat.new) (keys_played keys.now) out.old.items out.new.items result }
     ensures stops { Stops result (S.seated seat.new) }

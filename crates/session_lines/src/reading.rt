@@ -1,8 +1,10 @@
 //! A connection's input, read to its end and played as it comes.
 
-ghost use Rattle.std.specs.Prelude.{◌≡◌, ◌<◌, ◌≤◌, [], length, take};
+ghost use Rattle.std.specs.Prelude.{List, ◌≡◌, ◌<◌, ◌≤◌, [], length, take};
 ghost use Rattle.kak_ports.specs.Ports.{Takes, TakeIsCounted};
+ghost use Rattle.key_names.specs.declared.key.Key.{Key};
 ghost use Rattle.session_lines.specs.Reading.{Reads, FaultIs};
+ghost use Rattle.session_lines.specs.Serving.{service};
 ghost use Rattle.session_lines.specs.Stops.{IsReady, Stays, Causes};
 
 use crate::lines::play_bytes;
@@ -55,7 +57,7 @@ pub fn play_source<S: Seat, I: Source, K: Sink>(
     requires ready { IsReady S.is_in (S.seated seat.old) }
     requires part { part.old.items ≡ [] }
     ensures stays { Stays S.is_in (S.seated seat.old) (S.seated seat.new) }
-    ensures reads { Reads S.gives (S.seated seat.old) (S.seated seat.new) (K.outlet sink.old) (K.outlet sink.new) (I.inlet source.old) (I.inlet source.new) result part.new.items }
+    ensures reads { (opens : List Key) → Reads (service S.gives opens) (S.seated seat.old) (S.seated seat.new) (K.outlet sink.old) (K.outlet sink.new) (I.inlet source.old) (I.inlet source.new) result part.new.items }
     ensures fault { FaultIs result (I.inlet source.old) (I.inlet source.new) }
     ensures cause { Causes result (S.seated seat.new) (K.outlet sink.old) (K.outlet sink.new) }
 {

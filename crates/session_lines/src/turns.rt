@@ -1,17 +1,18 @@
 //! The phases of a connection: what it plays is played, and what that gives is sent at the end of the phase.
 
-ghost use Rattle.std.specs.Prelude.{◌≡◌, ◌∷◌, [], Err};
+ghost use Rattle.std.specs.Prelude.{◌≡◌, List, ◌∷◌, [], Err};
+ghost use Rattle.key_names.specs.declared.key.Key.{Key};
 ghost use Rattle.json_ui.specs.Requests.{read_request};
 ghost use Rattle.session_turns.specs.Histories.{own};
 ghost use Rattle.session_turns.specs.Turns.{Opening};
 ghost use Rattle.session_events.specs.declared.event.Event.TheVariants.{Join};
 ghost use Rattle.session_events.specs.Meaning.{rules};
 ghost use Rattle.session_lines.specs.Session.{keys_played, played_by, refused_by};
-ghost use Rattle.session_lines.specs.Serving.{Serves, how_of, how_opened, line_phases, unseen};
+ghost use Rattle.session_lines.specs.Serving.{service, Serves, how_of, line_phases, unseen};
 ghost use Rattle.session_lines.specs.Sending.{Sends, Counts};
 ghost use Rattle.session_lines.specs.Stops.{IsReady, Stays, Causes};
 
-use crate::playing::{Stop, play_drawing, play_keys};
+use crate::playing::{Stop, play_keys};
 use json_ui::{LineError, Request, decode_line};
 use json_writing::{Refusal, encode_refusal};
 use kak_ports::{Put, Sink};
@@ -39,7 +40,7 @@ fn refuse_line<S: Seat, K: Sink>(
     refusal: Refusal,
 ) -> Result<bool, Stop>
     requires refused { read_request line.now ≡ Err refusal }
-    ensures serves { Serves S.gives (S.seated seat.now) (S.seated seat.now) (K.outlet sink.old) (K.outlet sink.new) (how_of result) (line_phases (line.now ∷ [])) }
+    ensures serves { (opens : List Key) → Serves (service S.gives opens) (S.seated seat.now) (S.seated seat.now) (K.outlet sink.old) (K.outlet sink.new) (how_of result) (line_phases (line.now ∷ [])) }
     ensures cause { Causes result (S.seated seat.now) (K.outlet sink.old) (K.outlet sink.new) }
 {
     out.clear();
@@ -61,7 +62,7 @@ fn play_keys_line<S: Seat, K: Sink>(
     requires asked { played_by (read_request line.now) ≡ keys_played keys.now }
     requires accepted { refused_by (read_request line.now) ≡ [] }
     ensures stays { Stays S.is_in (S.seated seat.old) (S.seated seat.new) }
-    ensures serves { Serves S.gives (S.seated seat.old) (S.seated seat.new) (K.outlet sink.old) (K.outlet sink.new) (how_of result) (line_phases (line.now ∷ [])) }
+    ensures serves { (opens : List Key) → Serves (service S.gives opens) (S.seated seat.old) (S.seated seat.new) (K.outlet sink.old) (K.outlet sink.new) (how_of result) (line_phases (line.now ∷ [])) }
     ensures cause { Causes result (S.seated seat.new) (K.outlet sink.old) (K.outlet sink.new) }
 {
     out.clear();
@@ -80,7 +81,7 @@ pub fn play_line<S: Seat, K: Sink>(
 ) -> Result<bool, Stop>
     requires { IsReady S.is_in (S.seated seat.old) }
     ensures stays { Stays S.is_in (S.seated seat.old) (S.seated seat.new) }
-    ensures serves { Serves S.gives (S.seated seat.old) (S.seated seat.new) (K.outlet sink.old) (K.outlet sink.new) (how_of result) (line_phases (line.now ∷ [])) }
+    ensures serves { (opens : List Key) → Serves (service S.gives opens) (S.seated seat.old) (S.seated seat.new) (K.outlet sink.old) (K.outlet sink.new) (how_of result) (line_phases (line.now ∷ [])) }
     ensures cause { Causes result (S.seated seat.new) (K.outlet sink.old) (K.outlet sink.new) }
 {
     match decode_line(alloc, line) {
@@ -91,20 +92,23 @@ pub fn play_line<S: Seat, K: Sink>(
     }
 }
 
-/// Opens a connection whose client has joined: its first drawing is sent.
+/// Opens a connection whose client has joined: keys are struck, and its first drawing is sent. Tells whether the client may
+/// leave.
 pub fn open<S: Seat, K: Sink>(
     alloc: Global,
     seat: &mut S,
     sink: &mut K,
     out: &mut Vec<u8>,
-) -> Result<(), Stop>
+    keys: &[Key],
+) -> Result<bool, Stop>
     requires ready { IsReady S.is_in (S.seated seat.old) }
     requires new { own (rules S.gives) (S.seated seat.old).number (S.seated seat.old).seen ≡ Join ∷ [] }
     ensures stays { Stays S.is_in (S.seated seat.old) (S.seated seat.new) }
-    ensures serves { Serves S.gives (unseen (S.seated seat.old)) (S.seated seat.new) (K.outlet sink.old) (K.outlet sink.new) (how_opened result) (Opening ∷ []) }
+    ensures serves { Serves (service S.gives keys.now) (unseen (S.seated seat.old)) (S.seated seat.new) (K.outlet sink.old) (K.outlet sink.new) (how_of result) (Opening ∷ []) }
     ensures cause { Causes result (S.seated seat.new) (K.outlet sink.old) (K.outlet sink.new) }
 {
     out.clear();
-    play_drawing(alloc, seat, out)?;
-    send(sink, out.as_slice())
+    let leaving = play_keys(alloc, seat, keys, out)?;
+    send(sink, out.as_slice())?;
+    Ok(leaving)
 }

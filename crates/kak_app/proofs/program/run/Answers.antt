@@ -1,4 +1,12 @@
+use Rattle.std.proofs.Common.{◌∙◌, subst}
+use Rattle.kak_app.specs.Runs.{Ran}
+use Rattle.kak_app.proofs.RunLemmas.{nothing-ran}
 use Rattle.kak_app.proofs.program.run.Goals as goal
 
-pub returns-clause-answers : goal.returns-clause-answers
-returns-clause-answers g c = c.status_of.ensures.answers _ _ _ _ c.serve_client-ended.ensures
+pub returns-in-Ok-clause-answers : goal.returns-in-Ok-clause-answers
+returns-in-Ok-clause-answers g c =
+    let ran = subst (λ keys. Ran keys c.serve_client-ended.result.0 (g.I.Source.inlet c.args.input.now) (g.I.Source.inlet c.serve_client-ended.new.input) (g.K.Sink.outlet c.args.output.now) (g.K.Sink.outlet c.serve_client-ended.new.output)) (c.as_slice.ensures.value ∙ c.in-Ok.ensures) c.serve_client-ended.ensures in
+    c.status_of.ensures.answers _ _ _ _ _ ran
+
+pub returns-in-Err-clause-answers : goal.returns-in-Err-clause-answers
+returns-in-Err-clause-answers g c = nothing-ran _ _ _

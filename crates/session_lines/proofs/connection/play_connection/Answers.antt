@@ -1,6 +1,9 @@
 use Rattle.session_lines.proofs.StayingLemmas.{unseen-same}
-use Rattle.session_lines.proofs.ConnectionLemmas.{opened-played}
+use Rattle.session_lines.proofs.ConnectionLemmas.{opening-left, opened-played}
 use Rattle.session_lines.proofs.connection.play_connection.Goals as goal
 
+pub returns-then-branch-clause-plays : goal.returns-then-branch-clause-plays
+returns-then-branch-clause-plays g c = opening-left _ _ _ _ _ _ _ c.if-branch.true c.in_ok-open.ensures.serves
+
 pub returns-clause-plays : goal.returns-clause-plays
-returns-clause-plays g c = opened-played c.in_ok-open.field-0 c.play_input.result _ _ _ _ _ _ _ _ _ (unseen-same c.open.ensures.stays.same) c.in_ok-open.ensures.serves c.play_input.ensures.plays
+returns-clause-plays g c = opened-played c.play_input.result _ _ _ _ _ _ _ _ _ _ c.if-branch.false (unseen-same c.open.ensures.stays.same) c.in_ok-open.ensures.serves (c.play_input.ensures.plays c.args.keys.now)

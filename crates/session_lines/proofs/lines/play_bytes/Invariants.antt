@@ -1,3 +1,6 @@
+use Rattle.std.proofs.Common.{List}
+use Rattle.key_names.specs.declared.key.Key.{Key}
+use Rattle.session_lines.specs.Serving.{service}
 use Rattle.session_lines.specs.Stops.{Stays, NoneFailed}
 use Rattle.session_lines.proofs.LineLemmas.{ServesLines}
 use Rattle.session_lines.proofs.lines.play_bytes.Given as goal
@@ -6,6 +9,6 @@ use Rattle.session_lines.proofs.lines.play_bytes.Given as goal
 abbrev pub invariant-loop-byte : goal.invariant-loop-byte
 invariant-loop-byte g l = record {
   stays : Stays g.S.Seat.is_in (g.S.Seat.seated l.fn.seat) (g.S.Seat.seated l.seat);
-  so_far : ServesLines g.S.Seat.gives (g.S.Seat.seated l.fn.seat) (g.S.Seat.seated l.seat) (g.K.Sink.outlet l.fn.sink) (g.K.Sink.outlet l.sink) l.fn.part.items l.part.items l.bytes l.byte-index;
+  so_far : (opens : List Key) → ServesLines (service g.S.Seat.gives opens) (g.S.Seat.seated l.fn.seat) (g.S.Seat.seated l.seat) (g.K.Sink.outlet l.fn.sink) (g.K.Sink.outlet l.sink) l.fn.part.items l.part.items l.bytes l.byte-index;
   counted : NoneFailed (g.K.Sink.outlet l.fn.sink) (g.K.Sink.outlet l.sink);
 }
