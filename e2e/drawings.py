@@ -41,9 +41,13 @@ def drawing(lines, mode_line, cursor, status=(), where="buffer"):
     ])
 
 
-# what a client is sent first: the options, and the drawing of a text of one newline
-OPENING = request("set_ui_options", {}) + drawing(
-    [[atom("\n", CURSOR_ON_NEWLINE)]], "*scratch* 1:1 normal 1/1 - client0", (0, 0))
+def opening(first):
+    """What a client is sent first: the options, and this drawing."""
+    return request("set_ui_options", {}) + first
+
+
+# what a client is sent first without a file: the drawing of a text of one newline
+OPENING = opening(drawing([[atom("\n", CURSOR_ON_NEWLINE)]], "*scratch* 1:1 normal 1/1 - client0", (0, 0)))
 
 
 def refusal(code, message):

@@ -1,4 +1,5 @@
-"""Whole sessions with files: NNN.in gives NNN.out, and the files of NNN.before become those of NNN.after."""
+"""Whole sessions with files: NNN.in gives NNN.out, and the files of NNN.before become those of NNN.after. The words of the
+program are the lines of NNN.words, where it is there."""
 import json
 import pathlib
 
@@ -12,11 +13,17 @@ def files_of(path):
     return {name: bytes.fromhex(content) for name, content in json.loads(path.read_text()).items()}
 
 
+def words_of(path):
+    """The words of the program, one a line."""
+    return path.read_text().splitlines() if path.exists() else ["-ui", "json"]
+
+
 def run(program, report):
     inputs = sorted(FOLDER.glob("*.in"))
     report.check("commands: there are sessions to be played", True, bool(inputs))
     for given in inputs:
         name = f"commands: session {given.stem}"
-        ended, files = run_with_files(program, ["-ui", "json"], given.read_bytes(), files_of(given.with_suffix(".before")))
+        words = words_of(given.with_suffix(".words"))
+        ended, files = run_with_files(program, words, given.read_bytes(), files_of(given.with_suffix(".before")))
         report.check_run(name, 0, given.with_suffix(".out").read_bytes(), ended)
         report.check(f"{name}: files", files_of(given.with_suffix(".after")), files)

@@ -3,14 +3,15 @@ import os
 import subprocess
 import tempfile
 
-from drawings import CURSOR_ON_NEWLINE, OPENING, DEFAULT, ERROR, atom, drawing, keys_line
+from drawings import CURSOR_ON_NEWLINE, OPENING, DEFAULT, ERROR, atom, drawing, keys_line, opening
 from processes import SECONDS, EndedEarly, Talk, run_whole
 
-# words that aren't `-ui json`
+# words that aren't `-ui json`, or these and a file's name
 WRONG_WORDS = [
     [], [""], ["-ui"], ["json"], ["json", "-ui"], ["-ui", "terminal"], ["-ui", "JSON"], ["-ui=json"], ["-ui json"],
-    ["-ui", "json", ""], ["-ui", "json", "notes.txt"], ["-ui", "json", "-ui", "json"], ["--help"], ["--version"],
-    ["-n", "-ui", "json"], [b"-ui", b"json\xff"],
+    ["-ui", "json", ""], ["-ui", "json", "a\nb"], ["-ui", "json", "a\x7f"], ["-ui", "json", "\u0085"], ["-ui", "json", "a" * 256],
+    ["-ui", "json", "a", "b"], ["-ui", "json", "-ui", "json"], ["-ui", "terminal", "a"], ["a", "-ui", "json"], ["--help"],
+    ["--version"], ["-n", "-ui", "json"], [b"-ui", b"json\xff"], [b"-ui", b"json", b"\xff"],
 ]
 
 EMPTY = [[atom("\n", CURSOR_ON_NEWLINE)]]
@@ -54,6 +55,9 @@ def quitting(program, report):
 
 
 def usage(program, report):
+    for name in ["a" * 255, "-ui", "<esc>", "a b"]:
+        named = opening(drawing(EMPTY, f"{name} 1:1 normal 1/1 - client0", (0, 0)))
+        report.check_run(f"the name {name}", 0, named, run_whole(program, ["-ui", "json", name], b""))
     for words in WRONG_WORDS:
         report.check_run(f"the words {words}", 1, b"", run_whole(program, words, keys_line("ihi<esc>")))
 
