@@ -55,9 +55,11 @@ def quitting(program, report):
 
 
 def usage(program, report):
-    for name in ["a" * 255, "-ui", "<esc>", "a b"]:
+    for name in ["a" * 255, "./-ui", "<esc>", "a b"]:
         named = opening(drawing(EMPTY, f"{name} 1:1 normal 1/1 - client0", (0, 0)))
         report.check_run(f"the name {name}", 0, named, run_whole(program, ["-ui", "json", name], b""))
+    unknown = opening(drawn([atom("unknown switch: -ui", ERROR)]))
+    report.check_run("a name that begins with a dash", 0, unknown, run_whole(program, ["-ui", "json", "-ui"], b""))
     for words in WRONG_WORDS:
         report.check_run(f"the words {words}", 1, b"", run_whole(program, words, keys_line("ihi<esc>")))
 
