@@ -1,6 +1,6 @@
 -- Events and the entries of a history.
-use Rattle.std.specs.Prelude.{◌≡◌, ℕ, Bool, true, false, List, []}
-use Rattle.std.specs.List.{AllByRecursion}
+use Rattle.std.specs.Prelude.{◌≡◌, ℕ, Bool, true, false, ◌&&◌, ◌==◌, if◌then◌else◌, List, [], ◌∷◌}
+use Rattle.std.specs.List.{AllByRecursion, list_any}
 use Rattle.session_events.specs.declared.event.Event.{Event}
 use Rattle.session_events.specs.declared.event.Event.TheVariants.{Join, Leave}
 use Rattle.session_events.specs.declared.event.Answered.{Answered}
@@ -27,3 +27,16 @@ entry_of who event = entry_with who event []
 -- each entry is that client's
 abbrev pub AreOf : ℕ → List Entry → Type 0
 AreOf who entries = AllByRecursion (λ entry. entry.who ≡ who) entries
+
+-- the entries of others among some entries
+abbrev pub others_of : ℕ → List Entry → List Entry
+others_of who [] = []
+others_of who (entry ∷ entries) = if entry.who == who then others_of who entries else entry ∷ others_of who entries
+
+-- whether an entry is that client's coming
+abbrev pub is_join_of : ℕ → Entry → Bool
+is_join_of who entry = (entry.who == who) && is_join entry.event
+
+-- whether a client's coming is among some entries
+abbrev pub has_joined : ℕ → List Entry → Bool
+has_joined who entries = list_any (is_join_of who) entries

@@ -1,5 +1,5 @@
 -- What a seat is seen as, and what a step from it does.
-use Rattle.std.specs.Prelude.{◌≡◌, ◌≤◌, ℕ, Bool, true, false, List, [], ◌∷◌, ◌++◌, length, Some}
+use Rattle.std.specs.Prelude.{◌≡◌, ◌≤◌, ℕ, true, false, List, [], ◌∷◌, ◌++◌, length, Some}
 use Rattle.std.specs.declared.option.Option.{Option}
 use Rattle.session_turns.specs.Histories.{own}
 use Rattle.session_events.specs.declared.event.Event.{Event}
@@ -8,8 +8,8 @@ use Rattle.session_events.specs.declared.event.Entry.{Entry}
 use Rattle.session_events.specs.declared.event.Output.{Output}
 use Rattle.session_events.specs.declared.fault.StepFault.{StepFault}
 use Rattle.session_events.specs.declared.fault.StepFault.TheVariants.{Broken, NoClient, Joined, HistoryFull, Full, NoMemory}
-use Rattle.session_events.specs.Entries.{is_join, is_leave, entry_with}
-use Rattle.session_events.specs.Legal.{IsLegal}
+use Rattle.session_events.specs.Entries.{is_join, is_leave, entry_with, others_of, has_joined}
+use Rattle.session_events.specs.Legal.{Away, is_here, presence_from, IsLegal}
 use Rattle.session_events.specs.Meaning.{Gives, rules}
 
 -- A seat.
@@ -22,19 +22,30 @@ pub record Seated : Type 0 where
   pub mark : Option ℕ
   -- the entries that were seen
   pub seen : List Entry
+  -- the entries of others among them, where no other client plays from now on
+  pub others : Option (List Entry)
 
--- the seat is that client's still, with the limit that it had
+-- The seat is that client's still, with the limit that it had; and where no other client plays, no entry of another came.
 pub record IsSameSeat (old new : Seated) : Type 0 where
   pub number : new.number ≡ old.number
   pub limit : new.limit ≡ old.limit
+  pub others : new.others ≡ old.others
+
+-- no other client plays
+abbrev pub IsAlone : Seated → Type 0
+IsAlone seat = seat.others ≡ Some (others_of seat.number seat.seen)
+
+-- the seat of another client, while nobody else plays
+abbrev pub turned_to : ℕ → Seated → Seated
+turned_to who seat = record { number = who; limit = seat.limit; mark = seat.mark; seen = seat.seen; others = Some (others_of who seat.seen) }
 
 -- the entries seen are a history that there can be
 abbrev pub IsLegalSeat : Seated → Type 0
 IsLegalSeat seat = IsLegal seat.limit seat.seen
 
--- the client is joined behind the entries seen
-abbrev pub IsIn : (List Entry → ℕ → Bool) → Seated → Type 0
-IsIn is_in seat = is_in seat.seen seat.number ≡ true
+-- the client is here behind the entries seen: it has come, and hasn't gone
+abbrev pub IsIn : Seated → Type 0
+IsIn seat = is_here (presence_from seat.number Away seat.seen) ≡ true
 
 -- An event of the client was taken: entries of others may have come before its own, and the output is what its entry
 -- gives behind all of them.
@@ -53,10 +64,10 @@ pub record Sees (gives : Gives) (old new : Seated) : Type 0 where
 
 -- Why an event was refused, as the entries and the mark that were then seen say. Memory is wanting for no leaving, and
 -- where it was, the session has a mark from then on.
-abbrev pub Refuses : (List Entry → ℕ → Bool) → StepFault → Seated → Event → Type 0
-Refuses is_in (Broken at) seat event = seat.mark ≡ Some at
-Refuses is_in (NoClient who) seat event = (who ≡ seat.number) × (is_join event ≡ false) × (is_in seat.seen seat.number ≡ false)
-Refuses is_in (Joined who) seat event = (who ≡ seat.number) × (is_join event ≡ true)
-Refuses is_in HistoryFull seat event = (is_leave event ≡ false) × (seat.limit ≤ length seat.seen)
-Refuses is_in Full seat event = is_join event ≡ true
-Refuses is_in NoMemory seat event = (is_leave event ≡ false) × ((at : ℕ) × (seat.mark ≡ Some at))
+abbrev pub Refuses : StepFault → Seated → Event → Type 0
+Refuses (Broken at) seat event = seat.mark ≡ Some at
+Refuses (NoClient who) seat event = (who ≡ seat.number) × (is_join event ≡ false) × (is_here (presence_from seat.number Away seat.seen) ≡ false)
+Refuses (Joined who) seat event = (who ≡ seat.number) × (is_join event ≡ true) × (has_joined seat.number seat.seen ≡ true)
+Refuses HistoryFull seat event = (is_leave event ≡ false) × (seat.limit ≤ length seat.seen)
+Refuses Full seat event = is_join event ≡ true
+Refuses NoMemory seat event = (is_leave event ≡ false) × ((at : ℕ) × (seat.mark ≡ Some at))

@@ -10,4 +10,4 @@ pub mod seat;
 
 pub use event::{Answered, Answers, Entry, Event, Output, is_join, is_leave};
 pub use fault::StepFault;
-pub use seat::Seat;
+pub use seat::{Seat, Seats};

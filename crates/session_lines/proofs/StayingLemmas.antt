@@ -17,18 +17,18 @@ use Rattle.session_lines.specs.Serving.{HasGone, unseen}
 use Rattle.session_lines.specs.Stops.{IsReady, Stays, NoneFailed, StopsFor, Stops, CausedBy, Causes, IsLoss}
 
 pub same-then : {x y z : Seated} → IsSameSeat x y → IsSameSeat y z → IsSameSeat x z
-same-then s t = record { number = t.number ∙ s.number; limit = t.limit ∙ s.limit }
+same-then s t = record { number = t.number ∙ s.number; limit = t.limit ∙ s.limit; others = t.others ∙ s.others }
 
 -- a seat from which nothing was seen yet is that seat
 pub unseen-same : {x y : Seated} → IsSameSeat x y → IsSameSeat (unseen x) y
-unseen-same s = record { number = s.number; limit = s.limit }
+unseen-same s = record { number = s.number; limit = s.limit; others = s.others }
 
 -- nothing happened
-pub stays-still : {i : List Entry → ℕ → Bool} (x : Seated) → IsReady i x → Stays i x x
-stays-still x ready = record { same = record { number = refl; limit = refl }; ready = ready }
+pub stays-still : (x : Seated) → IsReady x → Stays x x
+stays-still x ready = record { same = record { number = refl; limit = refl; others = refl }; ready = ready }
 
 -- one call after another
-pub stays-then : {i : List Entry → ℕ → Bool} {x y z : Seated} → Stays i x y → Stays i y z → Stays i x z
+pub stays-then : {x y z : Seated} → Stays x y → Stays y z → Stays x z
 stays-then s t = record { same = same-then s.same t.same; ready = t.ready }
 
 -- where nothing is written

@@ -1,21 +1,20 @@
 -- What stays over the playing of phases, and why playing stops.
-use Rattle.std.specs.Prelude.{◌≡◌, ℕ, ◌≤◌, Bool, List, length, ⊤, Some, Ok, Err}
+use Rattle.std.specs.Prelude.{◌≡◌, ◌≤◌, length, ⊤, Some, Ok, Err}
 use Rattle.std.specs.declared.result.Result.{Result}
 use Rattle.kak_ports.specs.Ports.{Outlet, Rose}
-use Rattle.session_events.specs.declared.event.Entry.{Entry}
 use Rattle.session_events.specs.Seats.{Seated, IsSameSeat, IsIn, IsLegalSeat}
 use Rattle.session_lines.specs.declared.playing.Stop.{Stop}
 use Rattle.session_lines.specs.declared.playing.Stop.TheVariants.{HistoryFull, Broken, NoMemory, WriteFault}
 
 -- The client is joined, behind entries that are a history that there can be.
-pub record IsReady (is_in : List Entry → ℕ → Bool) (seat : Seated) : Type 0 where
-  pub joined : IsIn is_in seat
+pub record IsReady (seat : Seated) : Type 0 where
+  pub joined : IsIn seat
   pub legal : IsLegalSeat seat
 
 -- The seat is that client's still, with the limit that it had, and the client is joined.
-pub record Stays (is_in : List Entry → ℕ → Bool) (old new : Seated) : Type 0 where
+pub record Stays (old new : Seated) : Type 0 where
   pub same : IsSameSeat old new
-  pub ready : IsReady is_in new
+  pub ready : IsReady new
 
 -- the history has as many entries as it may have
 abbrev pub IsFull : Seated → Type 0

@@ -29,8 +29,9 @@ fn play_last<S: Seat, K: Sink>(
     out: &mut Vec<u8>,
     part: &[u8],
 ) -> Result<bool, Stop>
-    requires { IsReady S.is_in (S.seated seat.old) }
-    ensures stays { Stays S.is_in (S.seated seat.old) (S.seated seat.new) }
+    requires { IsReady (S.seated seat.old) }
+    ensures stays { Stays (S.seated seat.old) (S.seated seat.new) }
+    ensures kept { S.kept seat.new ≡ S.kept seat.old }
     ensures serves { (opens : List Key) → Serves (service S.gives opens) (S.seated seat.old) (S.seated seat.new) (K.outlet sink.old) (K.outlet sink.new) (how_of result) (line_phases (as_line part.now)) }
     ensures cause { Causes result (S.seated seat.new) (K.outlet sink.old) (K.outlet sink.new) }
 {
@@ -48,8 +49,9 @@ fn play_input<S: Seat, I: Source, K: Sink>(
     sink: &mut K,
     out: &mut Vec<u8>,
 ) -> Result<InputEnd, Stop>
-    requires { IsReady S.is_in (S.seated seat.old) }
-    ensures stays { Stays S.is_in (S.seated seat.old) (S.seated seat.new) }
+    requires { IsReady (S.seated seat.old) }
+    ensures stays { Stays (S.seated seat.old) (S.seated seat.new) }
+    ensures kept { S.kept seat.new ≡ S.kept seat.old }
     ensures plays { (opens : List Key) → Plays [] (service S.gives opens) (S.seated seat.old) (S.seated seat.new) (K.outlet sink.old) (K.outlet sink.new) (I.inlet source.old) (I.inlet source.new) result }
     ensures fault { FaultIs result (I.inlet source.old) (I.inlet source.new) }
     ensures cause { Causes result (S.seated seat.new) (K.outlet sink.old) (K.outlet sink.new) }
@@ -75,9 +77,10 @@ pub fn play_connection<S: Seat, I: Source, K: Sink>(
     sink: &mut K,
     keys: &[Key],
 ) -> Result<InputEnd, Stop>
-    requires ready { IsReady S.is_in (S.seated seat.old) }
+    requires ready { IsReady (S.seated seat.old) }
     requires new { own (rules S.gives) (S.seated seat.old).number (S.seated seat.old).seen ≡ Join ∷ [] }
-    ensures stays { Stays S.is_in (S.seated seat.old) (S.seated seat.new) }
+    ensures stays { Stays (S.seated seat.old) (S.seated seat.new) }
+    ensures kept { S.kept seat.new ≡ S.kept seat.old }
     ensures plays { Plays (Opening ∷ []) (service S.gives keys.now) (unseen (S.seated seat.old)) (S.seated seat.new) (K.outlet sink.old) (K.outlet sink.new) (I.inlet source.old) (I.inlet source.new) result }
     ensures fault { FaultIs result (I.inlet source.old) (I.inlet source.new) }
     ensures cause { Causes result (S.seated seat.new) (K.outlet sink.old) (K.outlet sink.new) }
@@ -105,9 +108,10 @@ pub fn serve<S: Seat, I: Source, K: Sink>(
     sink: &mut K,
     keys: &[Key],
 ) -> Result<InputEnd, Stop>
-    requires ready { IsReady S.is_in (S.seated seat.old) }
+    requires ready { IsReady (S.seated seat.old) }
     requires new { own (rules S.gives) (S.seated seat.old).number (S.seated seat.old).seen ≡ Join ∷ [] }
     ensures same { IsSameSeat (S.seated seat.old) (S.seated seat.new) }
+    ensures kept { S.kept seat.new ≡ S.kept seat.old }
     ensures legal { IsLegalSeat (S.seated seat.new) }
     ensures served { WasServed (service S.gives keys.now) (S.seated seat.old).number (S.seated seat.new).seen (K.outlet sink.old) (K.outlet sink.new) (I.inlet source.old) (I.inlet source.new) result }
     ensures fault { FaultIs result (I.inlet source.old) (I.inlet source.new) }

@@ -30,8 +30,9 @@ pub fn play_bytes<S: Seat, K: Sink>(
     part: &mut Vec<u8>,
     bytes: &[u8],
 ) -> Result<bool, Stop>
-    requires { IsReady S.is_in (S.seated seat.old) }
-    ensures stays { Stays S.is_in (S.seated seat.old) (S.seated seat.new) }
+    requires { IsReady (S.seated seat.old) }
+    ensures stays { Stays (S.seated seat.old) (S.seated seat.new) }
+    ensures kept { S.kept seat.new ≡ S.kept seat.old }
     ensures serves { (opens : List Key) → Serves (service S.gives opens) (S.seated seat.old) (S.seated seat.new) (K.outlet sink.old) (K.outlet sink.new) (how_of result) (line_phases (whole_lines part.old.items bytes.now)) }
     ensures part { KeepsPart result part.new.items (last_part part.old.items bytes.now) }
     ensures cause { Causes result (S.seated seat.new) (K.outlet sink.old) (K.outlet sink.new) }

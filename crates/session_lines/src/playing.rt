@@ -39,12 +39,12 @@ impl From<AllocError> for Stop {
 
 // Takes an event of a client that is joined: a full history alone refuses it, and leaving is never refused.
 fn take<S: Seat>(alloc: Global, seat: &mut S, event: Event) -> Result<Output, Stop>
-    requires joined { IsIn S.is_in (S.seated seat.old) }
+    requires joined { IsIn (S.seated seat.old) }
     requires joins_no_more { is_join event ≡ false }
     ensures meaning { IsMeaning S.gives }
     ensures same { IsSameSeat (S.seated seat.old) (S.seated seat.new) }
     ensures legal { IsLegalSeat (S.seated seat.new) }
-    ensures joined { is_leave event ≡ false → IsIn S.is_in (S.seated seat.new) }
+    ensures joined { is_leave event ≡ false → IsIn (S.seated seat.new) }
     ensures ok { IfOk result (λ output. Steps S.gives (S.seated seat.old) (S.seated seat.new) event output) }
     ensures err { OnErr result (Sees S.gives (S.seated seat.old) (S.seated seat.new)) }
     ensures stops { is_leave event ≡ false → Stops result (S.seated seat.new) }
@@ -74,9 +74,9 @@ fn add_drawing(drawing: &Option<Drawing>, out: &mut Vec<u8>) -> Result<(), Alloc
 
 // Strikes a key, which gives no drawing. Tells whether the client may leave by it.
 fn strike<S: Seat>(alloc: Global, seat: &mut S, key: Key) -> Result<bool, Stop>
-    requires { IsReady S.is_in (S.seated seat.old) }
+    requires { IsReady (S.seated seat.old) }
     ensures meaning { IsMeaning S.gives }
-    ensures stays { Stays S.is_in (S.seated seat.old) (S.seated seat.new) }
+    ensures stays { Stays (S.seated seat.old) (S.seated seat.new) }
     ensures takes { Takes S.gives (S.seated seat.old) (S.seated seat.new) (Struck key ∷ []) [] [] result }
     ensures stops { Stops result (S.seated seat.new) }
 {
@@ -90,9 +90,9 @@ pub(crate) fn play_drawing<S: Seat>(
     seat: &mut S,
     out: &mut Vec<u8>,
 ) -> Result<(), Stop>
-    requires { IsReady S.is_in (S.seated seat.old) }
+    requires { IsReady (S.seated seat.old) }
     ensures meaning { IsMeaning S.gives }
-    ensures stays { Stays S.is_in (S.seated seat.old) (S.seated seat.new) }
+    ensures stays { Stays (S.seated seat.old) (S.seated seat.new) }
     ensures takes { TakesDrawing S.gives (S.seated seat.old) (S.seated seat.new) out.old.items out.new.items result }
     ensures stops { Stops result (S.seated seat.new) }
 {
@@ -108,9 +108,9 @@ pub fn play_keys<S: Seat>(
     keys: &[Key],
     out: &mut Vec<u8>,
 ) -> Result<bool, Stop>
-    requires { IsReady S.is_in (S.seated seat.old) }
+    requires { IsReady (S.seated seat.old) }
     ensures meaning { IsMeaning S.gives }
-    ensures stays { Stays S.is_in (S.seated seat.old) (S.seated seat.new) }
+    ensures stays { Stays (S.seated seat.old) (S.seated seat.new) }
     ensures takes { Takes S.gives (S.seated seat.old) (S.seated seat.new) (keys_played keys.now) out.old.items out.new.items result }
     ensures stops { Stops result (S.seated seat.new) }
 {
@@ -124,7 +124,7 @@ pub fn play_keys<S: Seat>(
 
 /// Lets the client go.
 pub fn leave<S: Seat>(alloc: Global, seat: &mut S) -> Result<(), Stop>
-    requires { IsReady S.is_in (S.seated seat.old) }
+    requires { IsReady (S.seated seat.old) }
     ensures same { IsSameSeat (S.seated seat.old) (S.seated seat.new) }
     ensures legal { IsLegalSeat (S.seated seat.new) }
     ensures leaves { Leaves S.gives (S.seated seat.old) (S.seated seat.new) result }

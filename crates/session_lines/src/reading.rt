@@ -54,9 +54,10 @@ pub fn play_source<S: Seat, I: Source, K: Sink>(
     out: &mut Vec<u8>,
     part: &mut Vec<u8>,
 ) -> Result<InputEnd, Stop>
-    requires ready { IsReady S.is_in (S.seated seat.old) }
+    requires ready { IsReady (S.seated seat.old) }
     requires part { part.old.items ≡ [] }
-    ensures stays { Stays S.is_in (S.seated seat.old) (S.seated seat.new) }
+    ensures stays { Stays (S.seated seat.old) (S.seated seat.new) }
+    ensures kept { S.kept seat.new ≡ S.kept seat.old }
     ensures reads { (opens : List Key) → Reads (service S.gives opens) (S.seated seat.old) (S.seated seat.new) (K.outlet sink.old) (K.outlet sink.new) (I.inlet source.old) (I.inlet source.new) result part.new.items }
     ensures fault { FaultIs result (I.inlet source.old) (I.inlet source.new) }
     ensures cause { Causes result (S.seated seat.new) (K.outlet sink.old) (K.outlet sink.new) }

@@ -58,10 +58,10 @@ fn play_keys_line<S: Seat, K: Sink>(
     line: &[u8],
     keys: &[Key],
 ) -> Result<bool, Stop>
-    requires ready { IsReady S.is_in (S.seated seat.old) }
+    requires ready { IsReady (S.seated seat.old) }
     requires asked { played_by (read_request line.now) ≡ keys_played keys.now }
     requires accepted { refused_by (read_request line.now) ≡ [] }
-    ensures stays { Stays S.is_in (S.seated seat.old) (S.seated seat.new) }
+    ensures stays { Stays (S.seated seat.old) (S.seated seat.new) }
     ensures serves { (opens : List Key) → Serves (service S.gives opens) (S.seated seat.old) (S.seated seat.new) (K.outlet sink.old) (K.outlet sink.new) (how_of result) (line_phases (line.now ∷ [])) }
     ensures cause { Causes result (S.seated seat.new) (K.outlet sink.old) (K.outlet sink.new) }
 {
@@ -79,8 +79,8 @@ pub fn play_line<S: Seat, K: Sink>(
     out: &mut Vec<u8>,
     line: &[u8],
 ) -> Result<bool, Stop>
-    requires { IsReady S.is_in (S.seated seat.old) }
-    ensures stays { Stays S.is_in (S.seated seat.old) (S.seated seat.new) }
+    requires { IsReady (S.seated seat.old) }
+    ensures stays { Stays (S.seated seat.old) (S.seated seat.new) }
     ensures serves { (opens : List Key) → Serves (service S.gives opens) (S.seated seat.old) (S.seated seat.new) (K.outlet sink.old) (K.outlet sink.new) (how_of result) (line_phases (line.now ∷ [])) }
     ensures cause { Causes result (S.seated seat.new) (K.outlet sink.old) (K.outlet sink.new) }
 {
@@ -101,9 +101,9 @@ pub fn open<S: Seat, K: Sink>(
     out: &mut Vec<u8>,
     keys: &[Key],
 ) -> Result<bool, Stop>
-    requires ready { IsReady S.is_in (S.seated seat.old) }
+    requires ready { IsReady (S.seated seat.old) }
     requires new { own (rules S.gives) (S.seated seat.old).number (S.seated seat.old).seen ≡ Join ∷ [] }
-    ensures stays { Stays S.is_in (S.seated seat.old) (S.seated seat.new) }
+    ensures stays { Stays (S.seated seat.old) (S.seated seat.new) }
     ensures serves { Serves (service S.gives keys.now) (unseen (S.seated seat.old)) (S.seated seat.new) (K.outlet sink.old) (K.outlet sink.new) (how_of result) (Opening ∷ []) }
     ensures cause { Causes result (S.seated seat.new) (K.outlet sink.old) (K.outlet sink.new) }
 {

@@ -7,6 +7,6 @@ use Rattle.session_lines.proofs.playing.play_keys.Given as goal
 -- the keys so far were struck
 abbrev pub invariant-loop-key : goal.invariant-loop-key
 invariant-loop-key g l = record {
-  stays : Stays g.S.Seat.is_in (g.S.Seat.seated l.fn.seat) (g.S.Seat.seated l.seat);
+  stays : Stays (g.S.Seat.seated l.fn.seat) (g.S.Seat.seated l.seat);
   so_far : AreTaken g.S.Seat.gives (g.S.Seat.seated l.fn.seat) (g.S.Seat.seated l.seat) (map (λ key. Struck key) (take l.key-index l.keys)) [] [] l.leaving;
 }

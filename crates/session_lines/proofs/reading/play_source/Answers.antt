@@ -22,6 +22,7 @@ returns-then-branch-clause-reads g c =
 pub loop-taken-preserved : goal.loop-taken-preserved
 loop-taken-preserved g c = record {
   stays = stays-then c.loop-taken.invariant.stays c.play_bytes.ensures.stays;
+  kept = c.play_bytes.ensures.kept ∙ c.loop-taken.invariant.kept;
   so_far = λ opens. piece-played _ _ _ _ _ _ _ _ _ _ _ _ _ _ _ (take c.in-Got.count (take c.min-room.result c.take_front.new.piece)) _ c.if-branch.false c.loop-taken.invariant.stays.same (take-front _ c.min-room.result _ c.in-Got.ensures.takes.room) c.in-Got.ensures.takes.bytes c.take_front.ensures.most c.in_ok-play_bytes-in-Got.ensures.part (ap (λ n. c.loop-taken.taken + n) (sym (length-take-le c.in-Got.count (take c.min-room.result c.take_front.new.piece) c.in-Got.ensures.takes.room))) (c.loop-taken.invariant.so_far opens) (c.in_ok-play_bytes-in-Got.ensures.serves opens);
   faults = c.in-Got.ensures.counted ∙ c.loop-taken.invariant.faults;
   counted = c.in_ok-play_bytes-in-Got.ensures.cause ∙ c.loop-taken.invariant.counted;

@@ -9,7 +9,8 @@ use Rattle.session_lines.proofs.reading.play_source.Given as goal
 -- the lines that were completed so far were all played
 abbrev pub invariant-loop-taken : goal.invariant-loop-taken
 invariant-loop-taken g l = record {
-  stays : Stays g.S.Seat.is_in (g.S.Seat.seated l.fn.seat) (g.S.Seat.seated l.seat);
+  stays : Stays (g.S.Seat.seated l.fn.seat) (g.S.Seat.seated l.seat);
+  kept : g.S.Seat.kept l.seat ≡ g.S.Seat.kept l.fn.seat;
   so_far : (opens : List Key) → HasRead (service g.S.Seat.gives opens) (g.S.Seat.seated l.fn.seat) (g.S.Seat.seated l.seat) (g.K.Sink.outlet l.fn.sink) (g.K.Sink.outlet l.sink) (g.I.Source.inlet l.fn.source) (g.I.Source.inlet l.source) l.part.items l.taken;
   faults : (g.I.Source.inlet l.source).faults ≡ (g.I.Source.inlet l.fn.source).faults;
   counted : NoneFailed (g.K.Sink.outlet l.fn.sink) (g.K.Sink.outlet l.sink);
