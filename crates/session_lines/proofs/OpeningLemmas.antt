@@ -1,11 +1,8 @@
 -- The opening of a connection, whose client has joined and done nothing else.
-use Rattle.std.proofs.Common.{◌≡◌, ℕ, Bool, true, false, List, [], ◌∷◌, ◌++◌, drop, get_or, Ok, Err, refl, sym, ap, ◌∙◌, append-nil}
+use Rattle.std.proofs.Common.{◌≡◌, ℕ, Bool, true, false, List, [], ◌∷◌, ◌++◌, drop, get_or, Ok, Err, refl, ap, ◌∙◌}
 use Rattle.std.specs.Prelude.{if◌then◌else◌, ◌==◌, None}
-use Rattle.std.specs.Io.KnownBytes.{Appends}
-use Rattle.kak_ports.specs.Ports.{Outlet, AppendsFront}
 use Rattle.key_names.specs.declared.key.Key.{Key}
 use Rattle.session_turns.specs.Histories.{Answer, own, answers_behind}
-use Rattle.session_turns.specs.Turns.{Opening}
 use Rattle.session_turns.proofs.HistoryLemmas.{answers_behind-others}
 use Rattle.session_events.specs.declared.event.Event.{Event}
 use Rattle.session_events.specs.declared.event.Event.TheVariants.{Join}
@@ -13,13 +10,13 @@ use Rattle.session_events.specs.declared.event.Answered.{Answered}
 use Rattle.session_events.specs.declared.event.Entry.{Entry}
 use Rattle.session_events.specs.Entries.{entry_with}
 use Rattle.session_events.specs.Meaning.{Gives, IsMeaning, rules, answer_of, answers_to}
-use Rattle.session_events.specs.Seats.{Seated}
+use Rattle.session_events.specs.Seats.{Seated, IsSameSeat}
+use Rattle.std.specs.declared.result.Result.{Result}
 use Rattle.session_lines.specs.declared.playing.Stop.{Stop}
-use Rattle.session_lines.specs.declared.playing.Stop.TheVariants.{WriteFault}
 use Rattle.session_lines.specs.Session.{keys_played}
-use Rattle.session_lines.specs.Serving.{AreTaken, AreCut, Service, Serves, how_of, unseen}
+use Rattle.session_lines.specs.declared.playing.Reply.{Reply}
+use Rattle.session_lines.specs.Serving.{AreTaken, AreCut, IsAnswered, Answers, unseen}
 use Rattle.session_lines.proofs.TakingLemmas.{taken-more, cut-after}
-use Rattle.session_lines.proofs.ServingLemmas.{serves-sent-as, serves-failed}
 
 -- what joining is answered
 abbrev join_answer : Answer Event
@@ -44,28 +41,26 @@ joined-answers g who before (n ∷ history) m e =
     (answers-join g before n.who n.event n.answers m) (answers_behind-others (rules g) who (before ++ n ∷ []) history) (joined-answers g who (before ++ n ∷ []) history m) e
 
 -- the joining was taken
-joined-taken : (g : Gives) (x : Seated) (out : List ℕ) → IsMeaning g → own (rules g) x.number x.seen ≡ Join ∷ [] → AreTaken g (unseen x) x (Join ∷ []) out out false
-joined-taken g x out m e = record {
+joined-taken : (g : Gives) (x : Seated) → IsMeaning g → own (rules g) x.number x.seen ≡ Join ∷ [] → AreTaken g (unseen x) x (Join ∷ []) [] false
+joined-taken g x m e = record {
   got = join_answer ∷ [];
   adds = record { more = x.seen; grows = refl; answered = joined-answers g x.number [] x.seen m e; events = e };
   events_are = refl;
-  bytes = sym (append-nil out);
+  bytes = refl;
   leaving_is = refl;
 }
 
-opening-taken : (g : Gives) (x y : Seated) (keys : List Key) (before out : List ℕ) (l : Bool) → IsMeaning g → own (rules g) x.number x.seen ≡ Join ∷ [] → AreTaken g x y (keys_played keys) before out l → AreTaken g (unseen x) y (Join ∷ keys_played keys) before out l
-opening-taken g x y keys before out l m new t = taken-more g (unseen x) x y (Join ∷ []) (keys_played keys) before before out false l (record { number = refl; limit = refl }) (joined-taken g x before m new) t
+same-unseen : (x : Seated) → IsSameSeat (unseen x) x
+same-unseen x = record { number = refl; limit = refl; others = refl }
+
+-- the keys, and the drawing, were taken behind the joining
+opening-taken : (g : Gives) (x y : Seated) (keys : List Key) (reply : Reply) → IsMeaning g → own (rules g) x.number x.seen ≡ Join ∷ [] → IsAnswered g x y (keys_played keys) [] reply → IsAnswered g (unseen x) y (Join ∷ keys_played keys) [] reply
+opening-taken g x y keys reply m new t = record { out = t.out; taken = taken-more g (unseen x) x y (Join ∷ []) (keys_played keys) [] t.out false reply.leaving (same-unseen x) (joined-taken g x m new) t.taken; told = t.told }
 
 -- one of the keys, or the drawing, was refused or lost
-pub opening-cut : (g : Gives) (x y : Seated) (keys : List Key) (why : Stop) → IsMeaning g → own (rules g) x.number x.seen ≡ Join ∷ [] → AreCut g x y (keys_played keys) why → AreCut g (unseen x) y (Join ∷ keys_played keys) why
-opening-cut g x y keys why m new t = cut-after g (unseen x) x y (Join ∷ []) (keys_played keys) [] [] false why (record { number = refl; limit = refl }) (joined-taken g x [] m new) t
+opening-cut : (g : Gives) (x y : Seated) (keys : List Key) (why : Stop) → IsMeaning g → own (rules g) x.number x.seen ≡ Join ∷ [] → AreCut g x y (keys_played keys) why → AreCut g (unseen x) y (Join ∷ keys_played keys) why
+opening-cut g x y keys why m new t = cut-after g (unseen x) x y (Join ∷ []) (keys_played keys) [] false why (same-unseen x) (joined-taken g x m new) t
 
--- the drawing was sent
-pub opening-sent : (g : Service) (x y : Seated) (before out put : List ℕ) (l : Bool) (a b : Outlet) → IsMeaning g.gives → own (rules g.gives) x.number x.seen ≡ Join ∷ [] → AreTaken g.gives x y (keys_played g.opens) before out l → before ≡ [] → put ≡ out
-    → Appends a.told b.told put → Serves g (unseen x) y a b (how_of (Ok l)) (Opening ∷ [])
-opening-sent g x y before out put l a b m new t e same s = serves-sent-as g (unseen x) y a b Opening (Join ∷ keys_played g.opens) before out put l (opening-taken g.gives x y g.opens before out l m new t) refl e refl same s
-
--- or a front of it
-pub opening-failed : (g : Service) (x y : Seated) (before out put : List ℕ) (l : Bool) (why : Stop) (a b : Outlet) → IsMeaning g.gives → own (rules g.gives) x.number x.seen ≡ Join ∷ [] → AreTaken g.gives x y (keys_played g.opens) before out l → before ≡ [] → put ≡ out
-    → (why ≡ WriteFault) × AppendsFront a.told b.told put → Serves g (unseen x) y a b (how_of (Err why)) (Opening ∷ [])
-opening-failed g x y before out put l why a b m new t e same s = serves-failed g (unseen x) y a b Opening (Join ∷ keys_played g.opens) before out put l why (opening-taken g.gives x y g.opens before out l m new t) refl e refl same s
+pub opening-answers : (g : Gives) (x y : Seated) (keys : List Key) (r : Result Reply Stop) → IsMeaning g → own (rules g) x.number x.seen ≡ Join ∷ [] → Answers g x y (keys_played keys) [] r → Answers g (unseen x) y (Join ∷ keys_played keys) [] r
+opening-answers g x y keys (Ok reply) m new t = opening-taken g x y keys reply m new t
+opening-answers g x y keys (Err why) m new t = opening-cut g x y keys why m new t

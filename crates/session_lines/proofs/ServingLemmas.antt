@@ -8,44 +8,67 @@ use Rattle.session_turns.specs.Histories.{Answer, events_of, bytes_of, is_leavin
 use Rattle.session_turns.proofs.HistoryLemmas.{adds-none, adds-append}
 use Rattle.session_turns.proofs.TurnLemmas.{fits-append, over-more, short-more, unsent-more, lost-more, whole-none, phase_goes, phase_quits, phase_stops, phase_breaks, phase_fails}
 use Rattle.session_turns.specs.Turns.{Phase, plays, says, due, sent}
-use Rattle.session_turns.specs.Growth.{Begins, How, Whole, Over, Short, Unsent, Lost, IsWhole, Fits}
+use Rattle.session_turns.specs.Growth.{Begins, How, Whole, Over, Short, Unsent, Lost, Fits}
 use Rattle.session_events.specs.declared.event.Event.{Event}
 use Rattle.session_events.specs.Meaning.{rules}
 use Rattle.session_events.specs.Seats.{Seated, IsSameSeat}
 use Rattle.session_lines.specs.declared.playing.Stop.{Stop}
 use Rattle.session_lines.specs.declared.playing.Stop.TheVariants as stop
 use Rattle.session_lines.specs.Session.{protocol}
-use Rattle.session_lines.specs.Serving.{AreTaken, AreCut, Service, Serves, how_of}
+use Rattle.session_lines.specs.declared.playing.Reply.{Reply}
+use Rattle.session_lines.specs.Sending.{FailsFor}
+use Rattle.session_lines.specs.Serving.{telling_bytes, AreCut, IsAnswered, Service, Serves, how_of}
 use Rattle.session_lines.specs.Stops.{StopsFor}
 use Rattle.session_lines.proofs.TakingLemmas.{adds-as}
 
--- the bytes of a phase that says nothing beside its answers
-sent-bytes : (opens : List Key) (phase : Phase) (x out : List ℕ) (got : List (Answer Event)) → x ≡ [] → says (protocol opens) phase ≡ [] → out ≡ x ++ bytes_of got → bytes_of got ++ says (protocol opens) phase ≡ out
-sent-bytes opens phase x out got e s b = ap (λ r. bytes_of got ++ r) s ∙ append-nil (bytes_of got) ∙ ap (λ r. r ++ bytes_of got) (sym e) ∙ sym b
+-- what a phase gives and says is what is to be told
+sent-bytes : (g : Service) (old new : Seated) (es : List Event) (said : List ℕ) (reply : Reply) (t : IsAnswered g.gives old new es said reply) (says : List ℕ) → says ≡ said → bytes_of t.taken.got ++ says ≡ telling_bytes reply.telling
+sent-bytes g old new es said reply t says s = ap (λ r. bytes_of t.taken.got ++ r) s ∙ ap (λ r. r ++ said) (sym t.taken.bytes) ∙ sym t.told
 
 fits-turn : (opens : List Key) (phase : Phase) (got : List (Answer Event)) (l : Bool) → events_of got ≡ plays (protocol opens) phase → is_leaving got ≡ l → Fits (protocol opens) (how_of (Ok l)) (phase ∷ []) got (bytes_of got ++ says (protocol opens) phase)
 fits-turn opens phase got false e l = phase_goes (protocol opens) phase got e l
 fits-turn opens phase got true e l = phase_quits (protocol opens) phase got e l
 
--- the events of a phase were taken, and its bytes were sent
-pub serves-sent : (g : Service) (old new : Seated) (a b : Outlet) (phase : Phase) (es : List Event) (x out : List ℕ) (l : Bool) → AreTaken g.gives old new es x out l → plays (protocol g.opens) phase ≡ es → x ≡ [] → says (protocol g.opens) phase ≡ [] → Appends a.told b.told out → Serves g old new a b (how_of (Ok l)) (phase ∷ [])
-serves-sent g old new a b phase es x out l t p e s sends = record {
-  got = t.got;
-  out = out;
-  adds = t.adds;
+-- a phase was played, and what is to be told was told
+pub answered-told : (g : Service) (old new : Seated) (a b : Outlet) (phase : Phase) (es : List Event) (said : List ℕ) (reply : Reply) → IsAnswered g.gives old new es said reply → plays (protocol g.opens) phase ≡ es → says (protocol g.opens) phase ≡ said
+    → Appends a.told b.told (telling_bytes reply.telling) → Serves g old new a b (how_of (Ok reply.leaving)) (phase ∷ [])
+answered-told g old new a b phase es said reply t p s sends = record {
+  got = t.taken.got;
+  out = telling_bytes reply.telling;
+  adds = t.taken.adds;
   sends = sends;
-  fits = subst (λ o. Fits (protocol g.opens) (how_of (Ok l)) (phase ∷ []) t.got o) (sent-bytes g.opens phase x out t.got e s t.bytes) (fits-turn g.opens phase t.got l (t.events_are ∙ sym p) t.leaving_is);
+  fits = subst (λ o. Fits (protocol g.opens) (how_of (Ok reply.leaving)) (phase ∷ []) t.taken.got o) (sent-bytes g old new es said reply t (says (protocol g.opens) phase) s)
+      (fits-turn g.opens phase t.taken.got reply.leaving (t.taken.events_are ∙ sym p) t.taken.leaving_is);
 }
 
--- the events of a phase were taken, and of its bytes a front was sent
-pub serves-unsent : (g : Service) (old new : Seated) (a b : Outlet) (phase : Phase) (es : List Event) (x out : List ℕ) (l : Bool) → AreTaken g.gives old new es x out l → plays (protocol g.opens) phase ≡ es → x ≡ [] → says (protocol g.opens) phase ≡ [] → AppendsFront a.told b.told out → Serves g old new a b Unsent (phase ∷ [])
-serves-unsent g old new a b phase es x out l t p e s f = record {
-  got = t.got;
+-- a phase was played, and a front of what is to be told was told
+answered-half : (g : Service) (old new : Seated) (a b : Outlet) (phase : Phase) (es : List Event) (said : List ℕ) (reply : Reply) → IsAnswered g.gives old new es said reply → plays (protocol g.opens) phase ≡ es → says (protocol g.opens) phase ≡ said
+    → AppendsFront a.told b.told (telling_bytes reply.telling) → Serves g old new a b Unsent (phase ∷ [])
+answered-half g old new a b phase es said reply t p s f = record {
+  got = t.taken.got;
   out = f.0;
-  adds = t.adds;
+  adds = t.taken.adds;
   sends = f.3;
-  fits = phase_fails (protocol g.opens) phase t.got f.0 (t.events_are ∙ sym p) (f.1, sent-bytes g.opens phase x out t.got e s t.bytes ∙ f.2);
+  fits = phase_fails (protocol g.opens) phase t.taken.got f.0 (t.taken.events_are ∙ sym p) (f.1, sent-bytes g old new es said reply t (says (protocol g.opens) phase) s ∙ f.2);
 }
+
+-- a phase was played, and nothing was told, since memory was wanting
+answered-lost : (g : Service) (old new : Seated) (a b : Outlet) (phase : Phase) (es : List Event) (said : List ℕ) (reply : Reply) → IsAnswered g.gives old new es said reply → plays (protocol g.opens) phase ≡ es → b ≡ a → Serves g old new a b Lost (phase ∷ [])
+answered-lost g old new a b phase es said reply t p same = record {
+  got = t.taken.got;
+  out = [];
+  adds = t.taken.adds;
+  sends = subst (λ o. Appends a.told o.told []) (sym same) (Appends-nil a.told);
+  fits = phase_breaks (protocol g.opens) phase t.taken.got ([], p ∙ sym t.taken.events_are ∙ sym (append-nil (events_of t.taken.got)));
+}
+
+-- a phase was played, and telling failed
+pub answered-untold : (g : Service) (old new : Seated) (a b : Outlet) (phase : Phase) (es : List Event) (said : List ℕ) (reply : Reply) (why : Stop) → IsAnswered g.gives old new es said reply → plays (protocol g.opens) phase ≡ es → says (protocol g.opens) phase ≡ said
+    → FailsFor why a b (telling_bytes reply.telling) → Serves g old new a b (how_of (Err why)) (phase ∷ [])
+answered-untold g old new a b phase es said reply stop.WriteFault t p s f = answered-half g old new a b phase es said reply t p s f.0
+answered-untold g old new a b phase es said reply stop.NoMemory t p s f = answered-lost g old new a b phase es said reply t p f
+answered-untold g old new a b phase es said reply stop.HistoryFull t p s f = absurd f
+answered-untold g old new a b phase es said reply (stop.Broken at) t p s f = absurd f
 
 -- of the events of a phase a beginning was taken, since something was lost
 lost-cut : (g : Service) (old new : Seated) (a : Outlet) (phase : Phase) (es : List Event) (why : Stop) → AreCut g.gives old new es why → plays (protocol g.opens) phase ≡ es → Serves g old new a a Lost (phase ∷ [])
@@ -69,43 +92,6 @@ serves-cut g old new a phase es stop.HistoryFull s t p = record {
 serves-cut g old new a phase es (stop.Broken at) s t p = lost-cut g old new a phase es (stop.Broken at) t p
 serves-cut g old new a phase es stop.NoMemory s t p = lost-cut g old new a phase es stop.NoMemory t p
 serves-cut g old new a phase es stop.WriteFault s t p = absurd s
-
--- a phase of which nothing was taken
-pub serves-none : (g : Service) (h : Seated) (a : Outlet) (phase : Phase) → Serves g h h a a Lost (phase ∷ [])
-serves-none g h a phase = record {
-  got = [];
-  out = [];
-  adds = adds-none (rules g.gives) h.number h.seen;
-  sends = Appends-nil a.told;
-  fits = phase_breaks (protocol g.opens) phase [] (plays (protocol g.opens) phase, refl);
-}
-
--- a line that plays nothing and says these bytes
-pub serves-said : (g : Service) (h : Seated) (a b : Outlet) (phase : Phase) (out : List ℕ) → plays (protocol g.opens) phase ≡ [] → says (protocol g.opens) phase ≡ out → Appends a.told b.told out → Serves g h h a b Whole (phase ∷ [])
-serves-said g h a b phase out p s sends = record {
-  got = [];
-  out = out;
-  adds = adds-none (rules g.gives) h.number h.seen;
-  sends = sends;
-  fits = subst (λ o. IsWhole (protocol g.opens) (phase ∷ []) [] o) s (phase_goes (protocol g.opens) phase [] (sym p) refl);
-}
-
--- a line that plays nothing, of whose bytes a front was sent
-pub serves-half-said : (g : Service) (h : Seated) (a b : Outlet) (phase : Phase) (out : List ℕ) → plays (protocol g.opens) phase ≡ [] → says (protocol g.opens) phase ≡ out → AppendsFront a.told b.told out → Serves g h h a b Unsent (phase ∷ [])
-serves-half-said g h a b phase out p s f = record {
-  got = [];
-  out = f.0;
-  adds = adds-none (rules g.gives) h.number h.seen;
-  sends = f.3;
-  fits = phase_fails (protocol g.opens) phase [] f.0 (sym p) (f.1, s ∙ f.2);
-}
-
--- where a send fails, what was taken isn't lost, and a front of the bytes was sent
-pub serves-failed : (g : Service) (old new : Seated) (a b : Outlet) (phase : Phase) (es : List Event) (x out put : List ℕ) (l : Bool) (why : Stop) → AreTaken g.gives old new es x out l → plays (protocol g.opens) phase ≡ es → x ≡ [] → says (protocol g.opens) phase ≡ [] → put ≡ out → (why ≡ stop.WriteFault) × AppendsFront a.told b.told put → Serves g old new a b (how_of (Err why)) (phase ∷ [])
-serves-failed g old new a b phase es x out put l why t p e s same f = rw f.0 (serves-unsent g old new a b phase es x out l t p e s (subst (λ o. AppendsFront a.told b.told o) same f.1))
-
-pub serves-refusal-failed : (g : Service) (h : Seated) (a b : Outlet) (phase : Phase) (out : List ℕ) (why : Stop) → plays (protocol g.opens) phase ≡ [] → says (protocol g.opens) phase ≡ out → (why ≡ stop.WriteFault) × AppendsFront a.told b.told out → Serves g h h a b (how_of (Err why)) (phase ∷ [])
-serves-refusal-failed g h a b phase out why p s f = rw f.0 (serves-half-said g h a b phase out p s f.1)
 
 -- phases were played behind phases that were all played
 abbrev pub serves-append : (g : Service) (x y z : Seated) (a b c : Outlet) (how : How) (ts us : List Phase) → IsSameSeat x y → Serves g x y a b Whole ts → Serves g y z b c how us → Serves g x z a c how (ts ++ us)
@@ -149,7 +135,3 @@ serves-lost g h a ts = record {
   sends = Appends-nil a.told;
   fits = record { events = λ more. (due (protocol g.opens) (ts ++ more) [], refl); bytes = λ more. (sent (protocol g.opens) (ts ++ more) [], refl) };
 }
-
--- the events of a phase were taken, and what was sent are its bytes
-pub serves-sent-as : (g : Service) (old new : Seated) (a b : Outlet) (phase : Phase) (es : List Event) (x out put : List ℕ) (l : Bool) → AreTaken g.gives old new es x out l → plays (protocol g.opens) phase ≡ es → x ≡ [] → says (protocol g.opens) phase ≡ [] → put ≡ out → Appends a.told b.told put → Serves g old new a b (how_of (Ok l)) (phase ∷ [])
-serves-sent-as g old new a b phase es x out put l t p e s same f = serves-sent g old new a b phase es x out l t p e s (subst (λ o. Appends a.told b.told o) same f)

@@ -1,10 +1,9 @@
 -- What stays, and why playing stops, over calls one after another.
-use Rattle.std.proofs.Common.{◌≡◌, ℕ, ◌+◌, ◌<◌, Bool, true, false, List, [], ◌∷◌, ◌++◌, length, Ok, Err, refl, sym, ap, ◌∙◌, subst, arith, length-append}
+use Rattle.std.proofs.Common.{◌≡◌, ℕ, ◌+◌, ◌<◌, true, false, List, [], ◌∷◌, ◌++◌, length, Ok, Err, refl, ap, ◌∙◌, subst, arith, length-append}
 use Rattle.std.specs.Prelude.{Some, IfSome}
 use Rattle.std.specs.declared.result.Result.{Result}
 use Rattle.kak_ports.specs.Ports.{Outlet, Rose}
 use Rattle.session_events.specs.declared.event.Event.TheVariants.{Leave}
-use Rattle.session_events.specs.declared.event.Entry.{Entry}
 use Rattle.session_events.specs.Entries.{entry_with}
 use Rattle.session_events.specs.Meaning.{Gives}
 use Rattle.session_events.specs.Seats.{Seated, IsSameSeat}
@@ -12,7 +11,7 @@ use Rattle.session_lines.specs.declared.playing.Stop.{Stop}
 use Rattle.session_lines.specs.declared.playing.Stop.TheVariants.{HistoryFull, Broken, NoMemory, WriteFault}
 use Rattle.session_lines.specs.declared.reading.InputEnd.{InputEnd}
 use Rattle.session_lines.specs.Connections.{is_unwritten, EndCauses}
-use Rattle.session_lines.specs.Sending.{Counts}
+use Rattle.session_lines.specs.Sending.{Sends, Counts, FailsFor, Tells}
 use Rattle.session_lines.specs.Serving.{HasGone, unseen}
 use Rattle.session_lines.specs.Stops.{IsReady, Stays, NoneFailed, StopsFor, Stops, CausedBy, Causes, IsLoss}
 
@@ -53,10 +52,21 @@ pub causes-behind : {A : Type 0} (r : Result A Stop) (x : Seated) (a b c : Outle
 causes-behind (Ok done) x a b c n s = s ∙ n
 causes-behind (Err why) x a b c n s = caused-behind why x a b c n s
 
--- a write that failed, or one that didn't
-pub write-causes : {A : Type 0} (r : Result A Stop) (x : Seated) (a b : Outlet) → ((why : Stop) → r ≡ Err why → why ≡ WriteFault) → Counts r a b → Causes r x a b
-write-causes (Ok done) x a b w c = c
-write-causes (Err why) x a b w c = subst (λ q. CausedBy q x a b) (sym (w why refl)) c
+failed-cause : (why : Stop) (x : Seated) (a b : Outlet) (bytes : List ℕ) → FailsFor why a b bytes → CausedBy why x a b
+failed-cause HistoryFull x a b bytes t = absurd t
+failed-cause (Broken at) x a b bytes t = absurd t
+failed-cause NoMemory x a b bytes t = ap (λ o. o.faults) t
+failed-cause WriteFault x a b bytes t = t.1
+
+-- a telling that failed, or one that didn't
+pub tells-cause : {A : Type 0} (r : Result A Stop) (x : Seated) (a b : Outlet) (bytes : List ℕ) → Tells r a b bytes → Causes r x a b
+tells-cause (Ok done) x a b bytes t = t.1
+tells-cause (Err why) x a b bytes t = failed-cause why x a b bytes t
+
+-- what a send does, and how it is counted, as a telling
+pub send-tells : {A : Type 0} (r : Result A Stop) (a b : Outlet) (bytes : List ℕ) → Sends r a b bytes → Counts r a b → Tells r a b bytes
+send-tells (Ok done) a b bytes s c = (s, c)
+send-tells (Err why) a b bytes s c = rw s.0 (s.1, c)
 
 -- why a connection ended, behind its leaving: the history is more than full, and a mark still set
 pub causes-later : {g : Gives} (r : Result InputEnd Stop) (x y : Seated) (a b : Outlet) → IsSameSeat x y → HasGone g x y → IfSome x.mark (λ at. y.mark ≡ Some at) → Causes r x a b → EndCauses r y a b

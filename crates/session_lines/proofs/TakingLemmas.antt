@@ -18,7 +18,8 @@ use Rattle.session_events.specs.Seats.{Seated, IsSameSeat, Steps, Sees}
 use Rattle.session_lines.specs.declared.playing.Stop.{Stop}
 use Rattle.session_lines.specs.declared.playing.Stop.TheVariants as stop
 use Rattle.session_lines.specs.Session.{keys_played}
-use Rattle.session_lines.specs.Serving.{AreTaken, AreCut, LeavesOut}
+use Rattle.session_lines.specs.declared.playing.Reply.{Reply}
+use Rattle.session_lines.specs.Serving.{telling_bytes, AreTaken, AreCut, LeavesOut, IsAnswered}
 use Rattle.session_lines.proofs.Indices.{none-below, next}
 
 -- the growth of a client's part is that of the same client by another name
@@ -50,22 +51,13 @@ or-false true = refl
 or-false false = refl
 
 -- one event was taken
-pub one-taken : (g : Gives) (x y : Seated) (event : Event) (output : Output) (before out : List ℕ) → is_leave event ≡ false → Steps g x y event output → out ≡ before ++ drawn_bytes output.drawing → AreTaken g x y (event ∷ []) before out output.leaving
-one-taken g x y event output before out stays s b = record {
+pub one-taken : (g : Gives) (x y : Seated) (event : Event) (output : Output) (out : List ℕ) → is_leave event ≡ false → Steps g x y event output → out ≡ drawn_bytes output.drawing → AreTaken g x y (event ∷ []) out output.leaving
+one-taken g x y event output out stays s b = record {
   got = answer_of event output ∷ [];
   adds = steps-add g x y event output stays s;
   events_are = refl;
-  bytes = b ∙ ap (λ r. before ++ r) (sym (append-nil (drawn_bytes output.drawing)));
+  bytes = b ∙ sym (append-nil (drawn_bytes output.drawing));
   leaving_is = or-false output.leaving;
-}
-
--- one event was taken, and its drawing was lost
-pub one-lost : (g : Gives) (x y : Seated) (event : Event) (output : Output) → is_leave event ≡ false → Steps g x y event output → AreCut g x y (event ∷ []) stop.NoMemory
-one-lost g x y event output stays s = record {
-  got = answer_of event output ∷ [];
-  adds = steps-add g x y event output stays s;
-  begins = ([], refl);
-  short = tt;
 }
 
 none-short : (why : Stop) → LeavesOut why 0 1
@@ -83,24 +75,25 @@ one-refused g x y event why s = record {
   short = none-short why;
 }
 
--- a key was struck, and the client was drawn
-pub key-taken : (g : Gives) (x y : Seated) (key : keys.Key) (output : Output) → IsMeaning g → Steps g x y (Struck key) output → AreTaken g x y (Struck key ∷ []) [] [] output.leaving
-key-taken g x y key output m s = one-taken g x y (Struck key) output [] [] refl s (sym (ap drawn_bytes (ap (λ o. o.drawing) s.is ∙ m.strikes (x.seen ++ s.between) x.number key s.answers)))
+-- a key was struck
+pub key-taken : (g : Gives) (x y : Seated) (key : keys.Key) (output : Output) → IsMeaning g → Steps g x y (Struck key) output → AreTaken g x y (Struck key ∷ []) [] output.leaving
+key-taken g x y key output m s = one-taken g x y (Struck key) output [] refl s (sym (ap drawn_bytes (ap (λ o. o.drawing) s.is ∙ m.strikes (x.seen ++ s.between) x.number key s.answers)))
 
-pub drawing-taken : (g : Gives) (x y : Seated) (output : Output) (before out : List ℕ) → IsMeaning g → Steps g x y (Refresh true) output → out ≡ before ++ drawn_bytes output.drawing → AreTaken g x y (Refresh true ∷ []) before out false
-drawing-taken g x y output before out m s b = subst (λ l. AreTaken g x y (Refresh true ∷ []) before out l) (ap (λ o. o.leaving) s.is ∙ m.draws (x.seen ++ s.between) x.number true s.answers) (one-taken g x y (Refresh true) output before out refl s b)
+-- the client was drawn
+pub drawing-taken : (g : Gives) (x y : Seated) (output : Output) (out : List ℕ) → IsMeaning g → Steps g x y (Refresh true) output → out ≡ drawn_bytes output.drawing → AreTaken g x y (Refresh true ∷ []) out false
+drawing-taken g x y output out m s b = subst (λ l. AreTaken g x y (Refresh true ∷ []) out l) (ap (λ o. o.leaving) s.is ∙ m.draws (x.seen ++ s.between) x.number true s.answers) (one-taken g x y (Refresh true) output out refl s b)
 
 -- no event was taken yet
-pub none-taken : (g : Gives) (x : Seated) (before : List ℕ) → AreTaken g x x [] before before false
-none-taken g x before = record { got = []; adds = adds-none (rules g) x.number x.seen; events_are = refl; bytes = sym (append-nil before); leaving_is = refl }
+pub none-taken : (g : Gives) (x : Seated) → AreTaken g x x [] [] false
+none-taken g x = record { got = []; adds = adds-none (rules g) x.number x.seen; events_are = refl; bytes = refl; leaving_is = refl }
 
 -- more events were taken behind the ones before
-pub taken-more : (g : Gives) (a b c : Seated) (es fs : List Event) (x y z : List ℕ) (l m : Bool) → IsSameSeat a b → AreTaken g a b es x y l → AreTaken g b c fs y z m → AreTaken g a c (es ++ fs) x z (l || m)
-taken-more g a b c es fs x y z l m same s t = record {
+pub taken-more : (g : Gives) (a b c : Seated) (es fs : List Event) (x y : List ℕ) (l m : Bool) → IsSameSeat a b → AreTaken g a b es x l → AreTaken g b c fs y m → AreTaken g a c (es ++ fs) (x ++ y) (l || m)
+taken-more g a b c es fs x y l m same s t = record {
   got = s.got ++ t.got;
   adds = adds-append (rules g) a.number a.seen b.seen c.seen s.got t.got s.adds (adds-as g a b b.seen c.seen t.got same t.adds);
   events_are = events_of-append s.got t.got ∙ ap (λ r. r ++ events_of t.got) s.events_are ∙ ap (λ r. es ++ r) t.events_are;
-  bytes = t.bytes ∙ ap (λ r. r ++ bytes_of t.got) s.bytes ∙ append_assoc x (bytes_of s.got) (bytes_of t.got) ∙ ap (λ r. x ++ r) (sym (bytes_of-append s.got t.got));
+  bytes = ap (λ r. r ++ y) s.bytes ∙ ap (λ r. bytes_of s.got ++ r) t.bytes ∙ sym (bytes_of-append s.got t.got);
   leaving_is = is_leaving-append s.got t.got ∙ ap (λ r. r || is_leaving t.got) s.leaving_is ∙ ap (λ r. l || r) t.leaving_is;
 }
 
@@ -111,8 +104,8 @@ out-more stop.NoMemory m n k j e l = tt
 out-more stop.WriteFault m n k j e l = tt
 
 -- a beginning was taken behind the events before
-pub cut-after : (g : Gives) (a b c : Seated) (es fs : List Event) (x y : List ℕ) (l : Bool) (why : Stop) → IsSameSeat a b → AreTaken g a b es x y l → AreCut g b c fs why → AreCut g a c (es ++ fs) why
-cut-after g a b c es fs x y l why same s t = record {
+pub cut-after : (g : Gives) (a b c : Seated) (es fs : List Event) (x : List ℕ) (l : Bool) (why : Stop) → IsSameSeat a b → AreTaken g a b es x l → AreCut g b c fs why → AreCut g a c (es ++ fs) why
+cut-after g a b c es fs x l why same s t = record {
   got = s.got ++ t.got;
   adds = adds-append (rules g) a.number a.seen b.seen c.seen s.got t.got s.adds (adds-as g a b b.seen c.seen t.got same t.adds);
   begins = (
@@ -158,40 +151,46 @@ keys-from : (ks : List keys.Key) (i : ℕ) (d k : keys.Key) → i < length ks �
 keys-from ks i d k lt e = keys-from-at ks i d k lt e ∙ ap (λ n. map (λ key. Struck key) (take i ks) ++ (Struck k ∷ [] ++ keys_played (drop n ks))) (next i)
 
 -- an event of the keys was refused
-pub keys-cut : (g : Gives) (a b c : Seated) (ks : List keys.Key) (i : ℕ) (d : keys.Key) (x y : List ℕ) (l : Bool) (why : Stop) → i < length ks → IsSameSeat a b
-    → AreTaken g a b (map (λ key. Struck key) (take i ks)) x y l → AreCut g b c (Struck (get_or ks i d) ∷ []) why → AreCut g a c (keys_played ks) why
-keys-cut g a b c ks i d x y l why lt same s t = subst (λ es. AreCut g a c es why) (sym (keys-from ks i d (get_or ks i d) lt refl))
-    (cut-after g a b c (map (λ key. Struck key) (take i ks)) (Struck (get_or ks i d) ∷ [] ++ keys_played (drop (i + 1) ks)) x y l why same s
+pub keys-cut : (g : Gives) (a b c : Seated) (ks : List keys.Key) (i : ℕ) (d : keys.Key) (x : List ℕ) (l : Bool) (why : Stop) → i < length ks → IsSameSeat a b
+    → AreTaken g a b (map (λ key. Struck key) (take i ks)) x l → AreCut g b c (Struck (get_or ks i d) ∷ []) why → AreCut g a c (keys_played ks) why
+keys-cut g a b c ks i d x l why lt same s t = subst (λ es. AreCut g a c es why) (sym (keys-from ks i d (get_or ks i d) lt refl))
+    (cut-after g a b c (map (λ key. Struck key) (take i ks)) (Struck (get_or ks i d) ∷ [] ++ keys_played (drop (i + 1) ks)) x l why same s
     (cut-before g b c (Struck (get_or ks i d) ∷ []) (keys_played (drop (i + 1) ks)) why (t)))
 
 all-struck : (ks : List keys.Key) (i : ℕ) → length ks ≤ i → keys_played ks ≡ map (λ key. Struck key) (take i ks) ++ Refresh true ∷ []
 all-struck ks i le = ap keys_played (sym (take_all i ks le))
 
 -- the drawing behind the keys was refused
-pub draw-cut : (g : Gives) (a b c : Seated) (ks : List keys.Key) (i : ℕ) (x y : List ℕ) (l : Bool) (why : Stop) → length ks ≤ i → IsSameSeat a b
-    → AreTaken g a b (map (λ key. Struck key) (take i ks)) x y l → AreCut g b c (Refresh true ∷ []) why → AreCut g a c (keys_played ks) why
-draw-cut g a b c ks i x y l why le same s t = subst (λ es. AreCut g a c es why) (sym (all-struck ks i le))
-    (cut-after g a b c (map (λ key. Struck key) (take i ks)) (Refresh true ∷ []) x y l why same s t)
-
--- events that sent nothing, behind bytes that stand already
-taken-silent : (g : Gives) (a b : Seated) (es : List Event) (x : List ℕ) (l : Bool) → AreTaken g a b es [] [] l → AreTaken g a b es x x l
-taken-silent g a b es x l t = record {
-  got = t.got;
-  adds = t.adds;
-  events_are = t.events_are;
-  bytes = sym (append-nil x) ∙ ap (λ r. x ++ r) t.bytes;
-  leaving_is = t.leaving_is;
-}
+pub draw-cut : (g : Gives) (a b c : Seated) (ks : List keys.Key) (i : ℕ) (x : List ℕ) (l : Bool) (why : Stop) → length ks ≤ i → IsSameSeat a b
+    → AreTaken g a b (map (λ key. Struck key) (take i ks)) x l → AreCut g b c (Refresh true ∷ []) why → AreCut g a c (keys_played ks) why
+draw-cut g a b c ks i x l why le same s t = subst (λ es. AreCut g a c es why) (sym (all-struck ks i le))
+    (cut-after g a b c (map (λ key. Struck key) (take i ks)) (Refresh true ∷ []) x l why same s t)
 
 -- the keys were struck, and the client was drawn
-pub keys-taken : (g : Gives) (a b c : Seated) (ks : List keys.Key) (i : ℕ) (x y : List ℕ) (l : Bool) → length ks ≤ i → IsSameSeat a b
-    → AreTaken g a b (map (λ key. Struck key) (take i ks)) [] [] l → AreTaken g b c (Refresh true ∷ []) x y false → AreTaken g a c (keys_played ks) x y l
-keys-taken g a b c ks i x y l le same s t = subst (λ es. AreTaken g a c es x y l) (sym (all-struck ks i le))
-    (subst (λ m. AreTaken g a c (map (λ key. Struck key) (take i ks) ++ Refresh true ∷ []) x y m) (or-false l)
-    (taken-more g a b c (map (λ key. Struck key) (take i ks)) (Refresh true ∷ []) x x y l false same (taken-silent g a b (map (λ key. Struck key) (take i ks)) x l s) (t)))
+pub keys-taken : (g : Gives) (a b c : Seated) (ks : List keys.Key) (i : ℕ) (y : List ℕ) (l : Bool) → length ks ≤ i → IsSameSeat a b
+    → AreTaken g a b (map (λ key. Struck key) (take i ks)) [] l → AreTaken g b c (Refresh true ∷ []) y false → AreTaken g a c (keys_played ks) y l
+keys-taken g a b c ks i y l le same s t = subst (λ es. AreTaken g a c es y l) (sym (all-struck ks i le))
+    (subst (λ m. AreTaken g a c (map (λ key. Struck key) (take i ks) ++ Refresh true ∷ []) y m) (or-false l)
+    (taken-more g a b c (map (λ key. Struck key) (take i ks)) (Refresh true ∷ []) [] y l false same s t))
 
 -- one more key was struck
 pub struck-more : (g : Gives) (a b c : Seated) (ks : List keys.Key) (i : ℕ) (d : keys.Key) (l m : Bool) → i < length ks → IsSameSeat a b
-    → AreTaken g a b (map (λ key. Struck key) (take i ks)) [] [] l → AreTaken g b c (Struck (get_or ks i d) ∷ []) [] [] m → AreTaken g a c (map (λ key. Struck key) (take (i + 1) ks)) [] [] (l || m)
-struck-more g a b c ks i d l m lt same s t = subst (λ es. AreTaken g a c es [] [] (l || m)) (sym (key-next ks i d (get_or ks i d) lt refl))
-    (taken-more g a b c (map (λ key. Struck key) (take i ks)) (Struck (get_or ks i d) ∷ []) [] [] [] l m same s t)
+    → AreTaken g a b (map (λ key. Struck key) (take i ks)) [] l → AreTaken g b c (Struck (get_or ks i d) ∷ []) [] m → AreTaken g a c (map (λ key. Struck key) (take (i + 1) ks)) [] (l || m)
+struck-more g a b c ks i d l m lt same s t = subst (λ es. AreTaken g a c es [] (l || m)) (sym (key-next ks i d (get_or ks i d) lt refl))
+    (taken-more g a b c (map (λ key. Struck key) (take i ks)) (Struck (get_or ks i d) ∷ []) [] [] l m same s t)
+
+-- a phase whose events were taken, and which says nothing itself
+pub keys-answered : (g : Gives) (a b : Seated) (es : List Event) (reply : Reply) → AreTaken g a b es (telling_bytes reply.telling) reply.leaving → IsAnswered g a b es [] reply
+keys-answered g a b es reply t = record { out = telling_bytes reply.telling; taken = t; told = sym (append-nil (telling_bytes reply.telling)) }
+
+-- a phase that has no event, and says this
+pub said-answered : (g : Gives) (x : Seated) (es : List Event) (said : List ℕ) (reply : Reply) → es ≡ [] → telling_bytes reply.telling ≡ said → reply.leaving ≡ false → IsAnswered g x x es said reply
+said-answered g x es said reply none told stays = record {
+  out = [];
+  taken = record { got = []; adds = adds-none (rules g) x.number x.seen; events_are = sym none; bytes = refl; leaving_is = sym stays };
+  told = told;
+}
+
+-- a phase of whose events none was taken
+pub none-answered : (g : Gives) (x : Seated) (es : List Event) → AreCut g x x es stop.NoMemory
+none-answered g x es = record { got = []; adds = adds-none (rules g) x.number x.seen; begins = (es, refl); short = tt }

@@ -4,6 +4,8 @@ use Rattle.std.specs.declared.result.Result.{Result}
 use Rattle.std.specs.Io.KnownBytes.{Appends}
 use Rattle.kak_ports.specs.Ports.{Outlet}
 use Rattle.key_names.specs.declared.key.Key.{Key}
+use Rattle.json_writing.specs.Drawings.{drawing_bytes}
+use Rattle.json_writing.specs.Refusals.{refusal_bytes}
 use Rattle.session_turns.specs.Histories.{Answer, own, events_of, bytes_of, is_leaving}
 use Rattle.session_turns.specs.Turns.{Phase, later, turns_of}
 use Rattle.session_turns.specs.Growth.{Begins, How, Whole, Over, Short, Unsent, Lost, Fits, Adds}
@@ -16,15 +18,24 @@ use Rattle.session_events.specs.Meaning.{Gives, rules}
 use Rattle.session_events.specs.Seats.{Seated, Sees}
 use Rattle.session_lines.specs.declared.playing.Stop.{Stop}
 use Rattle.session_lines.specs.declared.playing.Stop.TheVariants as stop
+use Rattle.session_lines.specs.declared.playing.Telling.{Telling}
+use Rattle.session_lines.specs.declared.playing.Telling.TheVariants.{Nothing, Drawn, Refused}
+use Rattle.session_lines.specs.declared.playing.Reply.{Reply}
 use Rattle.session_lines.specs.Session.{protocol}
 use Rattle.session_lines.specs.Stops.{IsLoss}
 
+-- what a client is told, in bytes
+abbrev pub telling_bytes : Telling → List ℕ
+telling_bytes Nothing = []
+telling_bytes (Drawn drawing) = drawing_bytes drawing
+telling_bytes (Refused refusal) = refusal_bytes refusal
+
 -- events were all taken, with these answers
-pub record AreTaken (gives : Gives) (old new : Seated) (events : List Event) (before out : List ℕ) (leaving : Bool) : Type 0 where
+pub record AreTaken (gives : Gives) (old new : Seated) (events : List Event) (out : List ℕ) (leaving : Bool) : Type 0 where
   pub got : List (Answer Event)
   pub adds : Adds (rules gives) old.number old.seen new.seen got
   pub events_are : events_of got ≡ events
-  pub bytes : out ≡ before ++ bytes_of got
+  pub bytes : out ≡ bytes_of got
   pub leaving_is : is_leaving got ≡ leaving
 
 -- where the history is full, events are left out
@@ -39,15 +50,26 @@ pub record AreCut (gives : Gives) (old new : Seated) (events : List Event) (why 
   pub begins : Begins events (events_of got)
   pub short : LeavesOut why (length got) (length events)
 
--- the events were taken, or a beginning of them
-abbrev pub Takes : Gives → Seated → Seated → List Event → List ℕ → List ℕ → Result Bool Stop → Type 0
-Takes gives old new events before out (Ok leaving) = AreTaken gives old new events before out leaving
-Takes gives old new events before out (Err why) = AreCut gives old new events why
+-- events that draw nothing were taken, or a beginning of them
+abbrev pub Takes : Gives → Seated → Seated → List Event → Result Bool Stop → Type 0
+Takes gives old new events (Ok leaving) = AreTaken gives old new events [] leaving
+Takes gives old new events (Err why) = AreCut gives old new events why
 
--- the client was drawn, by which it may not leave, or its drawing was refused or lost
-abbrev pub TakesDrawing : {A : Type 0} → Gives → Seated → Seated → List ℕ → List ℕ → Result A Stop → Type 0
-TakesDrawing gives old new before out (Ok _) = AreTaken gives old new (Refresh true ∷ []) before out false
-TakesDrawing gives old new before out (Err why) = AreCut gives old new (Refresh true ∷ []) why
+-- the client was drawn, by which it may not leave, or its drawing was refused
+abbrev pub TakesDrawing : Gives → Seated → Seated → Result Telling Stop → Type 0
+TakesDrawing gives old new (Ok telling) = AreTaken gives old new (Refresh true ∷ []) (telling_bytes telling) false
+TakesDrawing gives old new (Err why) = AreCut gives old new (Refresh true ∷ []) why
+
+-- A phase was played: its events were taken, and the client is to be told what they gave and then what the phase says itself.
+pub record IsAnswered (gives : Gives) (old new : Seated) (events : List Event) (said : List ℕ) (reply : Reply) : Type 0 where
+  pub out : List ℕ
+  pub taken : AreTaken gives old new events out reply.leaving
+  pub told : telling_bytes reply.telling ≡ out ++ said
+
+-- a phase was played, or a beginning of its events was taken
+abbrev pub Answers : Gives → Seated → Seated → List Event → List ℕ → Result Reply Stop → Type 0
+Answers gives old new events said (Ok reply) = IsAnswered gives old new events said reply
+Answers gives old new events said (Err why) = AreCut gives old new events why
 
 -- The client left: entries of others may have come before its leaving.
 pub record HasGone (gives : Gives) (old new : Seated) : Type 0 where

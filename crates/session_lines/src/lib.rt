@@ -11,6 +11,6 @@ pub mod turns;
 
 pub use connection::{play_connection, serve};
 pub use lines::play_bytes;
-pub use playing::{Stop, leave};
+pub use playing::{Reply, Stop, Telling, leave, play_keys};
 pub use reading::{InputEnd, MAX_INPUT, MAX_PIECE, play_source};
-pub use turns::{open, play_line};
+pub use turns::{answer_line, answer_opening, open, play_line};

@@ -1,15 +1,15 @@
 //! Events of a client that is joined, played over a seat.
 
-ghost use Rattle.std.specs.Prelude.{◌≡◌, ◌++◌, ◌∷◌, [], true, false, Some, IfOk, IfErr, IfSome, OnOk, OnErr};
+ghost use Rattle.std.specs.Prelude.{◌≡◌, ◌∷◌, [], true, false, Some, IfOk, IfErr, IfSome, OnErr};
 ghost use Rattle.session_events.specs.declared.event.Event.TheVariants.{Key as Struck};
 ghost use Rattle.session_events.specs.Entries.{is_join, is_leave};
 ghost use Rattle.session_events.specs.Meaning.{IsMeaning, drawn_bytes};
 ghost use Rattle.session_events.specs.Seats.{IsIn, IsSameSeat, IsLegalSeat, Steps, Sees};
 ghost use Rattle.session_lines.specs.Session.{keys_played};
-ghost use Rattle.session_lines.specs.Serving.{Takes, TakesDrawing, Leaves};
+ghost use Rattle.session_lines.specs.Serving.{telling_bytes, Takes, TakesDrawing, Answers, Leaves};
 ghost use Rattle.session_lines.specs.Stops.{IsReady, Stays, Stops, IsLoss};
 
-use json_writing::{Drawing, encode_drawing};
+use json_writing::{Drawing, Refusal};
 use key_names::Key;
 use session_events::{Event, Output, Seat, StepFault};
 use std::alloc::{AllocError, Global};
@@ -25,6 +25,26 @@ pub enum Stop {
     NoMemory,
     /// A write failed; some of the turn's bytes may have been sent.
     WriteFault,
+}
+
+/// What a client is told at the end of a phase.
+#[derive(Drop, Debug)]
+pub enum Telling {
+    /// Nothing.
+    Nothing,
+    /// What is drawn for it.
+    Drawn(Drawing),
+    /// Why its line is refused.
+    Refused(Refusal),
+}
+
+/// What the playing of a phase gives its client.
+#[derive(Drop, Debug)]
+pub struct Reply {
+    /// What it is to be told.
+    pub telling: Telling,
+    /// Whether it may leave.
+    pub leaving: bool,
 }
 
 impl From<AllocError> for Stop {
@@ -43,6 +63,7 @@ fn take<S: Seat>(alloc: Global, seat: &mut S, event: Event) -> Result<Output, St
     requires joins_no_more { is_join event ≡ false }
     ensures meaning { IsMeaning S.gives }
     ensures same { IsSameSeat (S.seated seat.old) (S.seated seat.new) }
+    ensures kept { S.kept seat.new ≡ S.kept seat.old }
     ensures legal { IsLegalSeat (S.seated seat.new) }
     ensures joined { is_leave event ≡ false → IsIn (S.seated seat.new) }
     ensures ok { IfOk result (λ output. Steps S.gives (S.seated seat.old) (S.seated seat.new) event output) }
@@ -62,13 +83,13 @@ fn take<S: Seat>(alloc: Global, seat: &mut S, event: Event) -> Result<Output, St
     }
 }
 
-// Adds the bytes of a drawing, if there is one.
-fn add_drawing(drawing: &Option<Drawing>, out: &mut Vec<u8>) -> Result<(), AllocError>
-    ensures { OnOk result (out.new.items ≡ out.old.items ++ drawn_bytes drawing.now) }
+// What is told of a drawing, if there is one.
+fn telling_of(drawing: Option<Drawing>) -> Telling
+    ensures { telling_bytes result ≡ drawn_bytes drawing }
 {
     match drawing {
-        None => Ok(()),
-        Some(drawing) => encode_drawing(drawing, out),
+        None => Telling::Nothing,
+        Some(drawing) => Telling::Drawn(drawing),
     }
 }
 
@@ -77,55 +98,49 @@ fn strike<S: Seat>(alloc: Global, seat: &mut S, key: Key) -> Result<bool, Stop>
     requires { IsReady (S.seated seat.old) }
     ensures meaning { IsMeaning S.gives }
     ensures stays { Stays (S.seated seat.old) (S.seated seat.new) }
-    ensures takes { Takes S.gives (S.seated seat.old) (S.seated seat.new) (Struck key ∷ []) [] [] result }
+    ensures kept { S.kept seat.new ≡ S.kept seat.old }
+    ensures takes { Takes S.gives (S.seated seat.old) (S.seated seat.new) (Struck key ∷ []) result }
     ensures stops { Stops result (S.seated seat.new) }
 {
     let output = take(alloc, seat, Event::Key(key))?;
     Ok(output.leaving)
 }
 
-/// Draws the client; the bytes of the drawing are added.
-pub(crate) fn play_drawing<S: Seat>(
-    alloc: Global,
-    seat: &mut S,
-    out: &mut Vec<u8>,
-) -> Result<(), Stop>
+// Draws the client.
+fn draw<S: Seat>(alloc: Global, seat: &mut S) -> Result<Telling, Stop>
     requires { IsReady (S.seated seat.old) }
     ensures meaning { IsMeaning S.gives }
     ensures stays { Stays (S.seated seat.old) (S.seated seat.new) }
-    ensures takes { TakesDrawing S.gives (S.seated seat.old) (S.seated seat.new) out.old.items out.new.items result }
+    ensures kept { S.kept seat.new ≡ S.kept seat.old }
+    ensures takes { TakesDrawing S.gives (S.seated seat.old) (S.seated seat.new) result }
     ensures stops { Stops result (S.seated seat.new) }
 {
     let output = take(alloc, seat, Event::Refresh(true))?;
-    add_drawing(&output.drawing, out)?;
-    Ok(())
+    Ok(telling_of(output.drawing))
 }
 
-/// Strikes keys and draws the client; the bytes of the drawing are added. Tells whether the client may leave.
-pub fn play_keys<S: Seat>(
-    alloc: Global,
-    seat: &mut S,
-    keys: &[Key],
-    out: &mut Vec<u8>,
-) -> Result<bool, Stop>
+/// Strikes keys and draws the client.
+pub fn play_keys<S: Seat>(alloc: Global, seat: &mut S, keys: &[Key]) -> Result<Reply, Stop>
     requires { IsReady (S.seated seat.old) }
     ensures meaning { IsMeaning S.gives }
     ensures stays { Stays (S.seated seat.old) (S.seated seat.new) }
-    ensures takes { Takes S.gives (S.seated seat.old) (S.seated seat.new) (keys_played keys.now) out.old.items out.new.items result }
+    ensures kept { S.kept seat.new ≡ S.kept seat.old }
+    ensures answers { Answers S.gives (S.seated seat.old) (S.seated seat.new) (keys_played keys.now) [] result }
     ensures stops { Stops result (S.seated seat.new) }
 {
     let mut leaving = false;
     for &key in keys {
         leaving |= strike(alloc, seat, key)?;
     }
-    play_drawing(alloc, seat, out)?;
-    Ok(leaving)
+    let telling = draw(alloc, seat)?;
+    Ok(Reply { telling, leaving })
 }
 
 /// Lets the client go.
 pub fn leave<S: Seat>(alloc: Global, seat: &mut S) -> Result<(), Stop>
     requires { IsReady (S.seated seat.old) }
     ensures same { IsSameSeat (S.seated seat.old) (S.seated seat.new) }
+    ensures kept { S.kept seat.new ≡ S.kept seat.old }
     ensures legal { IsLegalSeat (S.seated seat.new) }
     ensures leaves { Leaves S.gives (S.seated seat.old) (S.seated seat.new) result }
     ensures marked { IfSome (S.seated seat.old).mark (λ at. (S.seated seat.new).mark ≡ Some at) }

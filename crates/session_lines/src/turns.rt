@@ -1,6 +1,6 @@
-//! The phases of a connection: what it plays is played, and what that gives is sent at the end of the phase.
+//! The phases of a connection: what it plays is played, and what that gives is told at the end of the phase.
 
-ghost use Rattle.std.specs.Prelude.{◌≡◌, List, ◌∷◌, [], Err};
+ghost use Rattle.std.specs.Prelude.{◌≡◌, List, ◌∷◌, [], OnOk};
 ghost use Rattle.key_names.specs.declared.key.Key.{Key};
 ghost use Rattle.json_ui.specs.Requests.{read_request};
 ghost use Rattle.session_turns.specs.Histories.{own};
@@ -8,17 +8,63 @@ ghost use Rattle.session_turns.specs.Turns.{Opening};
 ghost use Rattle.session_events.specs.declared.event.Event.TheVariants.{Join};
 ghost use Rattle.session_events.specs.Meaning.{rules};
 ghost use Rattle.session_lines.specs.Session.{keys_played, played_by, refused_by};
-ghost use Rattle.session_lines.specs.Serving.{service, Serves, how_of, line_phases, unseen};
-ghost use Rattle.session_lines.specs.Sending.{Sends, Counts};
-ghost use Rattle.session_lines.specs.Stops.{IsReady, Stays, Causes};
+ghost use Rattle.session_lines.specs.Serving.{service, telling_bytes, Answers, Serves, how_of, line_phases, unseen};
+ghost use Rattle.session_lines.specs.Sending.{Sends, Counts, Tells};
+ghost use Rattle.session_lines.specs.Stops.{IsReady, Stays, Stops, Causes};
 
-use crate::playing::{Stop, play_keys};
+use crate::playing::{Reply, Stop, Telling, play_keys};
 use json_ui::{LineError, Request, decode_line};
-use json_writing::{Refusal, encode_refusal};
+use json_writing::{encode_drawing, encode_refusal};
 use kak_ports::{Put, Sink};
 use key_names::Key;
 use session_events::Seat;
-use std::alloc::Global;
+use std::alloc::{AllocError, Global};
+
+/// Plays one line, without its newline, and gives what the client is to be told.
+pub fn answer_line<S: Seat>(alloc: Global, seat: &mut S, line: &[u8]) -> Result<Reply, Stop>
+    requires { IsReady (S.seated seat.old) }
+    ensures stays { Stays (S.seated seat.old) (S.seated seat.new) }
+    ensures kept { S.kept seat.new ≡ S.kept seat.old }
+    ensures answers { Answers S.gives (S.seated seat.old) (S.seated seat.new) (played_by (read_request line.now)) (refused_by (read_request line.now)) result }
+    ensures stops { Stops result (S.seated seat.new) }
+{
+    match decode_line(alloc, line) {
+        Ok(Request::Nothing) => Ok(Reply {
+            telling: Telling::Nothing,
+            leaving: false,
+        }),
+        Ok(Request::Keys(keys)) => play_keys(alloc, seat, keys.as_slice()),
+        Err(LineError::Refused(refusal)) => Ok(Reply {
+            telling: Telling::Refused(refusal),
+            leaving: false,
+        }),
+        Err(LineError::NoMemory) => Err(Stop::NoMemory),
+    }
+}
+
+/// Opens a connection whose client has joined: keys are struck, and it is drawn. Gives what the client is to be told.
+pub fn answer_opening<S: Seat>(alloc: Global, seat: &mut S, keys: &[Key]) -> Result<Reply, Stop>
+    requires ready { IsReady (S.seated seat.old) }
+    requires new { own (rules S.gives) (S.seated seat.old).number (S.seated seat.old).seen ≡ Join ∷ [] }
+    ensures stays { Stays (S.seated seat.old) (S.seated seat.new) }
+    ensures kept { S.kept seat.new ≡ S.kept seat.old }
+    ensures answers { Answers S.gives (unseen (S.seated seat.old)) (S.seated seat.new) (Join ∷ keys_played keys.now) [] result }
+    ensures stops { Stops result (S.seated seat.new) }
+{
+    play_keys(alloc, seat, keys)
+}
+
+// Writes what a client is told as lines of JSON, behind what stands there.
+fn write_telling(telling: &Telling, out: &mut Vec<u8>) -> Result<(), AllocError>
+    requires { out.old.items ≡ [] }
+    ensures { OnOk result (out.new.items ≡ telling_bytes telling.now) }
+{
+    match telling {
+        Telling::Nothing => Ok(()),
+        Telling::Drawn(drawing) => encode_drawing(drawing, out),
+        Telling::Refused(refusal) => encode_refusal(*refusal, out),
+    }
+}
 
 // Sends bytes.
 fn send<K: Sink>(sink: &mut K, bytes: &[u8]) -> Result<(), Stop>
@@ -31,44 +77,16 @@ fn send<K: Sink>(sink: &mut K, bytes: &[u8]) -> Result<(), Stop>
     }
 }
 
-// Refuses a line that is refused.
-fn refuse_line<S: Seat, K: Sink>(
-    seat: &S,
-    sink: &mut K,
-    out: &mut Vec<u8>,
-    line: &[u8],
-    refusal: Refusal,
-) -> Result<bool, Stop>
-    requires refused { read_request line.now ≡ Err refusal }
-    ensures serves { (opens : List Key) → Serves (service S.gives opens) (S.seated seat.now) (S.seated seat.now) (K.outlet sink.old) (K.outlet sink.new) (how_of result) (line_phases (line.now ∷ [])) }
-    ensures cause { Causes result (S.seated seat.now) (K.outlet sink.old) (K.outlet sink.new) }
+// Sends what a client is told. Where that is nothing, nothing is put.
+fn send_telling<K: Sink>(sink: &mut K, out: &mut Vec<u8>, telling: &Telling) -> Result<(), Stop>
+    ensures { Tells result (K.outlet sink.old) (K.outlet sink.new) (telling_bytes telling.now) }
 {
     out.clear();
-    encode_refusal(refusal, out)?;
-    send(sink, out.as_slice())?;
-    Ok(false)
-}
-
-// Plays the keys of a line.
-fn play_keys_line<S: Seat, K: Sink>(
-    alloc: Global,
-    seat: &mut S,
-    sink: &mut K,
-    out: &mut Vec<u8>,
-    line: &[u8],
-    keys: &[Key],
-) -> Result<bool, Stop>
-    requires ready { IsReady (S.seated seat.old) }
-    requires asked { played_by (read_request line.now) ≡ keys_played keys.now }
-    requires accepted { refused_by (read_request line.now) ≡ [] }
-    ensures stays { Stays (S.seated seat.old) (S.seated seat.new) }
-    ensures serves { (opens : List Key) → Serves (service S.gives opens) (S.seated seat.old) (S.seated seat.new) (K.outlet sink.old) (K.outlet sink.new) (how_of result) (line_phases (line.now ∷ [])) }
-    ensures cause { Causes result (S.seated seat.new) (K.outlet sink.old) (K.outlet sink.new) }
-{
-    out.clear();
-    let leaving = play_keys(alloc, seat, keys, out)?;
-    send(sink, out.as_slice())?;
-    Ok(leaving)
+    write_telling(telling, out)?;
+    if out.is_empty() {
+        return Ok(());
+    }
+    send(sink, out.as_slice())
 }
 
 /// Plays one line, without its newline, and sends what it gives. Tells whether the client may leave.
@@ -81,15 +99,13 @@ pub fn play_line<S: Seat, K: Sink>(
 ) -> Result<bool, Stop>
     requires { IsReady (S.seated seat.old) }
     ensures stays { Stays (S.seated seat.old) (S.seated seat.new) }
+    ensures kept { S.kept seat.new ≡ S.kept seat.old }
     ensures serves { (opens : List Key) → Serves (service S.gives opens) (S.seated seat.old) (S.seated seat.new) (K.outlet sink.old) (K.outlet sink.new) (how_of result) (line_phases (line.now ∷ [])) }
     ensures cause { Causes result (S.seated seat.new) (K.outlet sink.old) (K.outlet sink.new) }
 {
-    match decode_line(alloc, line) {
-        Ok(Request::Nothing) => Ok(false),
-        Ok(Request::Keys(keys)) => play_keys_line(alloc, seat, sink, out, line, keys.as_slice()),
-        Err(LineError::Refused(refusal)) => refuse_line(seat, sink, out, line, refusal),
-        Err(LineError::NoMemory) => Err(Stop::NoMemory),
-    }
+    let reply = answer_line(alloc, seat, line)?;
+    send_telling(sink, out, &reply.telling)?;
+    Ok(reply.leaving)
 }
 
 /// Opens a connection whose client has joined: keys are struck, and its first drawing is sent. Tells whether the client may
@@ -104,11 +120,11 @@ pub fn open<S: Seat, K: Sink>(
     requires ready { IsReady (S.seated seat.old) }
     requires new { own (rules S.gives) (S.seated seat.old).number (S.seated seat.old).seen ≡ Join ∷ [] }
     ensures stays { Stays (S.seated seat.old) (S.seated seat.new) }
+    ensures kept { S.kept seat.new ≡ S.kept seat.old }
     ensures serves { Serves (service S.gives keys.now) (unseen (S.seated seat.old)) (S.seated seat.new) (K.outlet sink.old) (K.outlet sink.new) (how_of result) (Opening ∷ []) }
     ensures cause { Causes result (S.seated seat.new) (K.outlet sink.old) (K.outlet sink.new) }
 {
-    out.clear();
-    let leaving = play_keys(alloc, seat, keys, out)?;
-    send(sink, out.as_slice())?;
-    Ok(leaving)
+    let reply = answer_opening(alloc, seat, keys)?;
+    send_telling(sink, out, &reply.telling)?;
+    Ok(reply.leaving)
 }

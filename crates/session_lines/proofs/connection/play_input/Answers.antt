@@ -16,6 +16,7 @@ returns-in-Ended-clause-plays g c = λ opens. last-stays _ _ _ _ _ _ _ _ _ _ _ _
 pub returns : goal.returns
 returns g c = record {
   stays = c.in_ok-ending.ensures.stays;
+  kept = c.in_ok-ending.ensures.kept;
   plays = λ opens. input-played _ _ _ _ _ _ _ c.in_ok-ending.ending _ c.in_default.not-Ended (c.in_ok-ending.ensures.reads opens);
   fault = c.in_ok-ending.ensures.fault;
   cause = c.in_ok-ending.ensures.cause;

@@ -1,14 +1,18 @@
-use Rattle.std.proofs.Common.{[], Ok, ap, ◌∙◌}
-use Rattle.std.proofs.KnownBytes.{Appends-nil}
-use Rattle.session_lines.specs.Session.{played_by, refused_by}
+use Rattle.std.proofs.Common.{refl}
+use Rattle.std.proofs.lemmas.Result.{err_from_is_err_and}
 use Rattle.session_turns.specs.Turns.{Line, During}
-use Rattle.session_lines.proofs.ServingLemmas.{serves-none, serves-said}
+use Rattle.session_lines.proofs.ServingLemmas.{serves-cut, answered-told, answered-untold}
 use Rattle.session_lines.proofs.turns.play_line.Goals as goal
 
-pub returns-in-Err-NoMemory-clause-serves : goal.returns-in-Err-NoMemory-clause-serves
-returns-in-Err-NoMemory-clause-serves g c = λ opens. serves-none _ _ _ (During (Line c.args.line.now))
+pub returns-in_err-reply-clause-serves : goal.returns-in_err-reply-clause-serves
+returns-in_err-reply-clause-serves g c =
+    let p = err_from_is_err_and c.from_residual.result c.from_residual.ensures.1 in
+    rw (p.1, p.2) (λ opens. serves-cut _ _ _ _ (During (Line c.args.line.now)) _ _ c.in_err-reply.ensures.stops c.in_err-reply.ensures.answers refl)
 
-pub returns-in-Ok-Nothing-clause-serves : goal.returns-in-Ok-Nothing-clause-serves
-returns-in-Ok-Nothing-clause-serves g c =
-    let read = c.in-Ok-Nothing.ensures.request ∙ ap (λ r. Ok r) c.in-Ok-Nothing.field-0-is in
-    λ opens. serves-said _ _ _ _ (During (Line c.args.line.now)) [] (ap played_by read) (ap refused_by read) (Appends-nil _)
+pub returns-in_err-send_telling-clause-serves : goal.returns-in_err-send_telling-clause-serves
+returns-in_err-send_telling-clause-serves g c =
+    let p = err_from_is_err_and c.from_residual-in_err-send_telling.result c.from_residual-in_err-send_telling.ensures.1 in
+    rw (p.1, p.2) (λ opens. answered-untold _ _ _ _ _ (During (Line c.args.line.now)) _ _ _ _ c.in_ok-reply.ensures.answers refl refl c.in_err-send_telling.ensures)
+
+pub returns-clause-serves : goal.returns-clause-serves
+returns-clause-serves g c = λ opens. answered-told _ _ _ _ _ (During (Line c.args.line.now)) _ _ c.in_ok-reply.reply c.in_ok-reply.ensures.answers refl refl c.in_ok-send_telling.ensures.0
