@@ -1,0 +1,13 @@
+//! Lines, read one by one from a source of bytes: a call takes what the next line needs and nothing behind it, and tells
+//! how the input ended, where it did.
+#![tactic(auto)]
+
+pub mod limits;
+pub mod pieces;
+pub mod reader;
+
+pub use limits::{MAX_INPUT, MAX_PIECE};
+pub use reader::{LineReader, Next};
+
+#[cfg(test)]
+mod tests;
