@@ -113,3 +113,15 @@ pub part-given : (given : List (List ℕ)) (rest : List ℕ) → AllByRecursion 
 part-given [] rest h = refl
 part-given (line ∷ given) rest h =
     ap (last_part []) (given-next line given rest) ∙ part-first line (with_newlines given ++ rest) h.0 ∙ part-given given rest h.1
+
+-- one more line behind those that were put together
+pub given-pushed : (given : List (List ℕ)) (line rest : List ℕ) → with_newlines (given ++ line ∷ []) ++ rest ≡ with_newlines given ++ (line ++ 10 ∷ rest)
+given-pushed [] line rest = given-next line [] rest
+given-pushed (first ∷ given) line rest =
+    given-next first (given ++ line ∷ []) rest
+    ∙ ap (λ q. first ++ 10 ∷ q) (given-pushed given line rest)
+    ∙ sym (given-next first given (line ++ 10 ∷ rest))
+
+pub none-pushed : (given : List (List ℕ)) (line : List ℕ) → AllByRecursion HasNoNewline given → HasNoNewline line → AllByRecursion HasNoNewline (given ++ line ∷ [])
+none-pushed [] line h k = (k, tt)
+none-pushed (first ∷ given) line h k = (h.0, none-pushed given line h.1 k)
