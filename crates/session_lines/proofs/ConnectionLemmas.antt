@@ -9,7 +9,7 @@ use Rattle.std.specs.Prelude.{if◌then◌else◌}
 use Rattle.std.proofs.lemmas.List.{take_all}
 use Rattle.kak_ports.specs.Ports.{Inlet, Outlet}
 use Rattle.key_names.specs.declared.key.Key.{Key}
-use Rattle.session_turns.specs.Lines.{whole_lines, last_part, as_line, lines_of_input}
+use Rattle.session_turns.specs.Lines.{whole_lines}
 use Rattle.session_turns.specs.Histories.{Answer, own, answers, is_leaving}
 use Rattle.session_turns.specs.Turns.{Phase, Opening, turns_of, lines_among, plays, answers_to}
 use Rattle.session_turns.specs.Growth.{Whole, Over, Adds, IsWhole, IsOver}
@@ -17,7 +17,7 @@ use Rattle.session_turns.specs.Headline.{Lost, Stands, LinesRead, AreLines}
 use Rattle.session_turns.proofs.Lists.{is_leaving-append, length-events_of}
 use Rattle.session_turns.proofs.TurnLemmas.{flat_map-append}
 use Rattle.session_turns.proofs.HistoryLemmas.{adds-others, adds-append, adds-answers, adds-own_events, leave-answers, leave-own}
-use Rattle.session_turns.proofs.Ends.{HasLeft, HasStayed, HasLost, left-stands, closed-stands, refused-stands, unsent-stands, lost-lost, short-lost, whole-lost, over-lost, whole-answers}
+use Rattle.session_turns.proofs.Ends.{HasLeft, HasStayed, HasLost, left-stands, closed-stands, refused-stands, unsent-stands, lost-lost, short-lost, whole-lost, over-lost}
 use Rattle.session_events.specs.declared.event.Event.{Event}
 use Rattle.session_events.specs.declared.event.Event.TheVariants.{Leave}
 use Rattle.session_events.specs.declared.event.Entry.{Entry}
@@ -31,93 +31,16 @@ use Rattle.session_lines.specs.declared.reading.InputEnd.TheVariants.{Left, Ende
 use Rattle.session_lines.specs.Session.{protocol}
 use Rattle.session_lines.specs.Stops.{IsLoss}
 use Rattle.session_lines.specs.Serving.{Service, Serves, HasGone, how_of, line_phases}
-use Rattle.session_lines.specs.Reading.{Reads, how_read, IsAll, EndIs}
+use Rattle.line_reading.specs.Reading.{IsAll}
+use Rattle.session_lines.specs.Reading.{how_read, EndIs}
 use Rattle.session_lines.specs.Connections.{end_of, is_unwritten, Plays, WasServed}
-use Rattle.session_lines.proofs.LineLemmas.{turns-append}
-use Rattle.session_lines.proofs.ReadingLemmas.{with-phases}
+use Rattle.session_lines.proofs.ReadingLemmas.{stopped-lines}
 use Rattle.session_lines.proofs.ServingLemmas.{serves-append}
 
 -- the lines of turns
 lines-are : (lines : List (List ℕ)) → lines_among (turns_of lines) ≡ lines
 lines-are [] = refl
 lines-are (l ∷ lines) = ap (λ r. l ∷ r) (lines-are lines)
-
--- an end that isn't told by a last line
-pub input-played : (g : Service) (old new : Seated) (a b : Outlet) (left rest : Inlet) (ending : InputEnd) (part : List ℕ) → (ending ≡ Ended → ⊥) → Reads g old new a b left rest (Ok ending) part → Plays [] g old new a b left rest (Ok ending)
-input-played g old new a b left rest Left part n r = record { bytes = r.bytes; takes = r.takes; few = r.few; lines = whole_lines [] r.bytes; lines_are = inl refl; serves = r.serves; end_is = r.end_is }
-input-played g old new a b left rest Ended part n r = absurd (n refl)
-input-played g old new a b left rest ReadFault part n r = record { bytes = r.bytes; takes = r.takes; few = r.few; lines = whole_lines [] r.bytes; lines_are = refl; serves = r.serves; end_is = r.end_is }
-input-played g old new a b left rest Full part n r = record { bytes = r.bytes; takes = r.takes; few = r.few; lines = whole_lines [] r.bytes; lines_are = refl; serves = r.serves; end_is = r.end_is }
-
--- of lines that were cut short, these are those that were read
-stopped-lines : (why : Stop) (ended : Type 0) (bytes : List ℕ) (lines : List (List ℕ)) → AreLines ended bytes lines → LinesRead (end_of (Err why)) ended bytes lines
-stopped-lines stop.HistoryFull ended bytes lines a = a
-stopped-lines (stop.Broken at) ended bytes lines a = a
-stopped-lines stop.NoMemory ended bytes lines a = a
-stopped-lines stop.WriteFault ended bytes lines a = a
-
--- playing stopped before the input's end was known
-pub input-stopped : (g : Service) (old new : Seated) (a b : Outlet) (left rest : Inlet) (why : Stop) (part : List ℕ) → Reads g old new a b left rest (Err why) part → Plays [] g old new a b left rest (Err why)
-input-stopped g old new a b left rest why part r = record { bytes = r.bytes; takes = r.takes; few = r.few; lines = whole_lines [] r.bytes; lines_are = stopped-lines why _ r.bytes _ (inl refl); serves = r.serves; end_is = tt }
-
--- an end that was told
-pub ended : (g : Service) (old new : Seated) (a b : Outlet) (left rest : Inlet) (ending : InputEnd) (part : List ℕ) → ending ≡ Ended → Reads g old new a b left rest (Ok ending) part → Reads g old new a b left rest (Ok Ended) part
-ended g old new a b left rest ending part e r = subst (λ q. Reads g old new a b left rest (Ok q) part) e r
-
--- the phases of the last line behind those of the whole ones
-last-phases : (bytes line : List ℕ) → line ≡ last_part [] bytes → line_phases (whole_lines [] bytes) ++ line_phases (as_line line) ≡ line_phases (lines_of_input bytes)
-last-phases bytes line e = ap (λ p. line_phases (whole_lines [] bytes) ++ line_phases (as_line p)) e ∙ sym (turns-append (whole_lines [] bytes) (as_line (last_part [] bytes)))
-
--- the last line was played, and the client stays, or may leave
-pub last-stays : (g : Service) (old mid new : Seated) (a b c : Outlet) (left rest : Inlet) (part line : List ℕ) (l : Bool) → l ≡ false → IsSameSeat old mid → line ≡ part
-    → Reads g old mid a b left rest (Ok Ended) part → Serves g mid new b c (how_of (Ok l)) (line_phases (as_line line)) → Plays [] g old new a c left rest (Ok Ended)
-last-stays g old mid new a b c left rest part line l f same e r t = record {
-  bytes = r.bytes;
-  takes = r.takes;
-  few = r.few;
-  lines = lines_of_input r.bytes;
-  lines_are = (r.end_is, refl);
-  serves = subst (λ ts. Serves g old new a c Whole ts) (last-phases r.bytes line (e ∙ r.part_is))
-      (serves-append g old mid new a b c Whole (line_phases (whole_lines [] r.bytes)) (line_phases (as_line line)) same r.serves (subst (λ q. Serves g mid new b c (how_of (Ok q)) (line_phases (as_line line))) f t));
-  end_is = r.end_is;
-}
-
-pub last-leaves : (g : Service) (old mid new : Seated) (a b c : Outlet) (left rest : Inlet) (part line : List ℕ) (l : Bool) → l ≡ true → IsSameSeat old mid → line ≡ part
-    → Reads g old mid a b left rest (Ok Ended) part → Serves g mid new b c (how_of (Ok l)) (line_phases (as_line line)) → Plays [] g old new a c left rest (Ok Left)
-last-leaves g old mid new a b c left rest part line l f same e r t = record {
-  bytes = r.bytes;
-  takes = r.takes;
-  few = r.few;
-  lines = lines_of_input r.bytes;
-  lines_are = inr (r.end_is, refl);
-  serves = found.0;
-  end_is = inr (inr (
-    r.end_is,
-    ap (λ q. is_leaving (answers_to (protocol g.opens) (line_phases (whole_lines [] r.bytes)) q)) found.1
-        ∙ ap is_leaving (whole-answers (protocol g.opens) (line_phases (whole_lines [] r.bytes)) r.serves.got now.got r.serves.out r.serves.fits)
-        ∙ r.serves.fits.stays,
-  ));
-}
-  where
-    now : Serves g mid new b c Over (line_phases (as_line line))
-    now = subst (λ q. Serves g mid new b c (how_of (Ok q)) (line_phases (as_line line))) f t
-
-    found : (t : Serves g old new a c Over (line_phases (lines_of_input r.bytes))) × (t.got ≡ r.serves.got ++ now.got)
-    found = with-phases g old new a c Over _ _ (last-phases r.bytes line (e ∙ r.part_is)) (serves-append g old mid new a b c Over (line_phases (whole_lines [] r.bytes)) (line_phases (as_line line)) same r.serves now)
-
--- playing stopped in the last line
-pub last-stopped : (g : Service) (old mid new : Seated) (a b c : Outlet) (left rest : Inlet) (part line : List ℕ) (why : Stop) → IsSameSeat old mid → line ≡ part
-    → Reads g old mid a b left rest (Ok Ended) part → Serves g mid new b c (how_of (Err why)) (line_phases (as_line line)) → Plays [] g old new a c left rest (Err why)
-last-stopped g old mid new a b c left rest part line why same e r t = record {
-  bytes = r.bytes;
-  takes = r.takes;
-  few = r.few;
-  lines = lines_of_input r.bytes;
-  lines_are = stopped-lines why _ r.bytes _ (inr (r.end_is, refl));
-  serves = subst (λ ts. Serves g old new a c (how_of (Err why)) ts) (last-phases r.bytes line (e ∙ r.part_is))
-      (serves-append g old mid new a b c (how_of (Err why)) (line_phases (whole_lines [] r.bytes)) (line_phases (as_line line)) same r.serves t);
-  end_is = tt;
-}
 
 -- an opening that stopped: nothing was read
 pub opening-stopped : (g : Service) (old new : Seated) (a b : Outlet) (left : Inlet) (why : Stop) → Serves g old new a b (how_of (Err why)) (Opening ∷ []) → Plays (Opening ∷ []) g old new a b left left (Err why)

@@ -3,6 +3,5 @@ pub mod StayingLemmas
 pub mod TakingLemmas
 pub mod OpeningLemmas
 pub mod ServingLemmas
-pub mod LineLemmas
 pub mod ReadingLemmas
 pub mod ConnectionLemmas

@@ -11,13 +11,14 @@ use Rattle.session_events.specs.Meaning.{rules}
 use Rattle.session_events.specs.Seats.{Seated}
 use Rattle.session_lines.specs.declared.playing.Stop.{Stop}
 use Rattle.session_lines.specs.declared.playing.Stop.TheVariants.{HistoryFull, WriteFault}
-use Rattle.session_lines.specs.declared.reading.TheConstants.{MAX_INPUT}
+use Rattle.line_reading.specs.declared.limits.TheConstants.{MAX_INPUT}
+use Rattle.line_reading.specs.Reading.{IsAll}
 use Rattle.session_lines.specs.declared.reading.InputEnd.{InputEnd}
 use Rattle.session_lines.specs.declared.reading.InputEnd.TheVariants.{Left, Ended, ReadFault, Full}
 use Rattle.session_lines.specs.Session.{protocol}
 use Rattle.session_lines.specs.Stops.{NoneFailed, Causes}
 use Rattle.session_lines.specs.Serving.{Service, Serves, line_phases}
-use Rattle.session_lines.specs.Reading.{how_read, IsAll, EndIs}
+use Rattle.session_lines.specs.Reading.{how_read, EndIs}
 
 -- how a connection ended
 abbrev pub end_of : Result InputEnd Stop → End

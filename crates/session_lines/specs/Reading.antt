@@ -1,34 +1,27 @@
 -- What the reading of a connection's input did.
-use Rattle.std.specs.Prelude.{◌≡◌, ℕ, ◌≤◌, ◌⊎◌, true, false, List, [], ◌++◌, length, ⊤, Ok, Err, IfSome}
+use Rattle.std.specs.Prelude.{◌≡◌, ℕ, ◌≤◌, ◌⊎◌, true, false, List, [], ◌++◌, length, ⊤, Ok, Err}
 use Rattle.std.specs.declared.result.Result.{Result}
-use Rattle.std.specs.Io.KnownBytes.{Consumes}
-use Rattle.kak_ports.specs.Ports.{Inlet, Outlet, Rose}
+use Rattle.kak_ports.specs.Ports.{Inlet, Rose}
 use Rattle.key_names.specs.declared.key.Key.{Key}
-use Rattle.session_turns.specs.Lines.{whole_lines, last_part}
+use Rattle.session_turns.specs.Lines.{whole_lines}
 use Rattle.session_turns.specs.Histories.{Answer, is_leaving}
 use Rattle.session_turns.specs.Turns.{Phase, answers_to}
 use Rattle.session_turns.specs.Growth.{How, Whole, Over}
 use Rattle.session_events.specs.declared.event.Event.{Event}
-use Rattle.session_events.specs.Seats.{Seated}
-use Rattle.session_lines.specs.declared.reading.TheConstants.{MAX_INPUT, MAX_PIECE}
+use Rattle.line_reading.specs.declared.limits.TheConstants.{MAX_INPUT, MAX_PIECE}
+use Rattle.line_reading.specs.Reading.{IsAll}
 use Rattle.session_lines.specs.declared.playing.Stop.{Stop}
 use Rattle.session_lines.specs.declared.playing.Stop.TheVariants as stop
 use Rattle.session_lines.specs.declared.reading.InputEnd.{InputEnd}
 use Rattle.session_lines.specs.declared.reading.InputEnd.TheVariants.{Left, Ended, ReadFault, Full}
 use Rattle.session_lines.specs.Session.{protocol}
-use Rattle.session_lines.specs.Serving.{Service, Serves, how_of, line_phases}
+use Rattle.session_lines.specs.Serving.{how_of, line_phases}
 
 -- how the phases of the lines got on
 abbrev pub how_read : Result InputEnd Stop → How
 how_read (Ok Left) = Over
 how_read (Ok _) = Whole
 how_read (Err stop) = how_of (Err stop)
-
--- what has come of the next line is kept, where the client stays and nothing stopped
-abbrev pub PartIs : Result InputEnd Stop → List ℕ → List ℕ → Type 0
-PartIs (Ok Left) part bytes = ⊤
-PartIs (Ok _) part bytes = part ≡ last_part [] bytes
-PartIs (Err stop) part bytes = ⊤
 
 -- the client wasn't let go in the phases before the lines that some bytes complete, nor in these
 abbrev pub WasKept : List Key → List Phase → List (Answer Event) → List ℕ → Type 0
@@ -48,10 +41,6 @@ pub record WasLetGoLast (opens : List Key) (first : List Phase) (got : List (Ans
   pub most : length piece ≤ left.most
   pub kept : WasKept opens first got before
 
--- the bytes are all that the input had, where its bytes are told: it has ended
-abbrev pub IsAll : Inlet → List ℕ → Type 0
-IsAll left bytes = IfSome left.left (λ input. input ≡ bytes)
-
 -- At each end of the reading: the client was let go before all lines, in the last piece, or in a last part where the input
 -- has ended; an input that ended is the bytes that were taken; one that is too long gave all that may be taken.
 abbrev pub EndIs : List Key → List Phase → List (Answer Event) → Result InputEnd Stop → Inlet → List ℕ → Type 0
@@ -68,12 +57,3 @@ FaultIs (Ok ReadFault) left rest = Rose left.faults rest.faults
 FaultIs (Ok _) left rest = rest.faults ≡ left.faults
 FaultIs (Err (stop.Broken at)) left rest = (rest.faults ≡ left.faults) ⊎ Rose left.faults rest.faults
 FaultIs (Err _) left rest = rest.faults ≡ left.faults
-
--- Bytes were taken from the input, no more than may be, and the lines that they complete were played.
-pub record Reads (with : Service) (old new : Seated) (before now : Outlet) (left rest : Inlet) (result : Result InputEnd Stop) (part : List ℕ) : Type 0 where
-  pub bytes : List ℕ
-  pub takes : Consumes left.left rest.left bytes
-  pub few : length bytes ≤ MAX_INPUT
-  pub serves : Serves with old new before now (how_read result) (line_phases (whole_lines [] bytes))
-  pub part_is : PartIs result part bytes
-  pub end_is : EndIs with.opens [] serves.got result left bytes

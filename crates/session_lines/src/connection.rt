@@ -1,72 +1,23 @@
 //! A connection, from its first drawing to its leaving.
 
-ghost use Rattle.std.specs.Prelude.{◌≡◌, List, ◌∷◌, []};
-ghost use Rattle.key_names.specs.declared.key.Key.{Key};
+ghost use Rattle.std.specs.Prelude.{◌≡◌, ◌∷◌, []};
 ghost use Rattle.session_turns.specs.Histories.{own};
-ghost use Rattle.session_turns.specs.Lines.{as_line};
 ghost use Rattle.session_turns.specs.Turns.{Opening};
 ghost use Rattle.session_events.specs.declared.event.Event.TheVariants.{Join};
 ghost use Rattle.session_events.specs.Meaning.{rules};
 ghost use Rattle.session_events.specs.Seats.{IsSameSeat, IsLegalSeat};
 ghost use Rattle.session_lines.specs.Connections.{Plays, WasServed, EndCauses, is_unwritten};
 ghost use Rattle.session_lines.specs.Reading.{FaultIs};
-ghost use Rattle.session_lines.specs.Serving.{service, Serves, how_of, line_phases, unseen};
+ghost use Rattle.session_lines.specs.Serving.{service, unseen};
 ghost use Rattle.session_lines.specs.Stops.{IsReady, Stays, Causes};
 
 use crate::playing::{Stop, leave};
-use crate::reading::{InputEnd, play_source};
-use crate::turns::{open, play_line};
+use crate::reading::{InputEnd, play_input};
+use crate::turns::open;
 use kak_ports::{Sink, Source};
 use key_names::Key;
 use session_events::Seat;
 use std::alloc::Global;
-
-// Plays what has come of a last line, if anything has.
-fn play_last<S: Seat, K: Sink>(
-    alloc: Global,
-    seat: &mut S,
-    sink: &mut K,
-    out: &mut Vec<u8>,
-    part: &[u8],
-) -> Result<bool, Stop>
-    requires { IsReady (S.seated seat.old) }
-    ensures stays { Stays (S.seated seat.old) (S.seated seat.new) }
-    ensures kept { S.kept seat.new ≡ S.kept seat.old }
-    ensures serves { (opens : List Key) → Serves (service S.gives opens) (S.seated seat.old) (S.seated seat.new) (K.outlet sink.old) (K.outlet sink.new) (how_of result) (line_phases (as_line part.now)) }
-    ensures cause { Causes result (S.seated seat.new) (K.outlet sink.old) (K.outlet sink.new) }
-{
-    if part.is_empty() {
-        return Ok(false);
-    }
-    play_line(alloc, seat, sink, out, part)
-}
-
-// Plays an input to its end.
-fn play_input<S: Seat, I: Source, K: Sink>(
-    alloc: Global,
-    seat: &mut S,
-    source: &mut I,
-    sink: &mut K,
-    out: &mut Vec<u8>,
-) -> Result<InputEnd, Stop>
-    requires { IsReady (S.seated seat.old) }
-    ensures stays { Stays (S.seated seat.old) (S.seated seat.new) }
-    ensures kept { S.kept seat.new ≡ S.kept seat.old }
-    ensures plays { (opens : List Key) → Plays [] (service S.gives opens) (S.seated seat.old) (S.seated seat.new) (K.outlet sink.old) (K.outlet sink.new) (I.inlet source.old) (I.inlet source.new) result }
-    ensures fault { FaultIs result (I.inlet source.old) (I.inlet source.new) }
-    ensures cause { Causes result (S.seated seat.new) (K.outlet sink.old) (K.outlet sink.new) }
-{
-    let mut part = Vec::new(alloc);
-    match play_source(alloc, seat, source, sink, out, &mut part)? {
-        InputEnd::Ended => {
-            if play_last(alloc, seat, sink, out, part.as_slice())? {
-                return Ok(InputEnd::Left);
-            }
-            Ok(InputEnd::Ended)
-        }
-        ending => Ok(ending),
-    }
-}
 
 /// Plays a connection whose client has joined and done nothing else: keys are struck, it is drawn, and its input is read and
 /// played line by line, a last part without a newline too. Where the keys let it go, nothing is read. It doesn't leave yet.

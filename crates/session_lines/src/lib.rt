@@ -1,16 +1,13 @@
-//! A connection's lines: cut from its bytes, played as events over a seat, and answered over a sink. What an entry of
+//! A connection's lines: read from its bytes, played as events over a seat, and answered over a sink. What an entry of
 //! the history means is the seat's: nothing here knows the editor.
 #![tactic(auto)]
 
 pub mod connection;
-pub mod limits;
-pub mod lines;
 pub mod playing;
 pub mod reading;
 pub mod turns;
 
 pub use connection::{play_connection, serve};
-pub use lines::play_bytes;
 pub use playing::{Reply, Stop, Telling, leave, play_keys};
-pub use reading::{InputEnd, MAX_INPUT, MAX_PIECE, play_source};
+pub use reading::{InputEnd, play_input};
 pub use turns::{answer_line, answer_opening, open, play_line};

@@ -1,23 +1,18 @@
-//! A connection's input, read to its end and played as it comes.
+//! A connection's input, read to its end and played line by line.
 
-ghost use Rattle.std.specs.Prelude.{List, ◌≡◌, ◌<◌, ◌≤◌, [], length, take};
-ghost use Rattle.kak_ports.specs.Ports.{Takes, TakeIsCounted};
+ghost use Rattle.std.specs.Prelude.{◌≡◌, List, []};
 ghost use Rattle.key_names.specs.declared.key.Key.{Key};
-ghost use Rattle.session_lines.specs.Reading.{Reads, FaultIs};
+ghost use Rattle.session_lines.specs.Connections.{Plays};
+ghost use Rattle.session_lines.specs.Reading.{FaultIs};
 ghost use Rattle.session_lines.specs.Serving.{service};
 ghost use Rattle.session_lines.specs.Stops.{IsReady, Stays, Causes};
 
-use crate::lines::play_bytes;
 use crate::playing::Stop;
-use kak_ports::{Sink, Source, Took};
+use crate::turns::play_line;
+use kak_ports::{Sink, Source};
+use line_reading::{LineReader, Next};
 use session_events::Seat;
 use std::alloc::Global;
-
-/// How many bytes of input are taken at most: 2^30.
-pub const MAX_INPUT: u64 = 1_073_741_824;
-
-/// How many bytes of input are taken at once at most: 4,096.
-pub const MAX_PIECE: u64 = 4_096;
 
 /// How the reading of an input ended.
 #[derive(Clone, Copy, PartialEq, Eq, Debug)]
@@ -32,50 +27,40 @@ pub enum InputEnd {
     Full,
 }
 
-// Takes the next bytes of an input into the front of a piece, at most so many.
-fn take_front<I: Source>(source: &mut I, piece: &mut [u8], room: usize) -> Took
-    requires some { 0 < room }
-    requires inside { room ≤ length piece.old }
-    ensures takes { Takes result (I.inlet source.old) (I.inlet source.new) (take room piece.new) }
-    ensures counted { TakeIsCounted result (I.inlet source.old) (I.inlet source.new) }
-    ensures most { (I.inlet source.new).most ≡ (I.inlet source.old).most }
-    ensures size { length piece.new ≡ length piece.old }
-{
-    source.take(&mut piece[..room])
-}
-
-/// Reads an input piece by piece and plays the lines that are completed. Where the client stays and nothing stopped,
-/// `part` is left with what has come of a last line.
-pub fn play_source<S: Seat, I: Source, K: Sink>(
+/// Plays the lines of an input one after another, a last part without a newline too where the input has ended. The next
+/// line is read where the client stays and nothing stopped.
+pub fn play_input<S: Seat, I: Source, K: Sink>(
     alloc: Global,
     seat: &mut S,
     source: &mut I,
     sink: &mut K,
     out: &mut Vec<u8>,
-    part: &mut Vec<u8>,
 ) -> Result<InputEnd, Stop>
-    requires ready { IsReady (S.seated seat.old) }
-    requires part { part.old.items ≡ [] }
+    requires { IsReady (S.seated seat.old) }
     ensures stays { Stays (S.seated seat.old) (S.seated seat.new) }
     ensures kept { S.kept seat.new ≡ S.kept seat.old }
-    ensures reads { (opens : List Key) → Reads (service S.gives opens) (S.seated seat.old) (S.seated seat.new) (K.outlet sink.old) (K.outlet sink.new) (I.inlet source.old) (I.inlet source.new) result part.new.items }
+    ensures plays { (opens : List Key) → Plays [] (service S.gives opens) (S.seated seat.old) (S.seated seat.new) (K.outlet sink.old) (K.outlet sink.new) (I.inlet source.old) (I.inlet source.new) result }
     ensures fault { FaultIs result (I.inlet source.old) (I.inlet source.new) }
     ensures cause { Causes result (S.seated seat.new) (K.outlet sink.old) (K.outlet sink.new) }
 {
-    let mut piece = [0; 4096];
-    let mut taken: u64 = 0;
-    while taken < MAX_INPUT {
-        let room = (MAX_INPUT - taken).min(MAX_PIECE) as usize;
-        match take_front(source, &mut piece, room) {
-            Took::Got(count) => {
-                taken += count as u64;
-                if play_bytes(alloc, seat, sink, out, part, &piece[..count])? {
+    let mut reader = LineReader::new(alloc);
+    'lines: loop {
+        match reader.next(source)? {
+            Next::Line => {
+                if play_line(alloc, seat, sink, out, reader.line())? {
                     return Ok(InputEnd::Left);
                 }
             }
-            Took::End => return Ok(InputEnd::Ended),
-            Took::Failed => return Ok(InputEnd::ReadFault),
+            Next::Last => {
+                let leaving = play_line(alloc, seat, sink, out, reader.line())?;
+                if leaving {
+                    return Ok(InputEnd::Left);
+                }
+                return Ok(InputEnd::Ended);
+            }
+            Next::Ended => return Ok(InputEnd::Ended),
+            Next::ReadFault => return Ok(InputEnd::ReadFault),
+            Next::Full => return Ok(InputEnd::Full),
         }
     }
-    Ok(InputEnd::Full)
 }
