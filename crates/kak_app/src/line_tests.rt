@@ -3,7 +3,7 @@ ghost use Rattle.std.specs.Prelude.{◌<◌};
 use crate::test_outside::{NoFiles, NoPatterns};
 use kak_engine::LoneSeat;
 use kak_ports::{FailingCalls, MemSink, MemSource};
-use session_lines::{InputEnd, open, play_source};
+use session_lines::{InputEnd, open, play_input};
 use std::alloc::Global;
 use std::test::Fail;
 
@@ -27,12 +27,11 @@ const INVALID: &str =
 const INPUT: &str =
     "{\"jsonrpc\": \"2.0\", \"method\": \"keys\", \"params\": [\"hjh\", \"j\"]}\n{\"jsonrpc\": \"2.0\", \"method\": \"keys\", \"params\": [\"hj\", \"hh\"]}\n[]\n{\"jsonrpc\": \"2.0\", \"method\": \"keys\", \"params\": [\":quit<ret>\"]}\n{\"jsonrpc\": \"2.0\", \"method\": \"keys\", \"params\": [\"l\"]}";
 
-// What a session was sent, how its input ended, and what had come of a last line.
+// What a session was sent, and how its input ended.
 #[derive(Drop)]
 struct Session {
     sent: Vec<u8>,
     ending: InputEnd,
-    part: Vec<u8>,
 }
 
 // Plays an input that comes in pieces.
@@ -45,19 +44,11 @@ fn play(alloc: Global, input: &str, piece: usize) -> Result<Session, Fail>
     let mut sink = MemSink::new(alloc, 100_000, FailingCalls::none(alloc))?;
     let mut seat = LoneSeat::new(alloc, NoFiles::new(), NoPatterns::new(), 1_000, 0)?;
     let mut out = Vec::new(alloc);
-    let mut part = Vec::new(alloc);
     open(alloc, &mut seat, &mut sink, &mut out, &[])?;
-    let ending = play_source(
-        alloc,
-        &mut seat,
-        &mut source,
-        &mut sink,
-        &mut out,
-        &mut part,
-    )?;
+    let ending = play_input(alloc, &mut seat, &mut source, &mut sink, &mut out)?;
     let mut sent = Vec::new(alloc);
     sent.extend_from_slice(sink.contents())?;
-    Ok(Session { sent, ending, part })
+    Ok(Session { sent, ending })
 }
 
 // Adds the lines of a drawing of the empty buffer.
@@ -97,9 +88,13 @@ fn lines_are_answered_in_order_up_to_the_leave(rt: HostRuntime) -> Result<(), Fa
 }
 
 #[test]
-fn a_last_part_is_kept(rt: HostRuntime) -> Result<(), Fail> {
-    let session = play(rt.alloc(), "\n{\"js", 2)?;
-    assert!(rt; session.part.as_slice() == b"{\"js".as_slice());
+fn a_last_part_is_a_line_too(rt: HostRuntime) -> Result<(), Fail> {
+    let mut wanted = Vec::new(rt.alloc());
+    wanted.extend_from_slice(OPTIONS.as_bytes())?;
+    push_drawing(&mut wanted)?;
+    wanted.extend_from_slice(INVALID.as_bytes())?;
+    let session = play(rt.alloc(), "[]", 1)?;
+    assert!(rt; session.sent.as_slice() == wanted.as_slice());
     assert_eq!(rt; session.ending, InputEnd::Ended);
     Ok(())
 }
