@@ -1,6 +1,7 @@
 -- What a seat is seen as, and what a step from it does.
-use Rattle.std.specs.Prelude.{◌≡◌, ◌≤◌, ℕ, true, false, List, [], ◌∷◌, ◌++◌, length, Some}
+use Rattle.std.specs.Prelude.{◌≡◌, ◌≤◌, ℕ, true, false, List, [], ◌∷◌, ◌++◌, length, ⊤, Some, None, Err}
 use Rattle.std.specs.declared.option.Option.{Option}
+use Rattle.std.specs.declared.result.Result.{Result}
 use Rattle.session_turns.specs.Histories.{own}
 use Rattle.session_events.specs.declared.event.Event.{Event}
 use Rattle.session_events.specs.declared.event.Answered.{Answered}
@@ -61,6 +62,12 @@ pub record Sees (gives : Gives) (old new : Seated) : Type 0 where
   pub between : List Entry
   pub foreign : own (rules gives) old.number between ≡ []
   pub stands : new.seen ≡ old.seen ++ between
+
+-- the session isn't seen to be broken, unless a step said that it is
+abbrev pub IsWhole : {A : Type 0} → Result A StepFault → Seated → Type 0
+IsWhole (Err (Broken at)) seat = ⊤
+IsWhole (Err NoMemory) seat = ⊤
+IsWhole _ seat = seat.mark ≡ None
 
 -- Why an event was refused, as the entries and the mark that were then seen say. Memory is wanting for no leaving, and
 -- where it was, the session has a mark from then on.

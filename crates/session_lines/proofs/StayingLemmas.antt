@@ -1,6 +1,7 @@
 -- What stays, and why playing stops, over calls one after another.
 use Rattle.std.proofs.Common.{◌≡◌, ℕ, ◌+◌, ◌<◌, true, false, List, [], ◌∷◌, ◌++◌, length, Ok, Err, refl, ap, ◌∙◌, subst, arith, length-append}
 use Rattle.std.specs.Prelude.{Some, IfSome}
+use Rattle.std.specs.declared.option.Option.{Option}
 use Rattle.std.specs.declared.result.Result.{Result}
 use Rattle.kak_ports.specs.Ports.{Outlet, Rose}
 use Rattle.session_events.specs.declared.event.Event.TheVariants.{Leave}
@@ -13,7 +14,7 @@ use Rattle.session_lines.specs.declared.reading.InputEnd.{InputEnd}
 use Rattle.session_lines.specs.Connections.{is_unwritten, EndCauses}
 use Rattle.session_lines.specs.Sending.{Sends, Counts, FailsFor, Tells}
 use Rattle.session_lines.specs.Serving.{HasGone, unseen}
-use Rattle.session_lines.specs.Stops.{IsReady, Stays, NoneFailed, StopsFor, Stops, CausedBy, Causes, IsLoss}
+use Rattle.session_lines.specs.Stops.{IsReady, Stays, NoneFailed, StopsFor, Stops, CausedBy, Causes, IsLoss, IsWholeStill, StaysWholeFor}
 
 pub same-then : {x y z : Seated} → IsSameSeat x y → IsSameSeat y z → IsSameSeat x z
 same-then s t = record { number = t.number ∙ s.number; limit = t.limit ∙ s.limit; others = t.others ∙ s.others }
@@ -105,3 +106,19 @@ none-failed (Err WriteFault) x a b w c = cc
 
 pub loss-causes : (r : Result InputEnd Stop) (why : Stop) (x y : Seated) (a b : Outlet) → is_unwritten r ≡ false → Causes r x a b → IsLoss why y → EndCauses (Err why) y a b
 loss-causes r why x y a b w c l = loss-caused why y a b (none-failed r x a b w c) l
+
+-- a session that isn't broken, behind calls that left it so
+pub whole-still : {x y z : Option ℕ} → IsWholeStill x y → IsWholeStill y z → IsWholeStill x z
+whole-still f g m = g (f m)
+
+pub whole-then : (why : Stop) (x y z : Option ℕ) → IsWholeStill x y → StaysWholeFor why y z → StaysWholeFor why x z
+whole-then HistoryFull x y z f g = whole-still f g
+whole-then (Broken at) x y z f g = tt
+whole-then NoMemory x y z f g = tt
+whole-then WriteFault x y z f g = whole-still f g
+
+pub whole-for : (why : Stop) (x y : Option ℕ) → IsWholeStill x y → StaysWholeFor why x y
+whole-for HistoryFull x y f = f
+whole-for (Broken at) x y f = tt
+whole-for NoMemory x y f = tt
+whole-for WriteFault x y f = f

@@ -1,5 +1,6 @@
 -- What stays over the playing of phases, and why playing stops.
-use Rattle.std.specs.Prelude.{◌≡◌, ◌≤◌, length, ⊤, Some, Ok, Err}
+use Rattle.std.specs.Prelude.{◌≡◌, ◌≤◌, ℕ, length, ⊤, Some, None, Ok, Err}
+use Rattle.std.specs.declared.option.Option.{Option}
 use Rattle.std.specs.declared.result.Result.{Result}
 use Rattle.kak_ports.specs.Ports.{Outlet, Rose}
 use Rattle.session_events.specs.Seats.{Seated, IsSameSeat, IsIn, IsLegalSeat}
@@ -50,3 +51,17 @@ Causes (Err why) seat before now = CausedBy why seat before now
 abbrev pub IsLoss : Stop → Seated → Type 0
 IsLoss (Broken at) seat = seat.mark ≡ Some at
 IsLoss _ seat = ⊥
+
+-- a session that had no mark has none still
+abbrev pub IsWholeStill : Option ℕ → Option ℕ → Type 0
+IsWholeStill old new = old ≡ None → new ≡ None
+
+-- so it is where playing stopped for anything but a break or want of memory
+abbrev pub StaysWholeFor : Stop → Option ℕ → Option ℕ → Type 0
+StaysWholeFor (Broken at) old new = ⊤
+StaysWholeFor NoMemory old new = ⊤
+StaysWholeFor _ old new = IsWholeStill old new
+
+abbrev pub StaysWhole : {A : Type 0} → Result A Stop → Option ℕ → Option ℕ → Type 0
+StaysWhole (Ok _) old new = IsWholeStill old new
+StaysWhole (Err why) old new = StaysWholeFor why old new

@@ -9,7 +9,7 @@ ghost use Rattle.session_events.specs.Seats.{IsSameSeat, IsLegalSeat};
 ghost use Rattle.session_lines.specs.Connections.{Plays, WasServed, EndCauses, is_unwritten};
 ghost use Rattle.session_lines.specs.Reading.{FaultIs};
 ghost use Rattle.session_lines.specs.Serving.{service, unseen};
-ghost use Rattle.session_lines.specs.Stops.{IsReady, Stays, Causes};
+ghost use Rattle.session_lines.specs.Stops.{IsReady, Stays, Causes, StaysWhole};
 
 use crate::playing::{Stop, leave};
 use crate::reading::{InputEnd, play_input};
@@ -32,6 +32,7 @@ pub fn play_connection<S: Seat, I: Source, K: Sink>(
     requires new { own (rules S.gives) (S.seated seat.old).number (S.seated seat.old).seen ≡ Join ∷ [] }
     ensures stays { Stays (S.seated seat.old) (S.seated seat.new) }
     ensures kept { S.kept seat.new ≡ S.kept seat.old }
+    ensures whole { StaysWhole result (S.seated seat.old).mark (S.seated seat.new).mark }
     ensures plays { Plays (Opening ∷ []) (service S.gives keys.now) (unseen (S.seated seat.old)) (S.seated seat.new) (K.outlet sink.old) (K.outlet sink.new) (I.inlet source.old) (I.inlet source.new) result }
     ensures fault { FaultIs result (I.inlet source.old) (I.inlet source.new) }
     ensures cause { Causes result (S.seated seat.new) (K.outlet sink.old) (K.outlet sink.new) }
@@ -63,6 +64,7 @@ pub fn serve<S: Seat, I: Source, K: Sink>(
     requires new { own (rules S.gives) (S.seated seat.old).number (S.seated seat.old).seen ≡ Join ∷ [] }
     ensures same { IsSameSeat (S.seated seat.old) (S.seated seat.new) }
     ensures kept { S.kept seat.new ≡ S.kept seat.old }
+    ensures whole { StaysWhole result (S.seated seat.old).mark (S.seated seat.new).mark }
     ensures legal { IsLegalSeat (S.seated seat.new) }
     ensures served { WasServed (service S.gives keys.now) (S.seated seat.old).number (S.seated seat.new).seen (K.outlet sink.old) (K.outlet sink.new) (I.inlet source.old) (I.inlet source.new) result }
     ensures fault { FaultIs result (I.inlet source.old) (I.inlet source.new) }

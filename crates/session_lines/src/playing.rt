@@ -7,7 +7,7 @@ ghost use Rattle.session_events.specs.Meaning.{IsMeaning, drawn_bytes};
 ghost use Rattle.session_events.specs.Seats.{IsIn, IsSameSeat, IsLegalSeat, Steps, Sees};
 ghost use Rattle.session_lines.specs.Session.{keys_played};
 ghost use Rattle.session_lines.specs.Serving.{telling_bytes, Takes, TakesDrawing, Answers, Leaves};
-ghost use Rattle.session_lines.specs.Stops.{IsReady, Stays, Stops, IsLoss};
+ghost use Rattle.session_lines.specs.Stops.{IsReady, Stays, Stops, IsLoss, StaysWhole};
 
 use json_writing::{Drawing, Refusal};
 use key_names::Key;
@@ -64,6 +64,7 @@ fn take<S: Seat>(alloc: Global, seat: &mut S, event: Event) -> Result<Output, St
     ensures meaning { IsMeaning S.gives }
     ensures same { IsSameSeat (S.seated seat.old) (S.seated seat.new) }
     ensures kept { S.kept seat.new ≡ S.kept seat.old }
+    ensures whole { StaysWhole result (S.seated seat.old).mark (S.seated seat.new).mark }
     ensures legal { IsLegalSeat (S.seated seat.new) }
     ensures joined { is_leave event ≡ false → IsIn (S.seated seat.new) }
     ensures ok { IfOk result (λ output. Steps S.gives (S.seated seat.old) (S.seated seat.new) event output) }
@@ -99,6 +100,7 @@ fn strike<S: Seat>(alloc: Global, seat: &mut S, key: Key) -> Result<bool, Stop>
     ensures meaning { IsMeaning S.gives }
     ensures stays { Stays (S.seated seat.old) (S.seated seat.new) }
     ensures kept { S.kept seat.new ≡ S.kept seat.old }
+    ensures whole { StaysWhole result (S.seated seat.old).mark (S.seated seat.new).mark }
     ensures takes { Takes S.gives (S.seated seat.old) (S.seated seat.new) (Struck key ∷ []) result }
     ensures stops { Stops result (S.seated seat.new) }
 {
@@ -112,6 +114,7 @@ fn draw<S: Seat>(alloc: Global, seat: &mut S) -> Result<Telling, Stop>
     ensures meaning { IsMeaning S.gives }
     ensures stays { Stays (S.seated seat.old) (S.seated seat.new) }
     ensures kept { S.kept seat.new ≡ S.kept seat.old }
+    ensures whole { StaysWhole result (S.seated seat.old).mark (S.seated seat.new).mark }
     ensures takes { TakesDrawing S.gives (S.seated seat.old) (S.seated seat.new) result }
     ensures stops { Stops result (S.seated seat.new) }
 {
@@ -125,6 +128,7 @@ pub fn play_keys<S: Seat>(alloc: Global, seat: &mut S, keys: &[Key]) -> Result<R
     ensures meaning { IsMeaning S.gives }
     ensures stays { Stays (S.seated seat.old) (S.seated seat.new) }
     ensures kept { S.kept seat.new ≡ S.kept seat.old }
+    ensures whole { StaysWhole result (S.seated seat.old).mark (S.seated seat.new).mark }
     ensures answers { Answers S.gives (S.seated seat.old) (S.seated seat.new) (keys_played keys.now) [] result }
     ensures stops { Stops result (S.seated seat.new) }
 {
@@ -141,6 +145,7 @@ pub fn leave<S: Seat>(alloc: Global, seat: &mut S) -> Result<(), Stop>
     requires { IsReady (S.seated seat.old) }
     ensures same { IsSameSeat (S.seated seat.old) (S.seated seat.new) }
     ensures kept { S.kept seat.new ≡ S.kept seat.old }
+    ensures whole { StaysWhole result (S.seated seat.old).mark (S.seated seat.new).mark }
     ensures legal { IsLegalSeat (S.seated seat.new) }
     ensures leaves { Leaves S.gives (S.seated seat.old) (S.seated seat.new) result }
     ensures marked { IfSome (S.seated seat.old).mark (λ at. (S.seated seat.new).mark ≡ Some at) }

@@ -5,7 +5,7 @@ ghost use Rattle.key_names.specs.declared.key.Key.{Key};
 ghost use Rattle.session_lines.specs.Connections.{Plays};
 ghost use Rattle.session_lines.specs.Reading.{FaultIs};
 ghost use Rattle.session_lines.specs.Serving.{service};
-ghost use Rattle.session_lines.specs.Stops.{IsReady, Stays, Causes};
+ghost use Rattle.session_lines.specs.Stops.{IsReady, Stays, Causes, StaysWhole};
 
 use crate::playing::Stop;
 use crate::turns::play_line;
@@ -39,6 +39,7 @@ pub fn play_input<S: Seat, I: Source, K: Sink>(
     requires { IsReady (S.seated seat.old) }
     ensures stays { Stays (S.seated seat.old) (S.seated seat.new) }
     ensures kept { S.kept seat.new ≡ S.kept seat.old }
+    ensures whole { StaysWhole result (S.seated seat.old).mark (S.seated seat.new).mark }
     ensures plays { (opens : List Key) → Plays [] (service S.gives opens) (S.seated seat.old) (S.seated seat.new) (K.outlet sink.old) (K.outlet sink.new) (I.inlet source.old) (I.inlet source.new) result }
     ensures fault { FaultIs result (I.inlet source.old) (I.inlet source.new) }
     ensures cause { Causes result (S.seated seat.new) (K.outlet sink.old) (K.outlet sink.new) }

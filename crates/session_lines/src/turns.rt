@@ -10,7 +10,7 @@ ghost use Rattle.session_events.specs.Meaning.{rules};
 ghost use Rattle.session_lines.specs.Session.{keys_played, played_by, refused_by};
 ghost use Rattle.session_lines.specs.Serving.{service, telling_bytes, Answers, Serves, how_of, line_phases, unseen};
 ghost use Rattle.session_lines.specs.Sending.{Sends, Counts, Tells};
-ghost use Rattle.session_lines.specs.Stops.{IsReady, Stays, Stops, Causes};
+ghost use Rattle.session_lines.specs.Stops.{IsReady, Stays, Stops, Causes, StaysWhole};
 
 use crate::playing::{Reply, Stop, Telling, play_keys};
 use json_ui::{LineError, Request, decode_line};
@@ -25,6 +25,7 @@ pub fn answer_line<S: Seat>(alloc: Global, seat: &mut S, line: &[u8]) -> Result<
     requires { IsReady (S.seated seat.old) }
     ensures stays { Stays (S.seated seat.old) (S.seated seat.new) }
     ensures kept { S.kept seat.new ≡ S.kept seat.old }
+    ensures whole { StaysWhole result (S.seated seat.old).mark (S.seated seat.new).mark }
     ensures answers { Answers S.gives (S.seated seat.old) (S.seated seat.new) (played_by (read_request line.now)) (refused_by (read_request line.now)) result }
     ensures stops { Stops result (S.seated seat.new) }
 {
@@ -48,6 +49,7 @@ pub fn answer_opening<S: Seat>(alloc: Global, seat: &mut S, keys: &[Key]) -> Res
     requires new { own (rules S.gives) (S.seated seat.old).number (S.seated seat.old).seen ≡ Join ∷ [] }
     ensures stays { Stays (S.seated seat.old) (S.seated seat.new) }
     ensures kept { S.kept seat.new ≡ S.kept seat.old }
+    ensures whole { StaysWhole result (S.seated seat.old).mark (S.seated seat.new).mark }
     ensures answers { Answers S.gives (unseen (S.seated seat.old)) (S.seated seat.new) (Join ∷ keys_played keys.now) [] result }
     ensures stops { Stops result (S.seated seat.new) }
 {
@@ -100,6 +102,7 @@ pub fn play_line<S: Seat, K: Sink>(
     requires { IsReady (S.seated seat.old) }
     ensures stays { Stays (S.seated seat.old) (S.seated seat.new) }
     ensures kept { S.kept seat.new ≡ S.kept seat.old }
+    ensures whole { StaysWhole result (S.seated seat.old).mark (S.seated seat.new).mark }
     ensures serves { (opens : List Key) → Serves (service S.gives opens) (S.seated seat.old) (S.seated seat.new) (K.outlet sink.old) (K.outlet sink.new) (how_of result) (line_phases (line.now ∷ [])) }
     ensures cause { Causes result (S.seated seat.new) (K.outlet sink.old) (K.outlet sink.new) }
 {
@@ -121,6 +124,7 @@ pub fn open<S: Seat, K: Sink>(
     requires new { own (rules S.gives) (S.seated seat.old).number (S.seated seat.old).seen ≡ Join ∷ [] }
     ensures stays { Stays (S.seated seat.old) (S.seated seat.new) }
     ensures kept { S.kept seat.new ≡ S.kept seat.old }
+    ensures whole { StaysWhole result (S.seated seat.old).mark (S.seated seat.new).mark }
     ensures serves { Serves (service S.gives keys.now) (unseen (S.seated seat.old)) (S.seated seat.new) (K.outlet sink.old) (K.outlet sink.new) (how_of result) (Opening ∷ []) }
     ensures cause { Causes result (S.seated seat.new) (K.outlet sink.old) (K.outlet sink.new) }
 {

@@ -1,11 +1,11 @@
 use Rattle.std.proofs.Common.{refl, ◌∙◌}
 use Rattle.std.proofs.lemmas.Result.{err_from_is_err_and}
-use Rattle.session_lines.proofs.StayingLemmas.{stays-still, stays-then}
+use Rattle.session_lines.proofs.StayingLemmas.{stays-still, stays-then, whole-still, whole-then}
 use Rattle.session_lines.proofs.ReadingLemmas.{begin-reading, told, line-went, line-left, line-stopped, last-went, last-left, last-stopped, input-ended, input-failed, input-full, line-lost, line-shorter}
 use Rattle.session_lines.proofs.reading.play_input.Goals as goal
 
 pub lines-init : goal.lines-init
-lines-init g c = record { stays = stays-still _ c.requires; kept = refl; so_far = λ opens. begin-reading _ _ _ _ c.new-reader.result c.new-reader.ensures.taken c.new-reader.ensures.pending; faults = refl; counted = refl }
+lines-init g c = record { stays = stays-still _ c.requires; kept = refl; whole = λ none. none; so_far = λ opens. begin-reading _ _ _ _ c.new-reader.result c.new-reader.ensures.taken c.new-reader.ensures.pending; faults = refl; counted = refl }
 
 pub returns-in_err-next-clause-plays : goal.returns-in_err-next-clause-plays
 returns-in_err-next-clause-plays g c =
@@ -27,6 +27,7 @@ pub lines-preserved : goal.lines-preserved
 lines-preserved g c = record {
   stays = stays-then c.lines.invariant.stays c.play_line.ensures.stays;
   kept = c.play_line.ensures.kept ∙ c.lines.invariant.kept;
+  whole = whole-still c.lines.invariant.whole c.in_ok-play_line-in-Line.ensures.whole;
   so_far = λ opens. line-went _ _ _ _ _ _ _ _ _ _ _ _ _ _ c.if-branch.false c.lines.invariant.stays.same c.line.ensures c.next.ensures.most (told _ _ _ _ _ _ c.in-Line.is c.in_ok-next.ensures.reads) (c.lines.invariant.so_far opens) (c.in_ok-play_line-in-Line.ensures.serves opens);
   faults = let f = rw c.in-Line.is at c.in_ok-next.ensures.fault in f ∙ c.lines.invariant.faults;
   counted = c.in_ok-play_line-in-Line.ensures.cause ∙ c.lines.invariant.counted;
@@ -51,3 +52,13 @@ returns-in-ReadFault-clause-plays g c = λ opens. input-failed _ _ _ _ _ _ _ _ _
 
 pub returns-in-Full-clause-plays : goal.returns-in-Full-clause-plays
 returns-in-Full-clause-plays g c = λ opens. input-full _ _ _ _ _ _ _ _ _ _ c.next.ensures.most (told _ _ _ _ _ _ c.in-Full.is c.in_ok-next.ensures.reads) (c.lines.invariant.so_far opens)
+
+pub returns-in_err-play_line-in-Line-clause-whole : goal.returns-in_err-play_line-in-Line-clause-whole
+returns-in_err-play_line-in-Line-clause-whole g c =
+    let p = err_from_is_err_and c.from_residual-in_err-play_line-in-Line.result c.from_residual-in_err-play_line-in-Line.ensures.1 in
+    rw (p.1, p.2) (whole-then _ _ _ _ c.lines.invariant.whole c.in_err-play_line-in-Line.ensures.whole)
+
+pub returns-in_err-leaving-in-Last-clause-whole : goal.returns-in_err-leaving-in-Last-clause-whole
+returns-in_err-leaving-in-Last-clause-whole g c =
+    let p = err_from_is_err_and c.from_residual-in_err-leaving-in-Last.result c.from_residual-in_err-leaving-in-Last.ensures.1 in
+    rw (p.1, p.2) (whole-then _ _ _ _ c.lines.invariant.whole c.in_err-leaving-in-Last.ensures.whole)

@@ -1,6 +1,7 @@
 use Rattle.std.proofs.Common.{refl}
 use Rattle.std.proofs.lemmas.Result.{err_from_is_err_and}
 use Rattle.session_turns.specs.Turns.{Line, During}
+use Rattle.session_lines.proofs.StayingLemmas.{whole-for}
 use Rattle.session_lines.proofs.ServingLemmas.{serves-cut, answered-told, answered-untold}
 use Rattle.session_lines.proofs.turns.play_line.Goals as goal
 
@@ -16,3 +17,13 @@ returns-in_err-send_telling-clause-serves g c =
 
 pub returns-clause-serves : goal.returns-clause-serves
 returns-clause-serves g c = λ opens. answered-told _ _ _ _ _ (During (Line c.args.line.now)) _ _ c.in_ok-reply.reply c.in_ok-reply.ensures.answers refl refl c.in_ok-send_telling.ensures.0
+
+pub returns-in_err-reply-clause-whole : goal.returns-in_err-reply-clause-whole
+returns-in_err-reply-clause-whole g c =
+    let p = err_from_is_err_and c.from_residual.result c.from_residual.ensures.1 in
+    rw (p.1, p.2) c.in_err-reply.ensures.whole
+
+pub returns-in_err-send_telling-clause-whole : goal.returns-in_err-send_telling-clause-whole
+returns-in_err-send_telling-clause-whole g c =
+    let p = err_from_is_err_and c.from_residual-in_err-send_telling.result c.from_residual-in_err-send_telling.ensures.1 in
+    rw (p.1, p.2) (whole-for _ _ _ c.in_ok-reply.ensures.whole)
