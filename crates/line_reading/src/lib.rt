@@ -2,6 +2,7 @@
 //! how the input ended, where it did.
 #![tactic(auto)]
 
+pub mod examples;
 pub mod limits;
 pub mod pieces;
 pub mod reader;
