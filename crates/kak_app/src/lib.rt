@@ -9,6 +9,6 @@ pub use program::{MAX_ENTRIES, Status, run};
 #[cfg(test)]
 mod line_tests;
 #[cfg(test)]
-mod test_outside;
+mod test_patterns;
 #[cfg(test)]
 mod tests;

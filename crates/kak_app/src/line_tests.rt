@@ -1,7 +1,8 @@
 ghost use Rattle.std.specs.Prelude.{◌<◌};
 
-use crate::test_outside::{NoFiles, NoPatterns};
+use crate::test_patterns::NoPatterns;
 use kak_engine::LoneSeat;
+use kak_files::NoFiles;
 use kak_ports::{FailingCalls, MemSink, MemSource};
 use session_lines::{InputEnd, open, play_input};
 use std::alloc::Global;

@@ -1,7 +1,8 @@
 ghost use Rattle.std.specs.Prelude.{◌<◌};
 
-use crate::test_outside::{NoFiles, NoPatterns};
+use crate::test_patterns::NoPatterns;
 use crate::{Status, run};
+use kak_files::NoFiles;
 use kak_ports::{FailingCalls, MemSink, MemSource};
 use std::alloc::Global;
 use std::test::Fail;

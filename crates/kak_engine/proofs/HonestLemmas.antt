@@ -8,14 +8,14 @@ use Rattle.std.proofs.Math.Nat.{min-le_left, min-le_right, le-min, min-eq_left, 
 use Rattle.std.specs.Prelude.{Some, None}
 use Rattle.std.specs.declared.option.Option.{Option}
 use Rattle.kak_files.specs.Files.{Shelf, Told}
-use Rattle.kak_files.specs.Exchanges.{Exchange, Leads, Passed, RoseWhere, has_failed}
+use Rattle.kak_files.specs.Exchanges.{Exchange, Leads, Passed}
 use Rattle.regex_ports.specs.Making.{Rose, IsCounted}
 use Rattle.regex_ports.specs.declared.maker.Made.{Made}
 use Rattle.regex_ports.specs.declared.maker.Made.TheVariants as maker
 use Rattle.session_events.specs.declared.event.Answered.{Answered}
 use Rattle.kak_engine.specs.Answering.{made_told}
 use Rattle.kak_engine.specs.Honesty.{Outside, at_opening, is_refused, Stood, Counts, Stays, IsHonest, IsKept}
-use Rattle.kak_files.proofs.ExchangeLemmas.{leads-none, leads-trans, passed-none, passed-trans}
+use Rattle.kak_files.proofs.ExchangeLemmas.{leads-none, leads-trans, passed-none, passed-trans, faults-not_fallen}
 
 -- a count that stands still, and one that doesn't fall
 pub stood-same : (n : ℕ) → Stood n n
@@ -102,13 +102,6 @@ opening-same exchanges (Some old) (Some new) l = rw l.opening refl
 opening-same exchanges None (Some new) l = absurd l
 opening-same exchanges (Some old) None l = absurd l
 
-same-stood : (a b : ℕ) → b ≡ a → Stood a b
-same-stood a b e = subst (Stood a) (sym e) (stood-same a)
-
-where-stood : (t : Bool) (a b : ℕ) → RoseWhere t a b → Stood a b
-where-stood true a b r = rose-stood a b r
-where-stood false a b e = same-stood a b e
-
 -- the outside is the same still
 pub stays-still : (o : Outside) → Stays o o
 stays-still o = record { refusals = stood-same o.refusals; faults = stood-same o.shelf.faults; opening = refl }
@@ -123,7 +116,7 @@ stays-behind x y z h k = record {
 pub honest-stays : (answers : List Answered) (exchanges : List Exchange) (x y : Outside) → IsHonest answers exchanges x y → Stays x y
 honest-stays answers exchanges x y h = record {
   refusals = counts-stood (list_any is_refused answers) x.refusals y.refusals h.refusals;
-  faults = where-stood (has_failed exchanges) x.shelf.faults y.shelf.faults h.files.counted;
+  faults = faults-not_fallen exchanges x.shelf y.shelf h.files;
   opening = opening-same exchanges x.shelf.told y.shelf.told h.files.told;
 }
 

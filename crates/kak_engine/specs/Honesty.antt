@@ -21,7 +21,7 @@ outside_of shelf refusals = record { shelf = shelf; refusals = refusals }
 -- what files held when they were made, as what they hold
 abbrev pub at_opening : Option Told → Option Told
 at_opening None = None
-at_opening (Some told) = Some (record { opening = told.opening; held = told.opening })
+at_opening (Some told) = Some (record told { held = told.opening })
 
 -- the files hold what they held when they were made, where that is told
 abbrev pub IsUntouched : Option Told → Type 0
@@ -48,7 +48,8 @@ pub record Stays (before now : Outside) : Type 0 where
   pub opening : at_opening now.shelf.told ≡ at_opening before.shelf.told
 
 -- Among the answers is one that a pattern was refused only where the maker's count rose. What was exchanged with the files
--- is all that passed there: they were read and written so, and in that order, and where a call failed, their count rose.
+-- is all that passed there: they were read and written so, and in that order, and their count rose once for each call that
+-- failed.
 pub record IsHonest (answers : List Answered) (exchanges : List Exchange) (before now : Outside) : Type 0 where
   pub refusals : Counts (list_any is_refused answers) before.refusals now.refusals
   pub files : Passed exchanges before.shelf now.shelf

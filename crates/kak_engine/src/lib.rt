@@ -13,6 +13,6 @@ pub use outside::Outside;
 pub use seat::LoneSeat;
 
 #[cfg(test)]
-mod test_outside;
+mod test_patterns;
 #[cfg(test)]
 mod tests;

@@ -1,8 +1,9 @@
 use crate::Engine;
-use crate::test_outside::{NoFiles, NoPatterns};
+use crate::test_patterns::NoPatterns;
 use StepFault::{Full, HistoryFull, Joined, NoClient};
 use Told::{Drew, MayLeave, Ran, Refused};
 use json_writing::DrawnLine;
+use kak_files::NoFiles;
 use key_names::{Base, Key, read_keys};
 use session_events::{Entry, Event, Output, StepFault};
 use std::alloc::Global;

@@ -1,99 +1,76 @@
 -- What passes between files and whoever reads and writes them: nothing, one call, and one part after another.
-use Rattle.std.proofs.Common.{◌≡◌, ℕ, ◌+◌, ◌-◌, ◌^◌, ◌≤◌, min, Bool, true, false, ◌||◌, List, [], ◌∷◌, ◌++◌, cond, refl, sym, ap, ◌∙◌, subst, Some, None, true≢false, arith}
+use Rattle.std.proofs.Common.{◌≡◌, ℕ, zero, suc, ◌+◌, ◌-◌, ◌^◌, ◌≤◌, min, Bool, true, false, List, [], ◌∷◌, ◌++◌, cond, refl, sym, ap, ◌∙◌, subst, Some, None, true≢false, arith}
 use Rattle.std.specs.declared.option.Option.{Option}
 use Rattle.std.specs.Str.{bytes_eq}
 use Rattle.std.proofs.lemmas.Slice.Eq.{bytes_eq-Decides}
-use Rattle.kak_ports.specs.Ports.{Rose}
+use Rattle.std.proofs.lemmas.List.Sums.{sum_by-append}
 use Rattle.kak_ports.specs.declared.sink.Put.{Put}
 use Rattle.kak_ports.specs.declared.sink.Put.TheVariants.{Done, Failed as PutFailed}
 use Rattle.kak_files.specs.declared.files.TheConstants.{MAX_FILE}
 use Rattle.kak_files.specs.declared.files.FileRead.{FileRead}
 use Rattle.kak_files.specs.declared.files.FileRead.TheVariants.{Bytes, NotThere, TooBig, Failed as ReadFailed}
-use Rattle.kak_files.specs.Files.{Content, Missing, Holds, Lost, FileRow, content_of, Told, Shelf, IsAnswer, Reads, ReadIsCounted, left_by, ChangesOnly, Writes, WriteIsCounted, Fits}
-use Rattle.kak_files.specs.Exchanges.{Exchange, Read, Written, held_behind, held_after, Agrees, Agree, fails, has_failed, FitAll, LeadsTo, Leads, RoseWhere, Passed}
+use Rattle.kak_files.specs.Files.{Content, FileRow, content_of, Told, Shelf, IsAnswer, one_more, raised, Reads, ReadIsCounted, left_by, ChangesOnly, Writes, WriteIsCounted}
+use Rattle.kak_files.specs.Exchanges.{Exchange, Read, Written, held_behind, held_after, Agrees, Agree, fails, failures, AreAlike, LeadsTo, Leads, Passed}
 
--- a content fits itself
-fits-same : (content : Content) → Fits content content
-fits-same Missing = refl
-fits-same (Holds bytes) = refl
-fits-same Lost = tt
+-- what is held alike is held alike behind one exchange more
+alike-behind : (spare : Bool) (exchange : Exchange) (here there : List FileRow) → AreAlike here there → AreAlike (held_behind spare exchange here) (held_behind spare exchange there)
+alike-behind spare (Read name answer) here there alike = alike
+alike-behind spare (Written name bytes answer) here there alike = λ other. at_row (bytes_eq name other) other where
+  at_row : (b : Bool) (other : List ℕ) → cond b (left_by answer bytes spare (content_of name here)) (content_of other here) ≡ cond b (left_by answer bytes spare (content_of name there)) (content_of other there)
+  at_row true other = ap (left_by answer bytes spare) (alike name)
+  at_row false other = alike other
 
-fits-from : (known content : Content) → content ≡ known → Fits known content
-fits-from known content e = let P : Content → Type 0 = λ c. Fits known c in subst P (sym e) (fits-same known)
+alike-after : (spare : Bool) (exchanges : List Exchange) (here there : List FileRow) → AreAlike here there → AreAlike (held_after spare exchanges here) (held_after spare exchanges there)
+alike-after spare [] here there alike = alike
+alike-after spare (exchange ∷ later) here there alike = alike-after spare later (held_behind spare exchange here) (held_behind spare exchange there) (alike-behind spare exchange here there alike)
 
-fits-trans : (known mid content : Content) → Fits known mid → Fits mid content → Fits known content
-fits-trans Lost mid content a b = tt
-fits-trans Missing mid content a b = let P : Content → Type 0 = λ c. Fits c content in subst P a b
-fits-trans (Holds bytes) mid content a b = let P : Content → Type 0 = λ c. Fits c content in subst P a b
+agrees-alike : (max : ℕ) (exchange : Exchange) (here there : List FileRow) → AreAlike here there → Agrees max here exchange → Agrees max there exchange
+agrees-alike max (Read name answer) here there alike a = subst (IsAnswer answer max) (alike name) a
+agrees-alike max (Written name bytes answer) here there alike a = tt
 
--- what answers for what is held answers for what is known of it
-answer-known : (answer : FileRead) (max : ℕ) (known content : Content) → Fits known content → IsAnswer answer max content → IsAnswer answer max known
-answer-known ReadFailed max known content f a = tt
-answer-known (Bytes bytes) max Lost content f a = tt
-answer-known NotThere max Lost content f a = tt
-answer-known TooBig max Lost content f a = tt
-answer-known (Bytes bytes) max Missing content f a = let P : Content → Type 0 = IsAnswer (Bytes bytes) max in subst P f a
-answer-known NotThere max Missing content f a = tt
-answer-known TooBig max Missing content f a = let P : Content → Type 0 = IsAnswer TooBig max in subst P f a
-answer-known (Bytes bytes) max (Holds held) content f a = let P : Content → Type 0 = IsAnswer (Bytes bytes) max in subst P f a
-answer-known NotThere max (Holds held) content f a = let P : Content → Type 0 = IsAnswer NotThere max in subst P f a
-answer-known TooBig max (Holds held) content f a = let P : Content → Type 0 = IsAnswer TooBig max in subst P f a
-
--- what is held fits what is known, also behind one exchange more
-fits-behind : (exchange : Exchange) (known held : List FileRow) → FitAll known held → FitAll (held_behind exchange known) (held_behind exchange held)
-fits-behind (Read name answer) known held fit = fit
-fits-behind (Written name bytes answer) known held fit = λ other. at_row (bytes_eq name other) other where
-  at_row : (b : Bool) (other : List ℕ) → Fits (cond b (left_by answer bytes) (content_of other known)) (cond b (left_by answer bytes) (content_of other held))
-  at_row true other = fits-same (left_by answer bytes)
-  at_row false other = fit other
-
-fits-after : (exchanges : List Exchange) (known held : List FileRow) → FitAll known held → FitAll (held_after exchanges known) (held_after exchanges held)
-fits-after [] known held fit = fit
-fits-after (exchange ∷ later) known held fit = fits-after later (held_behind exchange known) (held_behind exchange held) (fits-behind exchange known held fit)
-
-agrees-known : (max : ℕ) (exchange : Exchange) (known held : List FileRow) → FitAll known held → Agrees max held exchange → Agrees max known exchange
-agrees-known max (Read name answer) known held fit a = answer-known answer max (content_of name known) (content_of name held) (fit name) a
-agrees-known max (Written name bytes answer) known held fit a = tt
-
--- what agrees with what is held agrees with what is known of it
-agree-known : (max : ℕ) (exchanges : List Exchange) (known held : List FileRow) → FitAll known held → Agree max held exchanges → Agree max known exchanges
-agree-known max [] known held fit a = tt
-agree-known max (exchange ∷ later) known held fit a =
-    (agrees-known max exchange known held fit a.0, agree-known max later (held_behind exchange known) (held_behind exchange held) (fits-behind exchange known held fit) a.1)
+-- exchanges that agree with what is held agree with what is held alike
+agree-alike : (max : ℕ) (spare : Bool) (exchanges : List Exchange) (here there : List FileRow) → AreAlike here there → Agree max spare here exchanges → Agree max spare there exchanges
+agree-alike max spare [] here there alike a = tt
+agree-alike max spare (exchange ∷ later) here there alike a =
+    (agrees-alike max exchange here there alike a.0, agree-alike max spare later (held_behind spare exchange here) (held_behind spare exchange there) (alike-behind spare exchange here there alike) a.1)
 
 -- what is held after two parts
-held_after-append : (a b : List Exchange) (held : List FileRow) → held_after (a ++ b) held ≡ held_after b (held_after a held)
-held_after-append [] b held = refl
-held_after-append (exchange ∷ a) b held = held_after-append a b (held_behind exchange held)
+held_after-append : (spare : Bool) (a b : List Exchange) (held : List FileRow) → held_after spare (a ++ b) held ≡ held_after spare b (held_after spare a held)
+held_after-append spare [] b held = refl
+held_after-append spare (exchange ∷ a) b held = held_after-append spare a b (held_behind spare exchange held)
 
-agree-append : (max : ℕ) (a b : List Exchange) (held : List FileRow) → Agree max held a → Agree max (held_after a held) b → Agree max held (a ++ b)
-agree-append max [] b held one other = other
-agree-append max (exchange ∷ a) b held one other = (one.0, agree-append max a b (held_behind exchange held) one.1 other)
-
-failed-append : (a b : List Exchange) → has_failed (a ++ b) ≡ (has_failed a || has_failed b)
-failed-append [] b = refl
-failed-append (exchange ∷ a) b = ap (λ r. fails exchange || r) (failed-append a b) ∙ sym (or-assoc (fails exchange) (has_failed a) (has_failed b)) where
-  or-assoc : (x y z : Bool) → ((x || y) || z) ≡ (x || (y || z))
-  or-assoc true y z = refl
-  or-assoc false y z = refl
+agree-append : (max : ℕ) (spare : Bool) (a b : List Exchange) (held : List FileRow) → Agree max spare held a → Agree max spare (held_after spare a held) b → Agree max spare held (a ++ b)
+agree-append max spare [] b held one other = other
+agree-append max spare (exchange ∷ a) b held one other = (one.0, agree-append max spare a b (held_behind spare exchange held) one.1 other)
 
 -- two stretches of a count
-rose-trans : (a b : Bool) (before mid now : ℕ) → RoseWhere a before mid → RoseWhere b mid now → RoseWhere (a || b) before now
-rose-trans true true before mid now one other = let x : Rose before mid = one in let y : Rose mid now = other in rose_twice before mid now x y where
-  rose_twice : (before mid now : ℕ) → min (before + 1) (2 ^ 64 - 1) ≤ mid → min (mid + 1) (2 ^ 64 - 1) ≤ now → min (before + 1) (2 ^ 64 - 1) ≤ now
-  rose_twice before mid now x y = omega arith
-rose-trans true false before mid now one other = let P : ℕ → Type 0 = λ n. Rose before n in subst P (sym other) one
-rose-trans false true before mid now one other = let P : ℕ → Type 0 = λ n. Rose n now in subst P one other
-rose-trans false false before mid now one other = other ∙ one
+raised-more : (a b count : ℕ) → raised (a + b) count ≡ raised b (raised a count)
+raised-more zero b count = let e : 0 + b ≡ b = omega arith in ap (λ n. raised n count) e
+raised-more (suc a) b count = let e : suc a + b ≡ suc (a + b) = omega arith in ap (λ n. raised n count) e ∙ raised-more a b (one_more count)
+
+raised-append : (a b : List Exchange) (count : ℕ) → raised (failures (a ++ b)) count ≡ raised (failures b) (raised (failures a) count)
+raised-append a b count = ap (λ n. raised n count) (sum_by-append (λ e. cond (fails e) 1 0) a b) ∙ raised-more (failures a) (failures b) count
+
+-- a count in its range rises by as much, or to the end of it
+pub raised-range : (times count : ℕ) → count ≤ 2 ^ 64 - 1 → raised times count ≡ min (count + times) (2 ^ 64 - 1)
+raised-range zero count most = omega arith
+raised-range (suc times) count most = raised-range times (one_more count) (omega arith) ∙ one_and_more times count
+  where
+    one_and_more : (times count : ℕ) → min (min (count + 1) (2 ^ 64 - 1) + times) (2 ^ 64 - 1) ≡ min (count + suc times) (2 ^ 64 - 1)
+    one_and_more times count = omega arith
 
 leads_to-trans : (a b : List Exchange) (old mid new : Told) → LeadsTo a old mid → LeadsTo b mid new → LeadsTo (a ++ b) old new
-leads_to-trans a b old mid new one other = record {
-  opening = other.opening ∙ one.opening;
-  agree = agree-append MAX_FILE a b old.held one.agree (agree-known MAX_FILE b (held_after a old.held) mid.held one.held other.agree);
-  held = let P : List FileRow → Type 0 = λ rows. FitAll rows new.held in
-      subst P (sym (held_after-append a b old.held))
-      (λ name. fits-trans _ _ _ (fits-after b (held_after a old.held) mid.held one.held name) (other.held name));
-}
+leads_to-trans a b old mid new one other =
+    let P : Bool → Type 0 = λ s. Agree MAX_FILE s mid.held b in
+    let Q : Bool → Type 0 = λ s. AreAlike new.held (held_after s b mid.held) in
+    let agree : Agree MAX_FILE old.spare mid.held b = subst P one.spare other.agree in
+    let held : AreAlike new.held (held_after old.spare b mid.held) = subst Q one.spare other.held in
+    record {
+      opening = other.opening ∙ one.opening;
+      spare = other.spare ∙ one.spare;
+      agree = agree-append MAX_FILE old.spare a b old.held one.agree (agree-alike MAX_FILE old.spare b mid.held (held_after old.spare a old.held) one.held agree);
+      held = λ name. held name ∙ alike-after old.spare b mid.held (held_after old.spare a old.held) one.held name ∙ ap (content_of name) (sym (held_after-append old.spare a b old.held));
+    }
 
 pub leads-trans : (a b : List Exchange) (old mid new : Option Told) → Leads a old mid → Leads b mid new → Leads (a ++ b) old new
 leads-trans a b None None None one other = tt
@@ -107,13 +84,12 @@ leads-trans a b (Some old) (Some mid) (Some new) one other = leads_to-trans a b 
 pub passed-trans : (a b : List Exchange) (old mid new : Shelf) → Passed a old mid → Passed b mid new → Passed (a ++ b) old new
 passed-trans a b old mid new one other = record {
   told = leads-trans a b old.told mid.told new.told one.told other.told;
-  counted = let P : Bool → Type 0 = λ r. RoseWhere r old.faults new.faults in
-      subst P (sym (failed-append a b)) (rose-trans (has_failed a) (has_failed b) old.faults mid.faults new.faults one.counted other.counted);
+  counted = other.counted ∙ ap (raised (failures b)) one.counted ∙ sym (raised-append a b old.faults);
 }
 
 pub leads-none : (told : Option Told) → Leads [] told told
 leads-none None = tt
-leads-none (Some told) = record { opening = refl; agree = tt; held = λ name. fits-same (content_of name told.held) }
+leads-none (Some told) = record { opening = refl; spare = refl; agree = tt; held = λ name. refl }
 
 -- nothing passes while the files stay as they are
 pub passed-none : (shelf : Shelf) → Passed [] shelf shelf
@@ -126,11 +102,12 @@ leads-read : (name : List ℕ) (answer : FileRead) (told : Option Told) → Read
 leads-read name answer None reads = tt
 leads-read name answer (Some told) reads = record {
   opening = refl;
+  spare = refl;
   agree = (reads, tt);
-  held = λ other. fits-same (content_of other told.held);
+  held = λ other. refl;
 }
 
-read-counted : (name : List ℕ) (answer : FileRead) (before now : ℕ) → ReadIsCounted answer before now → RoseWhere (has_failed (Read name answer ∷ [])) before now
+read-counted : (name : List ℕ) (answer : FileRead) (before now : ℕ) → ReadIsCounted answer before now → now ≡ raised (failures (Read name answer ∷ [])) before
 read-counted name ReadFailed before now counted = counted
 read-counted name (Bytes bytes) before now counted = counted
 read-counted name NotThere before now counted = counted
@@ -143,13 +120,13 @@ passed-read name answer old new reads keeps counted = record {
   counted = read-counted name answer old.faults new.faults counted;
 }
 
--- what is held after a write fits what it leaves
-fits-written : (name bytes : List ℕ) (answer : Put) (old new : Told) → ChangesOnly name (left_by answer bytes) old new → FitAll (record { name = name; content = left_by answer bytes } ∷ old.held) new.held
-fits-written name bytes answer old new changes = λ other. at_row (bytes_eq name other) other (bytes_eq-Decides name other) where
-  at_row : (b : Bool) (other : List ℕ) → ((b ≡ true → name ≡ other) × (name ≡ other → b ≡ true)) → Fits (cond b (left_by answer bytes) (content_of other old.held)) (content_of other new.held)
-  at_row true other same = let P : List ℕ → Type 0 = λ n. Fits (left_by answer bytes) (content_of n new.held) in
+-- what is held after a write
+alike-written : (name bytes : List ℕ) (content : Content) (old new : Told) → ChangesOnly name content old new → AreAlike new.held (record { name = name; content = content } ∷ old.held)
+alike-written name bytes content old new changes = λ other. at_row (bytes_eq name other) other (bytes_eq-Decides name other) where
+  at_row : (b : Bool) (other : List ℕ) → ((b ≡ true → name ≡ other) × (name ≡ other → b ≡ true)) → content_of other new.held ≡ cond b content (content_of other old.held)
+  at_row true other same = let P : List ℕ → Type 0 = λ n. content_of n new.held ≡ content in
       subst P (same.0 refl) changes.this
-  at_row false other same = fits-from (content_of other old.held) (content_of other new.held) (changes.others other (λ e. true≢false (sym (same.1 (sym e)))))
+  at_row false other same = changes.others other (λ e. true≢false (sym (same.1 (sym e))))
 
 leads-written : (name bytes : List ℕ) (answer : Put) (old new : Option Told) → Writes answer name bytes old new → Leads (Written name bytes answer ∷ []) old new
 leads-written name bytes answer None None writes = tt
@@ -157,11 +134,12 @@ leads-written name bytes answer None (Some new) writes = absurd writes
 leads-written name bytes answer (Some old) None writes = absurd writes
 leads-written name bytes answer (Some old) (Some new) writes = record {
   opening = writes.opening;
+  spare = writes.spare;
   agree = (tt, tt);
-  held = fits-written name bytes answer old new writes;
+  held = alike-written name bytes (left_by answer bytes old.spare (content_of name old.held)) old new writes;
 }
 
-write-counted : (name bytes : List ℕ) (answer : Put) (before now : ℕ) → WriteIsCounted answer before now → RoseWhere (has_failed (Written name bytes answer ∷ [])) before now
+write-counted : (name bytes : List ℕ) (answer : Put) (before now : ℕ) → WriteIsCounted answer before now → now ≡ raised (failures (Written name bytes answer ∷ [])) before
 write-counted name bytes Done before now counted = counted
 write-counted name bytes PutFailed before now counted = counted
 
@@ -172,10 +150,14 @@ passed-written name bytes answer old new writes counted = record {
   counted = write-counted name bytes answer old.faults new.faults counted;
 }
 
-rose-not_fallen : (failed : Bool) (before now : ℕ) → RoseWhere failed before now → min before (2 ^ 64 - 1) ≤ now
-rose-not_fallen true before now rose = let x : min (before + 1) (2 ^ 64 - 1) ≤ now = rose in omega arith
-rose-not_fallen false before now same = let x : now ≡ before = same in omega arith
+raised-not_fallen : (times before : ℕ) → min before (2 ^ 64 - 1) ≤ raised times before
+raised-not_fallen zero before = omega arith
+raised-not_fallen (suc times) before = low before (raised times (one_more before)) (raised-not_fallen times (one_more before))
+  where
+    low : (before now : ℕ) → min (min (before + 1) (2 ^ 64 - 1)) (2 ^ 64 - 1) ≤ now → min before (2 ^ 64 - 1) ≤ now
+    low before now most = omega arith
 
 -- the count of faults doesn't fall, as far as to the end of its range
 pub faults-not_fallen : (exchanges : List Exchange) (old new : Shelf) → Passed exchanges old new → min old.faults (2 ^ 64 - 1) ≤ new.faults
-faults-not_fallen exchanges old new passed = rose-not_fallen (has_failed exchanges) old.faults new.faults passed.counted
+faults-not_fallen exchanges old new passed = let P : ℕ → Type 0 = λ n. min old.faults (2 ^ 64 - 1) ≤ n in
+    subst P (sym passed.counted) (raised-not_fallen (failures exchanges) old.faults)

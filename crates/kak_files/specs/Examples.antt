@@ -1,9 +1,9 @@
 -- Files that are read and written.
-use Rattle.std.specs.Prelude.{◌≡◌, ℕ, true, false, List, [], ◌∷◌, codes}
+use Rattle.std.specs.Prelude.{◌≡◌, ℕ, ◌-◌, ◌^◌, true, false, List, [], ◌∷◌, codes}
 use Rattle.kak_ports.specs.declared.sink.Put.TheVariants.{Done, Failed as PutFailed}
 use Rattle.kak_files.specs.declared.files.FileRead.TheVariants.{Bytes, NotThere, TooBig, Failed as ReadFailed}
-use Rattle.kak_files.specs.Files.{Missing, Holds, Lost, FileRow, content_of, IsAnswer, Fits}
-use Rattle.kak_files.specs.Exchanges.{Exchange, Read, Written, held_after, Agree, has_failed}
+use Rattle.kak_files.specs.Files.{Missing, Holds, Lost, FileRow, content_of, IsAnswer, raised}
+use Rattle.kak_files.specs.Exchanges.{Exchange, Read, Written, held_after, Agree, failures}
 
 -- a file of that name which holds these bytes
 abbrev pub file : List ℕ → List ℕ → FileRow
@@ -30,16 +30,21 @@ pub record WorkedExamples : Type 0 where
   pub there_after_all : IsAnswer NotThere 3 (content_of (codes "a") given) → ⊥
   pub failed : IsAnswer ReadFailed 3 (content_of (codes "a") given)
   -- writes
-  pub written : content_of (codes "b") (held_after some given) ≡ Holds (codes "new")
-  pub other_stays : content_of (codes "a") (held_after (Written (codes "b") [] Done ∷ []) given) ≡ Holds (codes "one")
-  pub made : content_of (codes "c") (held_after (Written (codes "c") [] Done ∷ []) given) ≡ Holds []
-  pub lost : content_of (codes "a") (held_after some given) ≡ Lost
-  -- a read agrees with what was written before it, and after a failed write any answer does
-  pub agrees : Agree 9 given some
-  pub old_bytes : Agree 9 given (Written (codes "b") (codes "new") Done ∷ Read (codes "b") (Bytes (codes "two")) ∷ []) → ⊥
-  pub one_failed : has_failed some ≡ true
-  pub none_failed : has_failed (Read (codes "a") TooBig ∷ Written (codes "a") [] Done ∷ []) ≡ false
-  -- of a lost content nothing is known
-  pub lost_fits : Fits Lost (Holds (codes "x"))
-  pub known_fits : Fits (Holds (codes "x")) (Holds (codes "x"))
-  pub other_fits_not : Fits (Holds (codes "x")) Missing → ⊥
+  pub written : content_of (codes "b") (held_after false some given) ≡ Holds (codes "new")
+  pub other_stays : content_of (codes "a") (held_after false (Written (codes "b") [] Done ∷ []) given) ≡ Holds (codes "one")
+  pub made : content_of (codes "c") (held_after false (Written (codes "c") [] Done ∷ []) given) ≡ Holds []
+  -- a failed write loses the file, or spares it
+  pub lost : content_of (codes "a") (held_after false some given) ≡ Lost
+  pub spared : content_of (codes "a") (held_after true some given) ≡ Holds (codes "one")
+  pub found_again : content_of (codes "a") (held_after false (Written (codes "a") [] PutFailed ∷ Written (codes "a") (codes "x") Done ∷ []) given) ≡ Holds (codes "x")
+  -- a read agrees with what was written before it; a lost file may be read as anything, a spared one as what it held
+  pub agrees : Agree 9 false given some
+  pub old_bytes : Agree 9 false given (Written (codes "b") (codes "new") Done ∷ Read (codes "b") (Bytes (codes "two")) ∷ []) → ⊥
+  pub there_still : Agree 9 true given some → ⊥
+  pub spared_bytes : Agree 9 true given (Written (codes "b") (codes "new") PutFailed ∷ Read (codes "b") (Bytes (codes "two")) ∷ [])
+  -- failures are counted one by one, up to the end of the range
+  pub one_failed : failures some ≡ 1
+  pub none_failed : failures (Read (codes "a") TooBig ∷ Written (codes "a") [] Done ∷ []) ≡ 0
+  pub two_failed : failures (Read (codes "a") ReadFailed ∷ Written (codes "a") [] PutFailed ∷ []) ≡ 2
+  pub two_more : raised 2 5 ≡ 7
+  pub at_the_end : raised 2 (2 ^ 64 - 2) ≡ 2 ^ 64 - 1

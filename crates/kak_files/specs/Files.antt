@@ -1,8 +1,7 @@
 -- What files hold, and what a read or a write of one answers and leaves.
-use Rattle.std.specs.Prelude.{◌≡◌, ◌≢◌, ℕ, ◌<◌, ◌≤◌, List, [], ◌∷◌, length, if◌then◌else◌, Some, None}
+use Rattle.std.specs.Prelude.{◌≡◌, ◌≢◌, ℕ, zero, suc, ◌+◌, ◌-◌, ◌^◌, ◌<◌, ◌≤◌, min, Bool, true, false, List, [], ◌∷◌, length, if◌then◌else◌, Some, None}
 use Rattle.std.specs.Str.{bytes_eq}
 use Rattle.std.specs.declared.option.Option.{Option}
-use Rattle.kak_ports.specs.Ports.{Rose}
 use Rattle.kak_ports.specs.declared.sink.Put.{Put}
 use Rattle.kak_ports.specs.declared.sink.Put.TheVariants.{Done, Failed as PutFailed}
 use Rattle.kak_files.specs.declared.files.FileRead.{FileRead}
@@ -30,6 +29,8 @@ pub record Told : Type 0 where
   pub opening : List FileRow
   -- what they hold
   pub held : List FileRow
+  -- whether a write that fails leaves the file as it was; if not, nothing is told of it until it is written again
+  pub spare : Bool
 
 -- What files are seen as.
 pub record Shelf : Type 0 where
@@ -60,35 +61,44 @@ abbrev pub IsWithin : ℕ → FileRead → Type 0
 IsWithin max (Bytes bytes) = length bytes ≤ max
 IsWithin max answer = Unit {0}
 
--- the count of faults rises where a read fails, and only there
+-- one more than a count; at the end of its range it stands still
+abbrev pub one_more : ℕ → ℕ
+one_more count = min (count + 1) (2 ^ 64 - 1)
+
+-- a count that rose so often
+abbrev pub raised : ℕ → ℕ → ℕ
+raised zero count = count
+raised (suc times) count = raised times (one_more count)
+
+-- the count of faults rises by one where a read fails, and only there
 abbrev pub ReadIsCounted : FileRead → ℕ → ℕ → Type 0
-ReadIsCounted ReadFailed before now = Rose before now
+ReadIsCounted ReadFailed before now = now ≡ one_more before
 ReadIsCounted answer before now = now ≡ before
 
--- what is known of a file after a write of some bytes: it holds these, or after a failure nothing is known
-abbrev pub left_by : Put → List ℕ → Content
-left_by Done bytes = Holds bytes
-left_by PutFailed bytes = Lost
+-- what stands under a name after a failed write, by whether it spares what stood there
+abbrev pub left_behind : Bool → Content → Content
+left_behind true before = before
+left_behind false before = Lost
 
--- what is known of a content: nothing of a lost one, else it is the known one
-abbrev pub Fits : Content → Content → Type 0
-Fits Lost content = Unit {0}
-Fits known content = content ≡ known
+-- what stands under a name after a write of some bytes
+abbrev pub left_by : Put → List ℕ → Bool → Content → Content
+left_by Done bytes spare before = Holds bytes
+left_by PutFailed bytes spare before = left_behind spare before
 
--- One name stands for something that fits what is known of it, and each other name for what it stood for. What was held
--- when the files were made stays.
-pub record ChangesOnly (name : List ℕ) (known : Content) (old new : Told) : Type 0 where
-  pub this : Fits known (content_of name new.held)
+-- One name stands for this content, and each other name for what it stood for. All else stays.
+pub record ChangesOnly (name : List ℕ) (content : Content) (old new : Told) : Type 0 where
+  pub this : content_of name new.held ≡ content
   pub others : (other : List ℕ) → other ≢ name → content_of other new.held ≡ content_of other old.held
   pub opening : new.opening ≡ old.opening
+  pub spare : new.spare ≡ old.spare
 
 -- a write leaves its bytes under its name, or fails, and all else is as it was, where what is held is told
 abbrev pub Writes : Put → List ℕ → List ℕ → Option Told → Option Told → Type 0
 Writes answer name bytes None None = Unit {0}
-Writes answer name bytes (Some old) (Some new) = ChangesOnly name (left_by answer bytes) old new
+Writes answer name bytes (Some old) (Some new) = ChangesOnly name (left_by answer bytes old.spare (content_of name old.held)) old new
 Writes answer name bytes old new = ⊥
 
--- the count of faults rises where a write fails, and only there
+-- the count of faults rises by one where a write fails, and only there
 abbrev pub WriteIsCounted : Put → ℕ → ℕ → Type 0
-WriteIsCounted PutFailed before now = Rose before now
+WriteIsCounted PutFailed before now = now ≡ one_more before
 WriteIsCounted Done before now = now ≡ before

@@ -1,8 +1,7 @@
 //! Files of the disk: the edge of what is proved.
 
 ghost use Rattle.std.specs.Prelude.{◌≡◌, None, IfOk};
-ghost use Rattle.kak_ports.specs.Ports.{Rose};
-ghost use Rattle.kak_files.specs.Files.{IsWithin};
+ghost use Rattle.kak_files.specs.Files.{IsWithin, one_more};
 
 use crate::files::{FileRead, Files};
 use kak_ports::{Octets, Put};
@@ -51,7 +50,7 @@ impl<R: rt::Files> DiskFiles<R> {
 
     // Counts a fault.
     fn count_fault(&mut self)
-        ensures { Rose self.old.faults self.new.faults }
+        ensures { self.new.faults ≡ one_more self.old.faults }
     {
         self.faults = self.faults.saturating_add(1);
     }

@@ -18,7 +18,7 @@ pub enum FileRead {
     NotThere,
     /// The file holds more bytes than were asked for.
     TooBig,
-    /// The read failed, and the count of faults rose.
+    /// The read failed, and the count of faults rose by one.
     Failed,
 }
 
@@ -36,8 +36,8 @@ pub trait Files {
         ensures err { OnErr result (shelf self.new ≡ shelf self.old) };
 
     /// Makes the file of a name hold these bytes and no others; where there is none, it is made. `Done` says that it
-    /// holds them. After `Failed` the count of faults rose, and nothing is known of what the file holds. Files of other
-    /// names keep what they hold.
+    /// holds them. After `Failed` the count of faults rose by one, and nothing is known of what the file holds, unless the
+    /// files tell that a failed write leaves it as it was. Files of other names keep what they hold.
     fn write(&mut self, name: &str, bytes: &[u8]) -> Put
         ensures writes { Writes result name.now bytes.now (shelf self.old).told (shelf self.new).told }
         ensures counted { WriteIsCounted result (shelf self.old).faults (shelf self.new).faults };

@@ -1,8 +1,7 @@
 //! Files in memory, with calls that are planned to fail.
 
 ghost use Rattle.std.specs.Prelude.{◌≡◌, ◌+◌, ◌≤◌, ℕ, List, ◌++◌, ◌∷◌, [], length, map, Some, false, IfOk, OnOk, IfSome, IfNone, IsTrue};
-ghost use Rattle.kak_ports.specs.Ports.{Rose};
-ghost use Rattle.kak_files.specs.Files.{content_of, Missing, Holds};
+ghost use Rattle.kak_files.specs.Files.{content_of, Missing, Holds, one_more};
 ghost use Rattle.kak_files.specs.Memory.{opening_row, written_row, is_within, are_within};
 ghost use Rattle.kak_files.specs.MemoryShelf.{opening_of, held_by, shelf_of};
 
@@ -103,7 +102,7 @@ impl MemFiles {
 impl MemFiles {
     // Counts a fault.
     fn count_fault(&mut self)
-        ensures counted { Rose self.old.faults self.new.faults }
+        ensures counted { self.new.faults ≡ one_more self.old.faults }
         ensures opening { self.new.opening ≡ self.old.opening }
         ensures bytes { self.new.bytes ≡ self.old.bytes }
         ensures pieces { self.new.pieces ≡ self.old.pieces }

@@ -1,4 +1,4 @@
-use Rattle.kak_files.proofs.ExchangeLemmas.{passed-none, passed-read, passed-written, passed-trans}
+use Rattle.kak_files.proofs.ExchangeLemmas.{passed-none, passed-read, passed-written, passed-trans, raised-range}
 use Rattle.kak_files.proofs.laws.parts_pass.Goals as goal
 
 pub returns : goal.returns
@@ -7,4 +7,5 @@ returns c = record {
   read = passed-read;
   written = passed-written;
   parts = passed-trans;
+  count = raised-range;
 }
