@@ -19,7 +19,7 @@ use Rattle.command_set.specs.Rows.{row_command}
 use Rattle.command_set.specs.Files.{row_read, row_saved}
 use Rattle.command_set.specs.Finishing.{row_finish}
 use Rattle.session_events.specs.declared.event.Answered.{Answered}
-use Rattle.kak_engine.specs.Answering.{as_made, as_read, as_put}
+use Rattle.kak_engine.specs.Answering.{as_read, as_put}
 use Rattle.kak_engine.specs.Doing.{End, Fine, Failed, GivenUp, Moment, Outcome, Part, Place, Go, in_world, after, and_then, each, unit_of, with_unit, go_on, run_command, run_read, taken_as, next_as, exchanging, go_back, by_making, by_reading, by_writing, granted, do_ask, body, depth_of, do_within, Do}
 
 -- A relation of worlds before and after that holds of every row which may come in a step behind that of its key.

@@ -1,5 +1,5 @@
 -- How parts of a step are put together from the calls that the code makes.
-use Rattle.std.proofs.Common.{◌≡◌, ℕ, suc, ◌≤◌, List, [], ◌∷◌, ◌++◌, refl, sym, ap, ◌∙◌, subst, arith, append-nil}
+use Rattle.std.proofs.Common.{◌≡◌, ℕ, suc, List, [], ◌∷◌, ◌++◌, refl, sym, ap, ◌∙◌, subst, append-nil}
 use Rattle.std.proofs.lemmas.List.{append_assoc}
 use Rattle.std.specs.Prelude.{Ok, Err, Some, IfOk, IfSome, OnOk, IsErr, true, encode_utf8_all}
 use Rattle.std.specs.declared.option.Option.{Option}
@@ -29,8 +29,8 @@ use Rattle.kak_world.proofs.WorldLaws.{joined_units}
 use Rattle.session_events.specs.declared.event.Answered.{Answered}
 use Rattle.kak_engine.specs.declared.doing.Ending.{Ending}
 use Rattle.kak_engine.specs.Answering.{as_made, as_read, as_put, made_told, read_told, put_told}
-use Rattle.kak_engine.specs.Doing.{End, Fine, Failed, GivenUp, Moment, Outcome, Part, Go, end_of, each, unit_of, with_unit, go_on, run_command, run_read, taken_as, next_as, go_back, by_making, by_reading, by_writing, Do, top, budget_spent}
-use Rattle.kak_engine.specs.Honesty.{Outside, Stays, IsHonest}
+use Rattle.kak_engine.specs.Doing.{End, Failed, GivenUp, Moment, Outcome, Part, Go, end_of, each, unit_of, with_unit, go_on, run_command, run_read, taken_as, next_as, go_back, by_making, by_reading, by_writing, Do, top, budget_spent}
+use Rattle.kak_engine.specs.Honesty.{Outside, IsHonest}
 use Rattle.kak_engine.specs.Seen.{Does, Ends, end_seen, moment_of, UnderWay, under_way}
 use Rattle.kak_engine.proofs.CarryingLaws.{Keeps}
 use Rattle.kak_engine.proofs.DoingLemmas.{Do-body}

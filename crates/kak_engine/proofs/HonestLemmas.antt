@@ -1,5 +1,5 @@
 -- How the outside stands behind one answer after another.
-use Rattle.std.proofs.Common.{◌≡◌, ℕ, ◌+◌, ◌-◌, ◌^◌, ◌≤◌, Bool, true, false, ◌||◌, List, [], ◌∷◌, ◌++◌, refl, sym, ◌∙◌, subst, arith}
+use Rattle.std.proofs.Common.{◌≡◌, ℕ, ◌+◌, ◌-◌, ◌^◌, ◌≤◌, Bool, true, false, ◌||◌, List, [], ◌∷◌, ◌++◌, refl, sym, ap, ◌∙◌, subst, arith}
 use Rattle.std.specs.Prelude.{min, nat_le}
 use Rattle.std.specs.List.{list_any}
 use Rattle.std.proofs.lemmas.Bool.{leb-true, leb-false}
@@ -7,15 +7,15 @@ use Rattle.std.proofs.lemmas.List.Folds.{list_any-append}
 use Rattle.std.proofs.Math.Nat.{min-le_left, min-le_right, le-min, min-eq_left, min-eq_right}
 use Rattle.std.specs.Prelude.{Some, None}
 use Rattle.std.specs.declared.option.Option.{Option}
-use Rattle.kak_files.specs.Files.{Shelf, Told}
-use Rattle.kak_files.specs.Exchanges.{Exchange, Leads, Passed}
+use Rattle.kak_files.specs.Files.{FileRow, Shelf, Told}
+use Rattle.kak_files.specs.Exchanges.{Exchange, Leads}
 use Rattle.regex_ports.specs.Making.{Rose, IsCounted}
 use Rattle.regex_ports.specs.declared.maker.Made.{Made}
 use Rattle.regex_ports.specs.declared.maker.Made.TheVariants as maker
 use Rattle.session_events.specs.declared.event.Answered.{Answered}
 use Rattle.kak_engine.specs.Answering.{made_told}
 use Rattle.kak_engine.specs.Honesty.{Outside, at_opening, is_refused, Stood, Counts, Stays, IsHonest, IsKept}
-use Rattle.kak_files.proofs.ExchangeLemmas.{leads-none, leads-trans, passed-none, passed-trans, faults-not_fallen}
+use Rattle.kak_files.proofs.ExchangeLemmas.{leads-none, leads-trans, passed-none, passed-same, passed-trans}
 
 -- a count that stands still, and one that doesn't fall
 pub stood-same : (n : ℕ) → Stood n n
@@ -96,28 +96,32 @@ honest-behind a b d e x y z h k = record {
 }
 
 -- what files held when they were made stays
+abbrev opened : List FileRow → Bool → Option Told
+opened opening spare = Some (record { opening = opening; held = opening; spare = spare })
+
 opening-same : (exchanges : List Exchange) (x y : Option Told) → Leads exchanges x y → at_opening y ≡ at_opening x
 opening-same exchanges None None l = refl
-opening-same exchanges (Some old) (Some new) l = rw l.opening refl
+opening-same exchanges (Some old) (Some new) l = ap (λ o. opened o new.spare) l.opening ∙ ap (λ s. opened old.opening s) l.spare
 opening-same exchanges None (Some new) l = absurd l
 opening-same exchanges (Some old) None l = absurd l
 
 -- the outside is the same still
+pub stays-same : (x y : Outside) → y.shelf ≡ x.shelf → Stood x.refusals y.refusals → Stays x y
+stays-same x y same stood = record { refusals = stood; files = ([], passed-same x.shelf y.shelf same) }
+
 pub stays-still : (o : Outside) → Stays o o
-stays-still o = record { refusals = stood-same o.refusals; faults = stood-same o.shelf.faults; opening = refl }
+stays-still o = stays-same o o refl (stood-same o.refusals)
 
 pub stays-behind : (x y z : Outside) → Stays x y → Stays y z → Stays x z
 stays-behind x y z h k = record {
   refusals = stood-stood x.refusals y.refusals z.refusals h.refusals k.refusals;
-  faults = stood-stood x.shelf.faults y.shelf.faults z.shelf.faults h.faults k.faults;
-  opening = k.opening ∙ h.opening;
+  files = (h.files.0 ++ k.files.0, passed-trans h.files.0 k.files.0 x.shelf y.shelf z.shelf h.files.1 k.files.1);
 }
 
 pub honest-stays : (answers : List Answered) (exchanges : List Exchange) (x y : Outside) → IsHonest answers exchanges x y → Stays x y
 honest-stays answers exchanges x y h = record {
   refusals = counts-stood (list_any is_refused answers) x.refusals y.refusals h.refusals;
-  faults = faults-not_fallen exchanges x.shelf y.shelf h.files;
-  opening = opening-same exchanges x.shelf.told y.shelf.told h.files.told;
+  files = (exchanges, h.files);
 }
 
 -- more exchanges lead on from what the files hold

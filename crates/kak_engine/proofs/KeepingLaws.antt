@@ -1,5 +1,5 @@
 -- No key makes a client come or go, and what a row asks for takes no unit back.
-use Rattle.std.proofs.Common.{◌≡◌, ℕ, suc, ◌≤◌, ◌<◌, ◌+◌, ◌*◌, Bool, true, false, List, refl, sym, ap, ◌∙◌, length, map, arith}
+use Rattle.std.proofs.Common.{◌≡◌, ℕ, suc, ◌≤◌, ◌<◌, ◌+◌, ◌*◌, Bool, true, false, List, refl, ◌∙◌, arith}
 use Rattle.std.specs.Prelude.{if◌then◌else◌}
 use Rattle.key_names.specs.declared.key.Key.{Key}
 use Rattle.kak_world.specs.declared.own.Mode.{Mode}
@@ -19,7 +19,7 @@ use Rattle.draw_model.specs.Drawings.{after_following}
 use Rattle.session_events.specs.declared.event.Answered.{Answered}
 use Rattle.kak_engine.specs.Doing.{End, Fine, Failed, GivenUp, Outcome, Place, go_on, Do, row_in, row_key, top, strike}
 use Rattle.kak_engine.specs.Steps.{told, begun, first_moment, ends_group, group_ended, ended, struck, after_key, noted_drawn}
-use Rattle.kak_engine.proofs.CarryingLaws.{IsCarried, Keeps, KeepsAll, keeps-unit, keeps-row, carried-within, carried-do}
+use Rattle.kak_engine.proofs.CarryingLaws.{IsCarried, Keeps, keeps-unit, keeps-row, carried-do}
 
 -- a change that keeps the clients keeps who has joined
 pub clients-joined : (old new : Flat) → KeepsClients old new → KeepsJoined old new

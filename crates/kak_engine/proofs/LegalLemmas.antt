@@ -3,7 +3,7 @@ use Rattle.std.proofs.Common.{◌≡◌, ℕ, zero, suc, ◌≤◌, ◌<◌, Boo
 use Rattle.std.specs.Prelude.{if◌then◌else◌, ◌&&◌, not, ◌==◌, nat_le, Some, None}
 use Rattle.std.specs.declared.option.Option.{Option}
 use Rattle.std.proofs.lemmas.List.{drop-append-le}
-use Rattle.std.proofs.lemmas.Bool.{eqb-true, leb-true, leb-false}
+use Rattle.std.proofs.lemmas.Bool.{eqb-true, eq-eqb, leb-true, leb-false}
 use Rattle.kak_world.specs.declared.world.TheConstants.{MAX_CLIENTS}
 use Rattle.kak_world.specs.Flat.{Flat, is_here as is_among, is_joined}
 use Rattle.session_events.specs.declared.event.Event.{Event}
@@ -11,10 +11,10 @@ use Rattle.session_events.specs.declared.event.Event.TheVariants.{Join, Key as S
 use Rattle.session_events.specs.declared.event.Answered.{Answered}
 use Rattle.session_events.specs.declared.event.Entry.{Entry}
 use Rattle.session_events.specs.declared.fault.StepFault.{StepFault}
-use Rattle.session_events.specs.Entries.{is_join, is_leave, entry_with}
+use Rattle.session_events.specs.Entries.{is_join, is_leave, entry_with, has_joined}
 use Rattle.session_events.specs.Legal.{Presence, Away, Here, Gone, is_here, moved_by, may_make, presence_from, may_make_all, IsLegal, KeepsLimit, AreLeavings}
 use Rattle.session_events.proofs.LegalLemmas.{presence-append, may-append}
-use Rattle.kak_engine.specs.Steps.{run, has_joined, is_full}
+use Rattle.kak_engine.specs.Steps.{run, is_full}
 use Rattle.kak_engine.specs.Held.{CanRun, refused_by}
 
 -- the first of two choices gave nothing, and so did the second
@@ -41,7 +41,7 @@ not-second false b e f = e
 
 -- what an event that isn't refused tells of its client and of the room
 pub record IsAllowed (history : List Entry) (limit who : ℕ) (event : Event) : Type 0 where
-  pub joined : is_join event ≡ false → is_joined who (run history) ≡ true
+  pub joined : is_join event ≡ false → is_here (presence_from who Away history) ≡ true
   pub fresh : is_join event ≡ true → has_joined who history ≡ false
   pub room : is_leave event ≡ false → nat_le limit (length history) ≡ false
   pub seat : is_join event ≡ true → length (run history).clients < MAX_CLIENTS
@@ -51,7 +51,7 @@ allowed history limit who event e =
     let second = rest-none _ _ _ e in
     let third = rest-none _ _ _ second in
     record {
-      joined = both-not (is_join event) (is_joined who (run history)) (chosen-none _ _ _ e);
+      joined = both-not (is_join event) (is_here (presence_from who Away history)) (chosen-none _ _ _ e);
       fresh = second-false (is_join event) (has_joined who history) (chosen-none _ _ _ second);
       room = not-second (is_leave event) (nat_le limit (length history)) (chosen-none _ _ _ third);
       seat = λ j. leb-false MAX_CLIENTS (length (run history).clients) (second-false (is_join event) (is_full (run history)) (chosen-none _ _ _ (rest-none _ _ _ third)) j);
@@ -84,14 +84,14 @@ one-may k who p event answers m = by (who == k) refl
     by false e = refl
 
 -- the longer history is one that each client may have
-pub lives-more : (h : List Entry) (limit who : ℕ) (event : Event) (answers : List Answered) → ((k : ℕ) → may_make_all k Away h ≡ true) → ((k : ℕ) → is_joined k (run h) ≡ is_here (presence_from k Away h)) → IsAllowed h limit who event
+pub lives-more : (h : List Entry) (limit who : ℕ) (event : Event) (answers : List Answered) → ((k : ℕ) → may_make_all k Away h ≡ true) → IsAllowed h limit who event
     → (k : ℕ) → may_make_all k Away (h ++ entry_with who event answers ∷ []) ≡ true
-lives-more h limit who event answers l known a k =
+lives-more h limit who event answers l a k =
     may-append k Away h (entry_with who event answers ∷ []) (l k) (one-may k who (presence_from k Away h) event answers (λ e. by e (is_join event) refl))
   where
     by : who ≡ k → (t : Bool) → is_join event ≡ t → may_make (presence_from k Away h) event ≡ true
     by e true j = rw (never-came k h (l k) (subst (λ q. has_joined q h ≡ false) e (a.fresh j))) j
-    by e false j = here-may (presence_from k Away h) event (sym (known k) ∙ subst (λ q. is_joined q (run h) ≡ true) e (a.joined j)) j
+    by e false j = here-may (presence_from k Away h) event (subst (λ q. is_here (presence_from q Away h) ≡ true) e (a.joined j)) j
 
 -- behind the limit there are leavings alone
 leavings-append : (a b : List Entry) → AreLeavings a → AreLeavings b → AreLeavings (a ++ b)
@@ -123,15 +123,30 @@ pub presence-more : (k who : ℕ) (h : List Entry) (event : Event) (answers : Li
 presence-more k who h event answers = presence-append k Away h (entry_with who event answers ∷ [])
 
 -- an event that isn't refused can be run
-pub can-run : (history : List Entry) (limit who : ℕ) (event : Event) (flat : Flat) → flat ≡ run history → ((k : ℕ) → is_among k flat.clients ≡ is_here (presence_from k Away history)) → IsLegal limit history
+pub can-run : (history : List Entry) (limit who : ℕ) (event : Event) (flat : Flat) → flat ≡ run history → ((k : ℕ) → is_joined k flat ≡ is_here (presence_from k Away history)) → ((k : ℕ) → is_among k flat.clients ≡ is_here (presence_from k Away history)) → IsLegal limit history
     → refused_by history limit who event ≡ None → CanRun event who flat
-can-run history limit who event flat same here legal e = by event (allowed history limit who event e)
+can-run history limit who event flat same known here legal e = by event (allowed history limit who event e)
   where
     by : (event : Event) → IsAllowed history limit who event → CanRun event who flat
     by Join a = record {
       away = here who ∙ ap is_here (never-came who history (legal.lives who) (a.fresh refl));
       few = subst (λ f. length f.clients < MAX_CLIENTS) (sym same) (a.seat refl);
     }
-    by (Struck key) a = ap (is_joined who) same ∙ a.joined refl
-    by (Refresh asked) a = ap (is_joined who) same ∙ a.joined refl
-    by Leave a = ap (is_joined who) same ∙ a.joined refl
+    by (Struck key) a = known who ∙ a.joined refl
+    by (Refresh asked) a = known who ∙ a.joined refl
+    by Leave a = known who ∙ a.joined refl
+
+-- a client that made an event, and didn't leave by it, is here
+pub in-behind : (history new : List Entry) (limit who : ℕ) (event : Event) (answers : List Answered) → refused_by history limit who event ≡ None → new ≡ history ++ entry_with who event answers ∷ [] → is_leave event ≡ false → is_here (presence_from who Away new) ≡ true
+in-behind history new limit who event answers e k stays =
+    ap (λ h. is_here (presence_from who Away h)) k ∙ ap is_here (presence-more who who history event answers) ∙ own (who == who) (eq-eqb who who refl)
+  where
+    by : (event : Event) → is_leave event ≡ false → IsAllowed history limit who event → is_here (moved_by event (presence_from who Away history)) ≡ true
+    by Join stays a = refl
+    by (Struck key) stays a = a.joined refl
+    by (Refresh asked) stays a = a.joined refl
+    by Leave stays a = cc
+
+    own : (t : Bool) → t ≡ true → is_here (if t then moved_by event (presence_from who Away history) else presence_from who Away history) ≡ true
+    own true f = by event stays (allowed history limit who event e)
+    own false f = cc

@@ -9,4 +9,5 @@ pub mod LegalLemmas
 pub mod LoopLemmas
 pub mod PresenceLemmas
 pub mod RunLemmas
+pub mod SeatingLemmas
 pub mod StageLemmas

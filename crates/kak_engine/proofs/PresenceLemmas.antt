@@ -1,5 +1,5 @@
 -- Who is there, and has joined, after an event.
-use Rattle.std.proofs.Common.{◌≡◌, ◌≢◌, ℕ, ◌≤◌, Bool, true, false, ◌||◌, List, [], ◌∷◌, length, map, refl, sym, ap, ◌∙◌, subst, arith}
+use Rattle.std.proofs.Common.{◌≡◌, ◌≢◌, ℕ, ◌≤◌, Bool, true, false, ◌||◌, List, [], ◌∷◌, length, refl, sym, ap, ◌∙◌, subst, arith}
 use Rattle.std.proofs.lemmas.List.{length-map}
 use Rattle.std.specs.List.{list_any}
 use Rattle.std.specs.Prelude.{if◌then◌else◌, ◌==◌}
@@ -101,14 +101,6 @@ few-after who Join answers flat can few = omega (arith, count_come who flat, can
 few-after who (Struck key) answers flat can few = omega (arith, count-same flat _ (keeps_key who key answers flat), few)
 few-after who (Refresh asked) answers flat can few = omega (arith, count_kept flat _ (keeps_refresh who flat), few)
 few-after who Leave answers flat can few = omega (arith, count_goes who flat (here_joined who flat can), few)
-
--- a client that made an event, and didn't leave by it, has joined
-pub own-after : (who : ℕ) (event : Event) (answers : List Answered) (flat : Flat) → CanRun event who flat → is_leave event ≡ false → (is_join event ≡ true → is_joined who (after_event who event answers flat) ≡ true)
-    → is_joined who (after_event who event answers flat) ≡ true
-own-after who Join answers flat can stays came = came refl
-own-after who (Struck key) answers flat can stays came = (keeps_key who key answers flat).joined who can
-own-after who (Refresh asked) answers flat can stays came = (keeps_refresh who flat).joined who ∙ can
-own-after who Leave answers flat can stays came = cc
 
 -- the others stay
 pub others_stay : (who k : ℕ) (event : Event) (answers : List Answered) (flat : Flat) → who ≢ k → StaysThere k flat (after_event who event answers flat)

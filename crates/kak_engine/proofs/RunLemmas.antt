@@ -1,7 +1,6 @@
 -- The world after one more entry.
-use Rattle.std.proofs.Common.{◌≡◌, ℕ, zero, suc, ◌≤◌, true, false, List, [], ◌∷◌, ◌++◌, length, drop, refl, sym, ap, ◌∙◌, subst, arith, append-nil, Ok, Err}
-use Rattle.std.specs.Prelude.{Some, None, IfOk, OnErr, ◌==◌}
-use Rattle.std.specs.declared.result.Result.{Result}
+use Rattle.std.proofs.Common.{◌≡◌, ℕ, zero, suc, ◌≤◌, true, false, List, [], ◌∷◌, ◌++◌, length, drop, refl, sym, ap, ◌∙◌, subst, arith, append-nil}
+use Rattle.std.specs.Prelude.{Some, None, ◌==◌}
 use Rattle.std.specs.declared.option.Option.{Option}
 use Rattle.std.proofs.lemmas.List.{append_assoc}
 use Rattle.kak_files.specs.Files.{Shelf}
@@ -12,17 +11,14 @@ use Rattle.session_events.specs.declared.event.Event.{Event}
 use Rattle.session_events.specs.declared.event.Event.TheVariants.{Join, Key as Struck, Refresh, Leave}
 use Rattle.session_events.specs.declared.event.Answered.{Answered}
 use Rattle.session_events.specs.declared.event.Entry.{Entry}
-use Rattle.session_events.specs.declared.event.Output.{Output}
-use Rattle.session_events.specs.declared.fault.StepFault.{StepFault}
-use Rattle.session_events.specs.Seats.{Steps}
-use Rattle.session_events.specs.Entries.{is_join, is_leave, entry_of, entry_with, AreOf}
+use Rattle.session_events.specs.Entries.{is_join, is_leave, entry_of, entry_with}
 use Rattle.session_events.specs.Legal.{Away, is_here, presence_from, AreLeavings, IsLegal}
-use Rattle.kak_engine.specs.Steps.{after_entry, after_event, output_of, exchanged, exchanges_from, exchanges, run_from, run, given_by, AreAskedFor, AllAskedFrom, AllAsked}
-use Rattle.kak_engine.specs.Held.{Held, Stands, CanRun, Takes, refused_at, refused_by}
-use Rattle.kak_engine.specs.Honesty.{Outside, IsUntouched, Stays, IsHonest, IsKept}
+use Rattle.kak_engine.specs.Steps.{after_entry, after_event, exchanged, exchanges_from, exchanges, run_from, run, AreAskedFor, AllAskedFrom, AllAsked}
+use Rattle.kak_engine.specs.Held.{Stands, CanRun, refused_at, refused_by}
+use Rattle.kak_engine.specs.Honesty.{Outside, IsUntouched, IsHonest, IsKept}
 use Rattle.kak_engine.proofs.HonestLemmas.{honest-none, kept-first, kept-more}
-use Rattle.kak_engine.proofs.LegalLemmas.{allowed, can-run, lives-more, within-more, presence-more}
-use Rattle.kak_engine.proofs.PresenceLemmas.{there_after, presence-after, here-after, joined-after, few-after, own-after}
+use Rattle.kak_engine.proofs.LegalLemmas.{allowed, can-run, lives-more, within-more, presence-more, in-behind}
+use Rattle.kak_engine.proofs.PresenceLemmas.{there_after, presence-after, here-after, joined-after, few-after}
 
 pub run_from-append : (flat : Flat) (a b : List Entry) → run_from flat (a ++ b) ≡ run_from (run_from flat a) b
 run_from-append flat [] b = refl
@@ -49,7 +45,7 @@ refused-none (Some at) history limit who event e = cc
 pub can-step : (flat : Flat) (history : List Entry) (mark : Option ℕ) (limit : ℕ) (shelf : Shelf) (who : ℕ) (event : Event) → Stands flat history mark limit shelf → refused_at mark history limit who event ≡ None → CanRun event who flat
 can-step flat history mark limit shelf who event s r =
     let free : mark ≡ None = mark-none mark history limit who event r in
-    can-run history limit who event flat (s.world free) (s.here free) s.legal (refused-none mark history limit who event r)
+    can-run history limit who event flat (s.world free) (s.known free) (s.here free) s.legal (refused-none mark history limit who event r)
 
 no-leavings : (n : ℕ) → AreLeavings (drop n [])
 no-leavings zero = tt
@@ -60,7 +56,7 @@ unfolding is_joined
 nobody-joined who = refl
 
 -- what was exchanged with the files behind one more entry
-exchanges-more : (flat : Flat) (history : List Entry) (who : ℕ) (event : Event) (answers : List Answered)
+pub exchanges-more : (flat : Flat) (history : List Entry) (who : ℕ) (event : Event) (answers : List Answered)
     → exchanges_from flat (history ++ entry_with who event answers ∷ []) ≡ exchanges_from flat history ++ exchanged who event answers (run_from flat history)
 exchanges-more flat [] who event answers = append-nil (exchanged who event answers flat)
 exchanges-more flat (e ∷ history) who event answers =
@@ -95,7 +91,7 @@ stands-more before now history new mark limit x y who event answers s r came n a
       few = λ m. subst (λ f. length f.clients ≤ MAX_CLIENTS) (sym n) (few-after who event answers before (can-step before history mark limit x.shelf who event s r) (s.few free));
       kept = λ m. subst (λ (e : List Exchange). IsKept e y.shelf) (all same) (kept-more answers (exchanges history) (exchanged who event answers before) x y (s.kept free) honest);
       legal = subst (IsLegal limit) (sym k) (record {
-        lives = lives-more history limit who event answers s.legal.lives (λ q. ap (is_joined q) (sym same) ∙ s.known free q) a;
+        lives = lives-more history limit who event answers s.legal.lives a;
         within = within-more history limit who event answers s.legal.within a;
       });
       asked = subst AllAsked (sym k) (asked-more opening history (entry_with who event answers) s.asked (subst (AreAskedFor who event answers) same asks));
@@ -128,38 +124,6 @@ leaver-joined who (Refresh asked) flat goes can = cc
 pub stands-broken : (flat now : Flat) (history new : List Entry) (mark : Option ℕ) (limit at : ℕ) (x y : Shelf) → Stands flat history mark limit x → new ≡ history → Stands now new (Some at) limit y
 stands-broken flat now history new mark limit at x y s e = record { world = λ m. cc; known = λ m. cc; here = λ m. cc; few = λ m. cc; kept = λ m. cc; legal = subst (IsLegal limit) (sym e) s.legal; asked = subst AllAsked (sym e) s.asked }
 
--- a client that made an event, and didn't leave by it, has joined in the world that the longer history leads to
-pub joined-more : (before now : Flat) (history new : List Entry) (mark : Option ℕ) (limit : ℕ) (shelf : Shelf) (who : ℕ) (event : Event) (answers : List Answered) → Stands before history mark limit shelf → refused_at mark history limit who event ≡ None
-    → (is_join event ≡ true → is_joined who now ≡ true) → now ≡ after_event who event answers before → new ≡ history ++ entry_with who event answers ∷ [] → is_leave event ≡ false → is_joined who (run new) ≡ true
-joined-more before now history new mark limit shelf who event answers s r came n k stays =
-    ap (is_joined who) (ap run k ∙ run-more history who event answers ∙ ap (after_event who event answers) (sym (s.world (mark-none mark history limit who event r))))
-    ∙ own-after who event answers before (can-step before history mark limit shelf who event s r) stays (λ j. ap (is_joined who) (sym n) ∙ came j)
-
--- the one client's step, as a seat tells it
-pub lone-steps : (r : Result Output StepFault) (x y : Held) (who : ℕ) (event : Event) → IfOk r (λ o. Takes who event x y o)
-    → IfOk r (λ o. Steps given_by (record { number = who; limit = x.limit; mark = x.mark; seen = x.history }) (record { number = who; limit = y.limit; mark = y.mark; seen = y.history }) event o)
-lone-steps (Ok o) x y who event t = record {
-  between = [];
-  answers = t.answers;
-  foreign = refl;
-  stands = t.keeps ∙ ap (λ h. h ++ entry_with who event t.answers ∷ []) (sym (append-nil x.history));
-  is = t.gives ∙ ap (λ h. output_of who event t.answers (run h)) (sym (append-nil x.history));
-}
-lone-steps (Err e) x y who event t = tt
-
--- the one client's entries are its own still
-pub lone-alone : (r : Result Output StepFault) (x y : Held) (who : ℕ) (event : Event) → IfOk r (λ o. Takes who event x y o) → OnErr r ((y.history ≡ x.history) × Stays x.outside y.outside) → AreOf who x.history → AreOf who y.history
-lone-alone (Ok o) x y who event t e a = subst (AreOf who) (sym t.keeps) (one-more x.history a)
-  where
-    one-more : (h : List Entry) → AreOf who h → AreOf who (h ++ entry_with who event t.answers ∷ [])
-    one-more [] a = (refl, tt)
-    one-more (x ∷ h) a = (a.0, one-more h a.1)
-lone-alone (Err f) x y who event t e a = subst (AreOf who) (sym e.0) a
-
--- nothing was asked for when the client came
-pub first-entry : (who : ℕ) (x y : Held) (o : Output) → Takes who Join x y o → x.history ≡ [] → y.history ≡ entry_of who Join ∷ []
-first-entry who x y o t none = t.keeps ∙ ap (λ h. h ++ entry_with who Join t.answers ∷ []) none ∙ ap (λ a. entry_with who Join a ∷ []) t.asked
-
--- and the outside wasn't called
-pub first-honest : (who : ℕ) (x y : Held) (o : Outside) (output : Output) → Takes who Join x y output → x.outside ≡ o → IsHonest [] [] o y.outside
-first-honest who x y o output t same = subst (λ q. IsHonest [] [] q y.outside) same (subst (λ a. IsHonest a [] x.outside y.outside) t.asked t.honest)
+-- a client that made an event, and didn't leave by it, is here behind the longer history
+pub in-more : (history new : List Entry) (mark : Option ℕ) (limit who : ℕ) (event : Event) (answers : List Answered) → refused_at mark history limit who event ≡ None → new ≡ history ++ entry_with who event answers ∷ [] → is_leave event ≡ false → is_here (presence_from who Away new) ≡ true
+in-more history new mark limit who event answers r = in-behind history new limit who event answers (refused-none mark history limit who event r)

@@ -1,5 +1,5 @@
 -- Worked examples of rows that ask the outside for something.
-use Rattle.std.specs.Prelude.{◌≡◌, ℕ, true, false, List, [], ◌∷◌, Some, None, encode_utf8_all}
+use Rattle.std.specs.Prelude.{◌≡◌, ℕ, false, List, [], ◌∷◌, Some, None, encode_utf8_all}
 use Rattle.kak_files.specs.declared.files.FileRead.TheVariants as file
 use Rattle.kak_files.specs.Exchanges.{Read as WasRead, Written}
 use Rattle.kak_ports.specs.declared.sink.Put.TheVariants as put

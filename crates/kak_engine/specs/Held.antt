@@ -9,12 +9,12 @@ use Rattle.session_events.specs.declared.event.Output.{Output}
 use Rattle.session_events.specs.declared.fault.StepFault.{StepFault}
 use Rattle.session_events.specs.declared.fault.StepFault.TheVariants.{Broken, NoClient, Joined, HistoryFull, Full, NoMemory}
 use Rattle.session_events.specs.declared.event.Answered.{Answered}
-use Rattle.session_events.specs.Entries.{entry_with, is_join, is_leave}
+use Rattle.session_events.specs.Entries.{entry_with, is_join, is_leave, has_joined}
 use Rattle.session_events.specs.Legal.{Away, presence_from, is_here, IsLegal}
 use Rattle.kak_files.specs.Files.{Shelf}
 use Rattle.kak_world.specs.declared.world.TheConstants.{MAX_CLIENTS}
 use Rattle.kak_world.specs.Flat.{Flat, is_here as is_among, is_joined}
-use Rattle.kak_engine.specs.Steps.{run, output_of, exchanged, exchanges, has_joined, is_full, AreAskedFor, AllAsked}
+use Rattle.kak_engine.specs.Steps.{run, output_of, exchanged, exchanges, is_full, AreAskedFor, AllAsked}
 use Rattle.kak_engine.specs.Honesty.{Outside, IsHonest, IsKept}
 
 -- an engine: its history, the number of entries that stood when it broke, if it did, how many it may have, and its outside
@@ -40,10 +40,11 @@ pub record Stands (flat : Flat) (history : List Entry) (mark : Option ℕ) (limi
 abbrev pub KeepsPlaces : Option ℕ → Flat → ℕ → ℕ → Type 0
 KeepsPlaces mark flat count room = mark ≡ None → count + length flat.clients ≤ room
 
--- why an event of a client is refused by an engine that isn't broken: the first reason that holds
+-- why an event of a client is refused by an engine that isn't broken: the first reason that holds. A client that has come
+-- and not gone is here
 abbrev pub refused_by : List Entry → ℕ → ℕ → Event → Option StepFault
 refused_by history limit who event =
-    if not (is_join event) && not (is_joined who (run history)) then Some (NoClient who)
+    if not (is_join event) && not (is_here (presence_from who Away history)) then Some (NoClient who)
     else (if is_join event && has_joined who history then Some (Joined who)
     else (if not (is_leave event) && nat_le limit (length history) then Some HistoryFull
     else (if is_join event && is_full (run history) then Some Full

@@ -1,5 +1,5 @@
 -- How the answers of a step, what was exchanged with the files in it, and the outside belong together.
-use Rattle.std.specs.Prelude.{◌≡◌, ◌≤◌, ◌-◌, ◌^◌, ℕ, Bool, true, false, List, [], min, Some, None}
+use Rattle.std.specs.Prelude.{◌≡◌, ◌≤◌, ◌-◌, ◌^◌, ℕ, Bool, true, false, List, min, Some, None}
 use Rattle.std.specs.declared.option.Option.{Option}
 use Rattle.std.specs.List.{list_any}
 use Rattle.kak_files.specs.Files.{Shelf, Told}
@@ -41,11 +41,15 @@ abbrev pub Counts : Bool → ℕ → ℕ → Type 0
 Counts true before now = Rose before now
 Counts false before now = Stood before now
 
--- The outside is the same still: no count has fallen, and what the files held when they were made is what it was.
+-- some exchanges were all that passed between two moments of files; which they were isn't told
+abbrev pub SomePassed : Shelf → Shelf → Type 0
+SomePassed before now = (exchanges : List Exchange) × Passed exchanges before now
+
+-- The outside is the same still: the maker's count has not fallen, and the files are as some exchanges left them, which
+-- leave what they held when they were made.
 pub record Stays (before now : Outside) : Type 0 where
   pub refusals : Stood before.refusals now.refusals
-  pub faults : Stood before.shelf.faults now.shelf.faults
-  pub opening : at_opening now.shelf.told ≡ at_opening before.shelf.told
+  pub files : SomePassed before.shelf now.shelf
 
 -- Among the answers is one that a pattern was refused only where the maker's count rose. What was exchanged with the files
 -- is all that passed there: they were read and written so, and in that order, and their count rose once for each call that

@@ -4,5 +4,6 @@ pub mod Steps
 pub mod Honesty
 pub mod Seen
 pub mod Held
+pub mod Seating
 pub mod Laws
 pub mod Examples

@@ -1,5 +1,5 @@
 -- What the code of a step answers, as the definitions have it.
-use Rattle.std.specs.Prelude.{◌≡◌, ℕ, true, List, ◌++◌, Ok, Err}
+use Rattle.std.specs.Prelude.{◌≡◌, true, List, ◌++◌, Ok, Err}
 use Rattle.std.specs.declared.result.Result.{Result}
 use Rattle.std.specs.declared.alloc.AllocError.{AllocError}
 use Rattle.kak_files.specs.Exchanges.{Exchange}

@@ -1,13 +1,12 @@
 -- The steps of a session: what each entry of its history does to the world, and what it gives its client.
-use Rattle.std.specs.Prelude.{◌≡◌, ℕ, Bool, true, false, not, ◌&&◌, ◌==◌, nat_le, if◌then◌else◌, List, [], ◌∷◌, ◌++◌, length, None, Some, ⊤}
-use Rattle.std.specs.List.{list_any}
+use Rattle.std.specs.Prelude.{◌≡◌, ℕ, Bool, true, false, not, ◌&&◌, nat_le, if◌then◌else◌, List, [], ◌∷◌, ◌++◌, length, None, Some, ⊤}
 use Rattle.kak_files.specs.Exchanges.{Exchange}
 use Rattle.key_names.specs.declared.key.Key.{Key}
 use Rattle.kak_world.specs.declared.own.Mode.{Mode}
 use Rattle.kak_world.specs.declared.own.Mode.TheVariants.{Normal, Insert, Prompt}
 use Rattle.kak_world.specs.declared.own.Status.TheVariants.{Quiet, Refused}
 use Rattle.kak_world.specs.declared.world.TheConstants.{MAX_CLIENTS}
-use Rattle.kak_world.specs.Flat.{Flat, opening, is_joined, joined_by, left_by, mode_of, is_leaving, with_own, with_units}
+use Rattle.kak_world.specs.Flat.{Flat, opening, joined_by, left_by, mode_of, is_leaving, with_own, with_units}
 use Rattle.kak_world.specs.Changing.{commits}
 use Rattle.draw_model.specs.Drawings.{drawing_of, after_following}
 use Rattle.session_events.specs.declared.event.Event.{Event}
@@ -15,7 +14,6 @@ use Rattle.session_events.specs.declared.event.Event.TheVariants.{Join, Key as S
 use Rattle.session_events.specs.declared.event.Answered.{Answered}
 use Rattle.session_events.specs.declared.event.Entry.{Entry}
 use Rattle.session_events.specs.declared.event.Output.{Output}
-use Rattle.session_events.specs.Entries.{is_join}
 use Rattle.kak_engine.specs.Doing.{End, Fine, Failed, GivenUp, Moment, Outcome, strike, top}
 
 -- a client is told why its key was refused
@@ -105,13 +103,10 @@ exchanges_from flat (entry ∷ entries) = exchanged entry.who entry.event entry.
 abbrev pub exchanges : List Entry → List Exchange
 exchanges history = exchanges_from opening history
 
--- whether an entry is that client's joining
-abbrev pub is_join_of : ℕ → Entry → Bool
-is_join_of who entry = entry.who == who && is_join entry.event
-
--- whether a client joined before
-abbrev pub has_joined : ℕ → List Entry → Bool
-has_joined who history = list_any (is_join_of who) history
+-- what the outside answered in the entries of a history, in order
+abbrev pub answers_in : List Entry → List Answered
+answers_in [] = []
+answers_in (entry ∷ entries) = entry.answers ++ answers_in entries
 
 -- whether no further client may join
 abbrev pub is_full : Flat → Bool
@@ -143,7 +138,3 @@ AllAsked history = AllAskedFrom opening history
 -- what an entry gives its client, behind the entries before it
 abbrev pub given_by : List Entry → Entry → Output
 given_by before entry = output_of entry.who entry.event entry.answers (run before)
-
--- whether a client is joined behind some entries
-abbrev pub is_in : List Entry → ℕ → Bool
-is_in history who = is_joined who (run history)

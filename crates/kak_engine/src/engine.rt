@@ -5,14 +5,14 @@ ghost use Rattle.std.specs.Prelude.{◌≡◌, ◌<◌, ◌≤◌, ◌^◌, [], 
 ghost use Rattle.kak_world.specs.Flat.{is_here, is_joined, is_leaving};
 ghost use Rattle.kak_world.specs.Settled.{AllListsSettled};
 ghost use Rattle.kak_world.specs.declared.world.TheConstants.{MAX_CLIENTS};
-ghost use Rattle.kak_engine.specs.Steps.{after_key, after_event, output_of, exchanged, exchanges, has_joined, run, begun, told, refused, group_ended, noted_drawn, AreAskedFor, AllAsked};
+ghost use Rattle.kak_engine.specs.Steps.{after_key, after_event, output_of, exchanged, exchanges, run, begun, told, refused, group_ended, noted_drawn, AreAskedFor, AllAsked};
 ghost use Rattle.kak_engine.specs.Seen.{end_seen};
 ghost use Rattle.kak_engine.specs.Honesty.{outside_of, IsUntouched, Stays, IsHonest, IsKept};
 ghost use Rattle.kak_engine.specs.Held.{refusal_of, refused_by, marked_after, marked_by, CanRun, Takes};
 ghost use Rattle.session_events.specs.declared.event.Event.TheVariants.{Leave, Key as Struck};
 ghost use Rattle.session_events.specs.declared.fault.StepFault.TheVariants.{NoMemory};
-ghost use Rattle.session_events.specs.Entries.{entry_of, is_join, is_leave};
-ghost use Rattle.session_events.specs.Legal.{IsLegal};
+ghost use Rattle.session_events.specs.Entries.{entry_of, is_join, is_leave, has_joined};
+ghost use Rattle.session_events.specs.Legal.{Away, is_here as is_in, presence_from, IsLegal};
 ghost use Rattle.draw_model.specs.Drawings.{drawing_of, after_following};
 
 use crate::doing::{Ending, strike};
@@ -219,7 +219,8 @@ fn refusal_by(
     who: u32,
     event: Event,
 ) -> Option<StepFault>
-    requires { world.now.flat ≡ run history.now }
+    requires world { world.now.flat ≡ run history.now }
+    requires known { is_joined who world.now.flat ≡ is_in (presence_from who Away history.now) }
     ensures { result ≡ refused_by history.now limit who event }
 {
     let joins = is_join(event);
@@ -377,7 +378,7 @@ impl<F: Files, M: PatternMaker> Engine<F, M> {
         requires allowed { refusal_of self.old who event ≡ None }
         ensures takes { IfOk result (λ output. Takes who event self.old self.new output) }
         ensures marked { OnOk result (self.new.mark ≡ self.old.mark) }
-        ensures joined { OnOk result (is_leave event ≡ false → is_joined who (run self.new.history) ≡ true) }
+        ensures joined { OnOk result (is_leave event ≡ false → is_in (presence_from who Away self.new.history) ≡ true) }
         ensures err { OnErr result ((self.new.history ≡ self.old.history) × Stays self.old.outside self.new.outside) }
         ensures breaks { OnErr result (self.new.mark ≡ marked_by self.old.mark (length self.old.history)) }
         ensures leaves { is_leave event ≡ true → IsOk result }
@@ -414,14 +415,14 @@ impl<F: Files, M: PatternMaker> Engine<F, M> {
     }
 
     /// Takes one event of a client. On Ok it stands as the last entry of the history, with what the outside answered, and the
-    /// output is what it gives on the world that the history led to; unless it left, the client is joined. Refusals are tested
+    /// output is what it gives on the world that the history led to; unless it left, the client is here. Refusals are tested
     /// in the order `Broken`, `NoClient`, `Joined`, `HistoryFull`, `Full`; they change nothing. `NoMemory` adds no entry, and
     /// breaks the engine; a client's going never wants memory.
     pub fn step(&mut self, alloc: Global, who: u32, event: Event) -> Result<Output, StepFault>
         ensures refused { IfSome (refusal_of self.old who event) (λ fault. (result ≡ Err fault) × (self.new.outside ≡ self.old.outside)) }
         ensures answered { refusal_of self.old who event ≡ None → IfErr result (λ fault. (fault ≡ NoMemory) × (is_leave event ≡ false)) }
         ensures takes { IfOk result (λ output. Takes who event self.old self.new output) }
-        ensures joined { OnOk result (is_leave event ≡ false → is_joined who (run self.new.history) ≡ true) }
+        ensures joined { OnOk result (is_leave event ≡ false → is_in (presence_from who Away self.new.history) ≡ true) }
         ensures err { OnErr result ((self.new.history ≡ self.old.history) × Stays self.old.outside self.new.outside) }
         ensures mark { self.new.mark ≡ marked_after result self.old }
         ensures limit { self.new.limit ≡ self.old.limit }

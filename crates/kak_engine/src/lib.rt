@@ -10,7 +10,7 @@ pub mod seat;
 
 pub use engine::{Engine, NoEngine};
 pub use outside::Outside;
-pub use seat::LoneSeat;
+pub use seat::EngineSeats;
 
 #[cfg(test)]
 mod test_patterns;

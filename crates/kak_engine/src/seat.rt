@@ -1,77 +1,97 @@
-//! The one seat at an engine that nobody else uses.
+//! The seats of an engine that nobody else uses.
 
-ghost use Rattle.std.specs.Prelude.{◌≡◌, ◌<◌, ◌∷◌, [], IfOk, IfErr, None};
-ghost use Rattle.std.proofs.Props.{props};
-ghost use Rattle.session_events.specs.declared.event.Event.TheVariants.{Join};
-ghost use Rattle.session_events.specs.Entries.{AreOf, entry_of};
-ghost use Rattle.session_events.specs.Legal.{IsLegal};
-ghost use Rattle.kak_engine.specs.Honesty.{outside_of, IsUntouched, Stays, IsHonest, IsKept};
-ghost use Rattle.kak_engine.specs.Steps.{given_by, is_in, exchanges, AllAsked};
+ghost use Rattle.std.specs.Prelude.{◌≡◌, IfOk, IfErr, None};
+ghost use Rattle.kak_engine.specs.Honesty.{outside_of, IsUntouched, IsKept};
+ghost use Rattle.kak_engine.specs.Seating.{new_seats, WasHonest};
+ghost use Rattle.kak_engine.specs.Steps.{exchanges, AllAsked};
 
 use crate::engine::{Engine, NoEngine};
 use kak_files::Files;
 use regex_ports::PatternMaker;
-use session_events::{Event, Output, Seat, StepFault};
+use session_events::{Event, Output, Seat, Seats, StepFault};
 use std::alloc::Global;
+use std::marker::Model;
+use std::snapshot::Snapshot;
 
-/// The one seat at an engine that nobody else uses.
-#[derive(Drop, Debug)]
-pub struct LoneSeat<F: Files, M: PatternMaker> {
+/// The seats of an engine that nobody else uses: its clients play one at a time, each while the seats are turned to it.
+/// Contracts see what the engine holds, that client's number, and the outside as it was when the seats were made.
+#[derive(Drop)]
+pub struct EngineSeats<F: Files, M: PatternMaker> {
     engine: Engine<F, M>,
     who: u32,
-    ghost alone: { AreOf who engine.history } by { Prim.hlevel props },
+    first: Snapshot<Engine<F, M>>,
 }
 
-impl<F: Files, M: PatternMaker> LoneSeat<F, M> {
-    /// A seat at a new engine with files and a maker of patterns, for a client that has just come. The history may have so
-    /// many entries, leavings aside. The files hold what they held when they were made, where that is told.
+impl<F: Files, M: PatternMaker> Model for EngineSeats<F, M> {
+    ghost use Rattle.kak_engine.specs.Seating.{EngineSeated, WasHonest};
+
+    ghost Value = { EngineSeated };
+
+    ghost view = { λ s. record { engine = s.engine; who = s.who; first = s.first.value.outside } };
+
+    ghost invariant = { λ s. WasHonest s.engine.history s.engine.mark s.first.value.outside s.engine.outside };
+}
+
+impl<F: Files, M: PatternMaker> EngineSeats<F, M> {
+    /// Seats at a new engine with files and a maker of patterns, turned to a client. Nobody has come yet. The history may
+    /// have so many entries, leavings aside. The files hold what they held when they were made, where that is told.
     pub fn new(
         alloc: Global,
         files: F,
         patterns: M,
         limit: u64,
         who: u32,
-    ) -> Result<LoneSeat<F, M>, NoEngine<F, M>>
-        requires some { 0 < limit }
-        requires opening { IsUntouched (F.shelf files).told }
-        ensures who { IfOk result (λ s. s.who ≡ who) }
-        ensures limit { IfOk result (λ s. s.engine.limit ≡ limit) }
-        ensures mark { IfOk result (λ s. s.engine.mark ≡ None) }
-        ensures joined { IfOk result (λ s. s.engine.history ≡ entry_of who Join ∷ []) }
-        ensures legal { IfOk result (λ s. IsLegal s.engine.limit s.engine.history) }
-        ensures honest { IfOk result (λ s. IsHonest [] [] (outside_of (F.shelf files) (M.refusals patterns)) s.engine.outside) }
-        ensures none { IfErr result (λ none. Stays (outside_of (F.shelf files) (M.refusals patterns)) (outside_of (F.shelf none.files) (M.refusals none.patterns))) }
+    ) -> Result<EngineSeats<F, M>, NoEngine<F, M>>
+        requires { IsUntouched (F.shelf files).told }
+        ensures new { IfOk result (λ s. s ≡ new_seats (outside_of (F.shelf files) (M.refusals patterns)) limit who) }
+        ensures none { IfErr result (λ none. (none.files ≡ files) × (none.patterns ≡ patterns)) }
     {
-        let mut engine = Engine::new(alloc, files, patterns, limit)?;
-        match engine.step(alloc, who, Event::Join) {
-            Ok(_output) => Ok(LoneSeat { engine, who }),
-            Err(_) => {
-                let (files, patterns) = engine.into_outside();
-                Err(NoEngine { files, patterns })
-            }
-        }
+        let engine = Engine::new(alloc, files, patterns, limit)?;
+        let first = Snapshot::of(&engine);
+        Ok(EngineSeats { engine, who, first })
     }
 
-    /// The files and the maker of patterns. In each entry the outside answered what it was asked for, and what was exchanged
-    /// with the files led from what they held when they were made to what they hold, where they tell it.
+    /// The files and the maker of patterns. In each entry the outside answered what it was asked for, and it was honest in
+    /// all of them: what was exchanged with the files led from what they held when the seats were made to what they hold
+    /// where they tell it, and their failures and the maker's refusals were counted.
     pub fn into_outside(self) -> (F, M)
-        ensures files { F.shelf result.0 ≡ self.engine.outside.shelf }
-        ensures patterns { M.refusals result.1 ≡ self.engine.outside.refusals }
-        ensures kept { self.engine.mark ≡ None → IsKept (exchanges self.engine.history) self.engine.outside.shelf }
+        ensures honest { WasHonest self.engine.history self.engine.mark self.first (outside_of (F.shelf result.0) (M.refusals result.1)) }
+        ensures kept { self.engine.mark ≡ None → IsKept (exchanges self.engine.history) (F.shelf result.0) }
         ensures asked { AllAsked self.engine.history }
     {
-        self.engine.into_outside()
+        let EngineSeats {
+            engine,
+            who: _,
+            first: _,
+        } = self;
+        engine.into_outside()
     }
 }
 
-impl<F: Files, M: PatternMaker> Seat for LoneSeat<F, M> {
+impl<F: Files, M: PatternMaker> Seat for EngineSeats<F, M> {
+    ghost use Rattle.kak_engine.specs.Honesty.{Outside};
+    ghost use Rattle.kak_engine.specs.Seating.{seat_of};
+    ghost use Rattle.kak_engine.specs.Steps.{given_by};
+
     ghost gives = { given_by };
 
-    ghost is_in = { is_in };
+    ghost seated = { seat_of };
 
-    ghost seated = { λ s. record { number = s.who; limit = s.engine.limit; mark = s.engine.mark; seen = s.engine.history } };
+    ghost Kept = { Outside };
+
+    ghost kept = { λ s. s.first };
 
     fn step(&mut self, alloc: Global, event: Event) -> Result<Output, StepFault> {
         self.engine.step(alloc, self.who, event)
     }
+}
+
+impl<F: Files, M: PatternMaker> Seats for EngineSeats<F, M> {
+    ghost use Rattle.std.proofs.Common.{refl};
+
+    fn turn_to(&mut self, who: u32) {
+        self.who = who;
+    }
+
+    ghost alone = { λ seats. refl };
 }

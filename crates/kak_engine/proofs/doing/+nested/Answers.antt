@@ -1,5 +1,6 @@
-use Rattle.std.proofs.Common.{rules, ◌≡◌, ℕ, refl, sym, ap, ◌∙◌, arith, subst, Ok}
+use Rattle.std.proofs.Common.{rules, ◌≡◌, refl, sym, ap, ◌∙◌, subst, Ok}
 use Rattle.std.specs.Prelude.{encode_utf8_all}
+use Rattle.std.proofs.lemmas.Result.{err_from_is_err_and}
 use Rattle.regex_ports.specs.Making.{IfBuilt}
 use Rattle.kak_world.specs.Flat.{Flat}
 use Rattle.command_set.specs.Rows.{row_command}
@@ -9,13 +10,14 @@ use Rattle.command_set.proofs.CommandLaws.{command_units, keeps_command}
 use Rattle.command_set.proofs.FileLaws.{read_falls, keeps_read, saved_falls, keeps_saved}
 use Rattle.command_set.proofs.FinishLaws.{finish_falls, keeps_finish}
 use Rattle.kak_engine.specs.Doing.{Do, go_on, top}
-use Rattle.kak_world.specs.declared.ask.Ask.TheVariants.{Nothing, Commands, Read, Write, Leave}
+use Rattle.kak_world.specs.declared.ask.Ask.TheVariants.{Nothing, Commands, Leave}
 use Rattle.kak_world.specs.Rows.{Asks, RowEnd}
 use Rattle.kak_engine.specs.Seen.{moment_of}
 use Rattle.kak_engine.proofs.DoingLemmas.{Do-body}
 use Rattle.kak_engine.proofs.EndLemmas.{ends-by, does-alone, ends-there, row-asks, row-fails, all-read, unread, made-ends, read-ends, write-ends, unit-taken, unit-wanting, unit-joined, joined-row}
 use Rattle.kak_engine.proofs.KeepingLaws.{clients-joined}
 use Rattle.kak_engine.proofs.LoopLemmas.{one-more-run, one-failed, one-given-up, all-run}
+use Rattle.kak_engine.proofs.HonestLemmas.{stays-behind}
 use Rattle.kak_engine.proofs.StageLemmas.{low-answered, low-taken}
 use Rattle.kak_engine.proofs.doing.+nested.Goals as goal
 
@@ -122,3 +124,8 @@ run_each-returns-in-GivenUp g t c = record {
 
 pub run_each-returns : goal.run_each-returns
 run_each-returns g t c = record { does = all-run c.args.who c.args.commands.now c.loop-command.command-index _ _ c.loop-command-test.false c.loop-command.invariant }
+
+pub run_each-returns-in_err-run_one : goal.run_each-returns-in_err-run_one
+run_each-returns-in_err-run_one g t c =
+    let p = err_from_is_err_and c.from_residual.result c.from_residual.ensures.1 in
+    record { does = rw p.1 (stays-behind _ _ _ c.loop-command.invariant.leads.stays c.in_err-run_one.ensures.does) }

@@ -1,7 +1,7 @@
 use Rattle.std.proofs.Common.{◌≡◌, None, [], ◌∷◌, ◌++◌, sym, ◌∙◌, subst, ap, arith}
 use Rattle.session_events.specs.Entries.{entry_with}
 use Rattle.kak_engine.specs.Held.{Held, refused_at}
-use Rattle.kak_engine.proofs.RunLemmas.{can-step, leaver-joined, stands-more, left-stands, joined-more}
+use Rattle.kak_engine.proofs.RunLemmas.{can-step, leaver-joined, stands-more, left-stands, in-more}
 use Rattle.kak_engine.proofs.engine.Engine.run_and_keep.Goals as goal
 
 pub keep_leaving-requires-clause-joined : goal.keep_leaving-requires-clause-joined
@@ -32,8 +32,8 @@ invariant_of-self-in-Ok g c = (
 )
 
 pub returns-in-Ok-clause-joined : goal.returns-in-Ok-clause-joined
-returns-in-Ok-clause-joined g c = joined-more _ _ _ _ _ _ _ c.args.who c.args.event c.run_with_places-ran.new.answers c.self.invariant.0 (subst (λ (h : Held). refused_at h.mark h.history h.limit c.args.who c.args.event ≡ None) (sym c.self.view_is) c.requires.allowed)
-    c.in-Ok.ensures.joined c.in-Ok.ensures.leads (c.push_reserved.ensures.items ∙ ap (λ h. h ++ entry_with c.args.who c.args.event c.run_with_places-ran.new.answers ∷ []) c.run_with_places-ran.ensures.same)
+returns-in-Ok-clause-joined g c = in-more _ _ _ _ c.args.who c.args.event c.run_with_places-ran.new.answers (subst (λ (h : Held). refused_at h.mark h.history h.limit c.args.who c.args.event ≡ None) (sym c.self.view_is) c.requires.allowed)
+    (c.push_reserved.ensures.items ∙ ap (λ h. h ++ entry_with c.args.who c.args.event c.run_with_places-ran.new.answers ∷ []) c.run_with_places-ran.ensures.same)
 
 pub returns-in-Ok-clause-legal : goal.returns-in-Ok-clause-legal
 returns-in-Ok-clause-legal g c = (invariant_of-self-in-Ok g c).0.legal

@@ -1,0 +1,45 @@
+-- What the seats of an engine keep: the outside was honest since they were made.
+use Rattle.std.specs.Prelude.{◌≡◌, ℕ, List, [], None, Some}
+use Rattle.std.specs.declared.option.Option.{Option}
+use Rattle.session_events.specs.declared.event.Entry.{Entry}
+use Rattle.session_events.specs.Entries.{others_of}
+use Rattle.session_events.specs.Seats.{Seated}
+use Rattle.kak_engine.specs.Steps.{exchanges, answers_in}
+use Rattle.kak_engine.specs.Honesty.{Outside, Stays, IsHonest}
+use Rattle.kak_engine.specs.Held.{Held}
+
+-- The seats of an engine.
+pub record EngineSeated : Type 0 where
+  -- what the engine holds
+  pub engine : Held
+  -- the client that they are turned to
+  pub who : ℕ
+  -- the outside as it was when they were made
+  pub first : Outside
+
+-- seats at an engine to which nothing happened
+abbrev pub new_seats : Outside → ℕ → ℕ → EngineSeated
+new_seats outside limit who = record {
+  engine = record { history = []; mark = None; limit = limit; outside = outside };
+  who = who;
+  first = outside;
+}
+
+-- the seat that they are for that client: nobody else plays
+abbrev pub seat_of : EngineSeated → Seated
+seat_of seats = record {
+  number = seats.who;
+  limit = seats.engine.limit;
+  mark = seats.engine.mark;
+  seen = seats.engine.history;
+  others = Some (others_of seats.who seats.engine.history);
+}
+
+-- The outside was honest in the whole of a history: it led from how the outside was at first to how it was behind the last
+-- entry. From there on an engine that isn't broken left it alone. A step that broke one has no entry; behind it the outside
+-- is the same still.
+pub record WasHonest (history : List Entry) (mark : Option ℕ) (first now : Outside) : Type 0 where
+  pub behind : Outside
+  pub honest : IsHonest (answers_in history) (exchanges history) first behind
+  pub alone : mark ≡ None → now ≡ behind
+  pub stays : Stays behind now
