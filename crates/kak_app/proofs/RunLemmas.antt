@@ -1,41 +1,52 @@
 -- Runs that came to nothing, and runs that ended in one way or another.
-use Rattle.std.proofs.Common.{◌≡◌, ℕ, inl, inr, zero, suc, List, [], drop, Ok, Err, refl, ◌∙◌, subst, arith}
+use Rattle.std.proofs.Common.{◌≡◌, ℕ, inl, zero, suc, Bool, true, false, List, [], ◌∷◌, ◌++◌, drop, Ok, Err, refl, sym, ap, ◌∙◌, subst, arith, Some, None}
+use Rattle.std.specs.Prelude.{if◌then◌else◌, ◌==◌}
+use Rattle.std.specs.declared.option.Option.{Option}
 use Rattle.std.specs.declared.result.Result.{Result}
+use Rattle.std.proofs.lemmas.Bool.{eqb-true, eq-eqb}
 use Rattle.std.proofs.KnownBytes.{Consumes-nil, Appends-nil}
 use Rattle.session_turns.specs.Headline.{Due, Sent}
+use Rattle.session_turns.specs.Histories.{own}
+use Rattle.session_turns.proofs.HistoryLemmas.{own-append}
 use Rattle.kak_ports.specs.Ports.{Inlet, Outlet}
 use Rattle.key_names.specs.declared.key.Key.{Key}
-use Rattle.session_events.specs.Entries.{AreOf}
+use Rattle.session_events.specs.declared.event.Entry.{Entry}
+use Rattle.session_events.specs.declared.event.Event.TheVariants.{Join}
+use Rattle.session_events.specs.declared.event.Output.{Output}
+use Rattle.session_events.specs.Entries.{AreOf, others_of, entry_with}
 use Rattle.session_events.specs.Legal.{AreLeavings, IsLegal}
-use Rattle.session_events.specs.Meaning.{rules}
-use Rattle.session_events.specs.Seats.{Seated, IsSameSeat}
+use Rattle.session_events.specs.Meaning.{Gives, rules}
+use Rattle.session_events.specs.Seats.{Seated, IsSameSeat, IsAlone, Steps, Sees}
 use Rattle.session_events.proofs.LegalLemmas.{lone-length}
 use Rattle.session_lines.specs.declared.playing.Stop.{Stop}
 use Rattle.session_lines.specs.declared.playing.Stop.TheVariants as stop
 use Rattle.session_lines.specs.declared.reading.InputEnd.{InputEnd}
 use Rattle.session_lines.specs.declared.reading.InputEnd.TheVariants as ending
 use Rattle.session_lines.specs.Session.{protocol}
+use Rattle.session_lines.specs.Stops.{StaysWhole}
 use Rattle.session_lines.specs.Reading.{FaultIs}
 use Rattle.session_lines.specs.Serving.{service}
 use Rattle.session_lines.specs.Connections.{WasServed, EndCauses}
-use Rattle.kak_engine.specs.Steps.{given_by, AllAsked}
+use Rattle.kak_engine.specs.Steps.{given_by, exchanges, answers_in, AllAsked}
+use Rattle.kak_engine.specs.Honesty.{Outside, IsHonest}
+use Rattle.kak_engine.specs.Seating.{WasHonest}
+use Rattle.kak_engine.proofs.HonestLemmas.{honest-none, stays-still}
 use Rattle.kak_app.specs.declared.program.TheConstants.{MAX_ENTRIES}
-use Rattle.kak_app.specs.declared.program.Status.TheVariants.{Done}
-use Rattle.kak_app.specs.Runs.{Ran, Answers, IsFull, ReadsAre, WritesAre}
+use Rattle.kak_app.specs.Runs.{Around, WasHonestBefore, OutsideIs, Ran, IsFull, ReadsAre, WritesAre}
 
 -- nothing was played
-pub nothing-ran : (keys : List Key) (left : Inlet) (before : Outlet) → Ran keys (Err stop.NoMemory) left left before before
-nothing-ran keys left before = record {
+pub nothing-ran : (keys : List Key) (a : Around) → Ran keys (Err stop.NoMemory) a a
+nothing-ran keys a = record {
   history = [];
   alone = tt;
   legal = record { lives = λ who. refl; within = none MAX_ENTRIES };
   served = record {
     bytes = [];
-    takes = Consumes-nil left.left;
+    takes = Consumes-nil a.inlet.left;
     few = omega arith;
     lines = [];
     out = [];
-    sends = Appends-nil before.told;
+    sends = Appends-nil a.outlet.told;
     served = record {
       lines = inl refl;
       stands = (record { front = []; begins = (Due (protocol keys) (rules given_by) 0 [] [], refl); stands = inl refl }, (Sent (protocol keys) (rules given_by) 0 [] [], refl));
@@ -43,6 +54,7 @@ nothing-ran keys left before = record {
     end_is = tt;
   };
   asked = tt;
+  honest = record { behind = a.outside; honest = honest-none a.outside; stays = stays-still a.outside };
   full = tt;
   reads = inl refl;
   writes = refl;
@@ -77,36 +89,98 @@ writes-are (Err (stop.Broken at)) z before now c = c.1
 writes-are (Err stop.NoMemory) z before now c = c
 writes-are (Err stop.WriteFault) z before now c = c
 
+-- a client came with whom nothing had happened
+pub own-came : (g : Gives) (x y : Seated) (output : Output) → x.seen ≡ [] → IsSameSeat x y → Steps g x y Join output → own (rules g) y.number y.seen ≡ Join ∷ []
+own-came g x y output none same s =
+    let its : List Entry = entry_with x.number Join s.answers ∷ [] in
+    ap (λ k. own (rules g) k y.seen) same.number
+    ∙ ap (own (rules g) x.number) (s.stands ∙ ap (λ h. h ++ s.between ++ its) none)
+    ∙ own-append (rules g) x.number s.between its
+    ∙ ap (λ es. es ++ own (rules g) x.number its) s.foreign
+    ∙ mine (x.number == x.number) (eq-eqb x.number x.number refl)
+  where
+    mine : (t : Bool) → t ≡ true → (if t then Join ∷ [] else []) ≡ Join ∷ []
+    mine true e = refl
+    mine false e = cc
+
+-- or didn't come
+pub nothing-served : (g : Gives) (keys : List Key) (x y : Seated) (left : Inlet) (before : Outlet) → x.seen ≡ [] → Sees g x y → WasServed (service g keys) x.number y.seen before before left left (Err stop.NoMemory)
+nothing-served g keys x y left before none s = record {
+  bytes = [];
+  takes = Consumes-nil left.left;
+  few = omega arith;
+  lines = [];
+  out = [];
+  sends = Appends-nil before.told;
+  served = record {
+    lines = inl refl;
+    stands = (record { front = []; begins = (Due (protocol keys) (rules g) x.number y.seen [], refl); stands = inl nothing }, (Sent (protocol keys) (rules g) x.number y.seen [], refl));
+  };
+  end_is = tt;
+}
+  where
+    nothing : own (rules g) x.number y.seen ≡ []
+    nothing = ap (own (rules g) x.number) (s.stands ∙ ap (λ h. h ++ s.between) none) ∙ s.foreign
+
+-- where no entry is of another client, all are the client's own
+own-alone : (who : ℕ) (h : List Entry) → others_of who h ≡ [] → AreOf who h
+own-alone who [] none = tt
+own-alone who (e ∷ h) none = by (e.who == who) refl (own-alone who h)
+  where
+    by : (t : Bool) → (e.who == who) ≡ t → (others_of who h ≡ [] → AreOf who h) → AreOf who (e ∷ h)
+    by true is rest = (eqb-true e.who who is, rest (subst (λ t. (if t then others_of who h else e ∷ others_of who h) ≡ []) is none))
+    by false is rest = let no : e ∷ others_of who h ≡ [] = subst (λ t. (if t then others_of who h else e ∷ others_of who h) ≡ []) is none in cc
+
+-- where nobody else played, there is no entry of another
+pub nobody-else : (x z : Seated) → IsAlone x → IsAlone z → IsSameSeat x z → x.seen ≡ [] → others_of z.number z.seen ≡ []
+nobody-else x z a b same none = ap told (sym b ∙ same.others ∙ a ∙ ap (λ h. Some (others_of x.number h)) none)
+  where
+    told : Option (List Entry) → List Entry
+    told (Some entries) = entries
+    told None = []
+
+-- how the outside was left, by how playing ended
+before : (history : List Entry) (mark : Option ℕ) (first last : Outside) → WasHonest history mark first last → WasHonestBefore history first last
+before history mark first last w = record { behind = w.behind; honest = w.honest; stays = w.stays }
+
+whole : (history : List Entry) (mark : Option ℕ) (first last : Outside) → WasHonest history mark first last → mark ≡ None → IsHonest (answers_in history) (exchanges history) first last
+whole history mark first last w none = subst (λ (o : Outside). IsHonest (answers_in history) (exchanges history) first o) (sym (w.alone none)) w.honest
+
+outside-is : (r : Result InputEnd Stop) (x z : Seated) (first last : Outside) → x.mark ≡ None → StaysWhole r x.mark z.mark → WasHonest z.seen z.mark first last → OutsideIs r z.seen first last
+outside-is (Ok ending) x z first last none s w = whole z.seen z.mark first last w (s none)
+outside-is (Err stop.HistoryFull) x z first last none s w = whole z.seen z.mark first last w (s none)
+outside-is (Err (stop.Broken at)) x z first last none s w = before z.seen z.mark first last w
+outside-is (Err stop.NoMemory) x z first last none s w = before z.seen z.mark first last w
+outside-is (Err stop.WriteFault) x z first last none s w = whole z.seen z.mark first last w (s none)
+
 -- client 0 was served
-pub served-ran : (keys : List Key) (r : Result InputEnd Stop) (x z : Seated) (left rest : Inlet) (before now : Outlet) → x.number ≡ 0 → x.limit ≡ MAX_ENTRIES → IsSameSeat x z → AreOf z.number z.seen → IsLegal z.limit z.seen
-    → WasServed (service given_by keys) x.number z.seen before now left rest r → FaultIs r left rest → EndCauses r z before now → AllAsked z.seen → Ran keys r left rest before now
-served-ran keys r x z left rest before now first most same o l s f c a = record {
+pub served-ran : (keys : List Key) (r : Result InputEnd Stop) (x z : Seated) (a b : Around) → x.number ≡ 0 → x.limit ≡ MAX_ENTRIES → x.mark ≡ None → IsSameSeat x z → others_of z.number z.seen ≡ [] → IsLegal z.limit z.seen
+    → WasServed (service given_by keys) x.number z.seen a.outlet b.outlet a.inlet b.inlet r → FaultIs r a.inlet b.inlet → EndCauses r z a.outlet b.outlet → StaysWhole r x.mark z.mark → AllAsked z.seen → WasHonest z.seen z.mark a.outside b.outside → Ran keys r a b
+served-ran keys r x z a b first most none same o l s f c w asked honest = record {
   history = z.seen;
   alone = mine;
   legal = subst (λ n. IsLegal n z.seen) (same.limit ∙ most) l;
-  served = subst (λ n. WasServed (service given_by keys) n z.seen before now left rest r) first s;
-  asked = a;
-  full = full-length r z before now (same.limit ∙ most) mine l c;
-  reads = reads-are r left rest f;
-  writes = writes-are r z before now c;
+  served = subst (λ n. WasServed (service given_by keys) n z.seen a.outlet b.outlet a.inlet b.inlet r) first s;
+  asked = asked;
+  honest = outside-is r x z a.outside b.outside none w honest;
+  full = full-length r z a.outlet b.outlet (same.limit ∙ most) mine l c;
+  reads = reads-are r a.inlet b.inlet f;
+  writes = writes-are r z a.outlet b.outlet c;
 }
   where
     mine : AreOf 0 z.seen
-    mine = subst (λ n. AreOf n z.seen) (same.number ∙ first) o
+    mine = subst (λ n. AreOf n z.seen) (same.number ∙ first) (own-alone z.number z.seen o)
 
 -- a session that broke is as lost as one without memory
-pub broken-ran : (keys : List Key) (at : ℕ) (left rest : Inlet) (before now : Outlet) → Ran keys (Err (stop.Broken at)) left rest before now → Ran keys (Err stop.NoMemory) left rest before now
-broken-ran keys at left rest before now r = record {
+pub broken-ran : (keys : List Key) (at : ℕ) (a b : Around) → Ran keys (Err (stop.Broken at)) a b → Ran keys (Err stop.NoMemory) a b
+broken-ran keys at a b r = record {
   history = r.history;
   alone = r.alone;
   legal = r.legal;
   served = record { bytes = r.served.bytes; takes = r.served.takes; few = r.served.few; lines = r.served.lines; out = r.served.out; sends = r.served.sends; served = r.served.served; end_is = tt };
   asked = r.asked;
+  honest = r.honest;
   full = tt;
   reads = r.reads;
   writes = r.writes;
 }
-
--- a run whose input ended
-pub ended-done : (keys : List Key) (e : InputEnd) (left rest : Inlet) (before now : Outlet) → e ≡ ending.Ended → Ran keys (Ok e) left rest before now → Answers keys Done left rest before now
-ended-done keys e left rest before now end ran = inr (subst (λ q. Ran keys (Ok q) left rest before now) end ran)

@@ -3,6 +3,7 @@ use Rattle.std.specs.Prelude.{◌≡◌, ℕ, ◌+◌, ◌⊎◌, Bool, false, �
 use Rattle.std.specs.Str.{bytes_eq, chars}
 use Rattle.std.specs.declared.result.Result.{Result}
 use Rattle.kak_ports.specs.Ports.{Inlet, Outlet, Rose}
+use Rattle.kak_files.specs.Files.{Shelf}
 use Rattle.key_names.specs.declared.key.Key.{Key}
 use Rattle.file_words.specs.Files.{is_file_name, edit_keys}
 use Rattle.session_events.specs.declared.event.Entry.{Entry}
@@ -15,7 +16,8 @@ use Rattle.session_lines.specs.declared.reading.InputEnd.TheVariants as ending
 use Rattle.session_lines.specs.Serving.{service}
 use Rattle.session_lines.specs.Stops.{NoneFailed}
 use Rattle.session_lines.specs.Connections.{WasServed}
-use Rattle.kak_engine.specs.Steps.{given_by, AllAsked}
+use Rattle.kak_engine.specs.Steps.{given_by, exchanges, answers_in, AllAsked}
+use Rattle.kak_engine.specs.Honesty.{Outside, outside_of, Stays, IsHonest}
 use Rattle.kak_app.specs.declared.program.TheConstants.{MAX_ENTRIES}
 use Rattle.kak_app.specs.declared.program.Status.{Status}
 use Rattle.kak_app.specs.declared.program.Status.TheVariants.{Done, Usage, ReadFault, WriteFault, NoMemory, HistoryFull, InputFull}
@@ -63,25 +65,50 @@ abbrev pub WritesAre : Result InputEnd Stop → Outlet → Outlet → Type 0
 WritesAre (Err stop.WriteFault) before now = Rose before.faults now.faults
 WritesAre _ before now = NoneFailed before now
 
--- Client 0 was served, with these keys before its first drawing: there is a history that there can be, with no entry of anybody else, and what was read, what stands
--- in that history and what was written belong together as they do at the end of a connection. In each entry the outside
--- answered what it was asked for.
-pub record Ran (keys : List Key) (result : Result InputEnd Stop) (left rest : Inlet) (before now : Outlet) : Type 0 where
+-- What is around a run: its input, its output, and its files with its maker of patterns.
+pub record Around : Type 0 where
+  pub inlet : Inlet
+  pub outlet : Outlet
+  pub outside : Outside
+
+abbrev pub around : Inlet → Outlet → Shelf → ℕ → Around
+around inlet outlet shelf refusals = record { inlet = inlet; outlet = outlet; outside = outside_of shelf refusals }
+
+-- The outside was honest in a history, as far as to a step that memory was wanting for: that step has no entry, and behind
+-- the last one no count fell, and what the files held when they were made stayed.
+pub record WasHonestBefore (history : List Entry) (first last : Outside) : Type 0 where
+  pub behind : Outside
+  pub honest : IsHonest (answers_in history) (exchanges history) first behind
+  pub stays : Stays behind last
+
+-- how the outside was left: it was honest in the whole history, or where memory was wanting, as far as to that step
+abbrev pub OutsideIs : Result InputEnd Stop → List Entry → Outside → Outside → Type 0
+OutsideIs (Err stop.NoMemory) history first last = WasHonestBefore history first last
+OutsideIs (Err (stop.Broken at)) history first last = WasHonestBefore history first last
+OutsideIs _ history first last = IsHonest (answers_in history) (exchanges history) first last
+
+-- Client 0 was served, with these keys before its first drawing: there is a history that there can be, with no entry of
+-- anybody else, and what was read, what stands in that history and what was written belong together as they do at the end of
+-- a connection. In each entry the outside answered what it was asked for, and it was honest: each read was answered by what
+-- the files held, what they hold is what the writes left, and each failure was counted.
+pub record Ran (keys : List Key) (result : Result InputEnd Stop) (old new : Around) : Type 0 where
   pub history : List Entry
   pub alone : AreOf 0 history
   pub legal : IsLegal MAX_ENTRIES history
-  pub served : WasServed (service given_by keys) 0 history before now left rest result
+  pub served : WasServed (service given_by keys) 0 history old.outlet new.outlet old.inlet new.inlet result
   pub asked : AllAsked history
+  pub honest : OutsideIs result history old.outside new.outside
   pub full : IsFull result history
-  pub reads : ReadsAre result left rest
-  pub writes : WritesAre result before now
+  pub reads : ReadsAre result old.inlet new.inlet
+  pub writes : WritesAre result old.outlet new.outlet
 
--- what each status says of the bytes of the input and of the output, and of the counts of their faults
-abbrev pub Answers : List Key → Status → Inlet → Inlet → Outlet → Outlet → Type 0
-Answers keys Done left rest before now = Ran keys (Ok ending.Left) left rest before now ⊎ Ran keys (Ok ending.Ended) left rest before now
-Answers keys Usage left rest before now = (rest ≡ left) × (now ≡ before)
-Answers keys ReadFault left rest before now = Ran keys (Ok ending.ReadFault) left rest before now
-Answers keys WriteFault left rest before now = Ran keys (Err stop.WriteFault) left rest before now
-Answers keys NoMemory left rest before now = Ran keys (Err stop.NoMemory) left rest before now
-Answers keys HistoryFull left rest before now = Ran keys (Err stop.HistoryFull) left rest before now
-Answers keys InputFull left rest before now = Ran keys (Ok ending.Full) left rest before now
+-- what each status says of the bytes of the input and of the output, of the files and the maker of patterns, and of the counts
+-- of their faults
+abbrev pub Answers : List Key → Status → Around → Around → Type 0
+Answers keys Done old new = Ran keys (Ok ending.Left) old new ⊎ Ran keys (Ok ending.Ended) old new
+Answers keys Usage old new = new ≡ old
+Answers keys ReadFault old new = Ran keys (Ok ending.ReadFault) old new
+Answers keys WriteFault old new = Ran keys (Err stop.WriteFault) old new
+Answers keys NoMemory old new = Ran keys (Err stop.NoMemory) old new
+Answers keys HistoryFull old new = Ran keys (Err stop.HistoryFull) old new
+Answers keys InputFull old new = Ran keys (Ok ending.Full) old new

@@ -1,10 +1,11 @@
 ghost use Rattle.std.specs.Prelude.{◌<◌};
 
+use crate::program::attend;
 use crate::test_patterns::NoPatterns;
-use kak_engine::LoneSeat;
+use kak_engine::EngineSeats;
 use kak_files::NoFiles;
 use kak_ports::{FailingCalls, MemSink, MemSource};
-use session_lines::{InputEnd, open, play_input};
+use session_lines::InputEnd;
 use std::alloc::Global;
 use std::test::Fail;
 
@@ -43,10 +44,8 @@ fn play(alloc: Global, input: &str, piece: usize) -> Result<Session, Fail>
     bytes.extend_from_slice(input.as_bytes())?;
     let mut source = MemSource::new(bytes, piece, FailingCalls::none(alloc));
     let mut sink = MemSink::new(alloc, 100_000, FailingCalls::none(alloc))?;
-    let mut seat = LoneSeat::new(alloc, NoFiles::new(), NoPatterns::new(), 1_000, 0)?;
-    let mut out = Vec::new(alloc);
-    open(alloc, &mut seat, &mut sink, &mut out, &[])?;
-    let ending = play_input(alloc, &mut seat, &mut source, &mut sink, &mut out)?;
+    let mut seats = EngineSeats::new(alloc, NoFiles::new(), NoPatterns::new(), 1_000, 0)?;
+    let ending = attend(alloc, &mut seats, &mut source, &mut sink, &[])?;
     let mut sent = Vec::new(alloc);
     sent.extend_from_slice(sink.contents())?;
     Ok(Session { sent, ending })

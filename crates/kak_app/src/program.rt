@@ -1,17 +1,22 @@
 //! The run of the program: one client, from its first drawing to its leaving.
 
-ghost use Rattle.std.specs.Prelude.{◌≡◌, List, map, string_bytes, true, false, IfOk};
+ghost use Rattle.std.specs.Prelude.{◌≡◌, List, [], map, string_bytes, true, false, IfOk};
 ghost use Rattle.key_names.specs.declared.key.Key.{Key};
-ghost use Rattle.kak_ports.specs.Ports.{Inlet, Outlet};
 ghost use Rattle.kak_engine.specs.Honesty.{IsUntouched};
-ghost use Rattle.kak_app.specs.Runs.{Ran, code_of, is_ui_json, is_call, opens, Answers};
+ghost use Rattle.session_events.specs.Seats.{IsSameSeat, IsLegalSeat};
+ghost use Rattle.session_lines.specs.Connections.{WasServed, EndCauses};
+ghost use Rattle.session_lines.specs.Reading.{FaultIs};
+ghost use Rattle.session_lines.specs.Serving.{service};
+ghost use Rattle.session_lines.specs.Stops.{StaysWhole};
+ghost use Rattle.kak_app.specs.Runs.{Around, around, Ran, code_of, is_ui_json, is_call, opens, Answers};
 
 use file_words::{edit_keys, is_file_name};
-use kak_engine::{LoneSeat, NoEngine};
+use kak_engine::{EngineSeats, NoEngine};
 use kak_files::Files;
 use kak_ports::{Sink, Source};
 use key_names::Key;
 use regex_ports::PatternMaker;
+use session_events::{Event, Seat};
 use session_lines::{InputEnd, Stop, serve};
 use std::alloc::{AllocError, Global};
 
@@ -84,6 +89,29 @@ fn opening_keys(alloc: Global, words: &[String]) -> Result<Vec<Key>, AllocError>
     }
 }
 
+// Lets a client come to a session in which nothing has happened, and serves it.
+pub(crate) fn attend<S: Seat, I: Source, K: Sink>(
+    alloc: Global,
+    seat: &mut S,
+    input: &mut I,
+    output: &mut K,
+    keys: &[Key],
+) -> Result<InputEnd, Stop>
+    requires { (S.seated seat.old).seen ≡ [] }
+    ensures same { IsSameSeat (S.seated seat.old) (S.seated seat.new) }
+    ensures kept { S.kept seat.new ≡ S.kept seat.old }
+    ensures whole { StaysWhole result (S.seated seat.old).mark (S.seated seat.new).mark }
+    ensures legal { IsLegalSeat (S.seated seat.new) }
+    ensures served { WasServed (service S.gives keys.now) (S.seated seat.old).number (S.seated seat.new).seen (K.outlet output.old) (K.outlet output.new) (I.inlet input.old) (I.inlet input.new) result }
+    ensures fault { FaultIs result (I.inlet input.old) (I.inlet input.new) }
+    ensures cause { EndCauses result (S.seated seat.new) (K.outlet output.old) (K.outlet output.new) }
+{
+    match seat.step(alloc, Event::Join) {
+        Ok(_output) => serve(alloc, seat, input, output, keys),
+        Err(_fault) => Err(Stop::NoMemory),
+    }
+}
+
 // Serves the one client of a new session, with keys before its first drawing. Gives back the files and the maker of patterns.
 fn serve_client<I: Source, K: Sink, F: Files, M: PatternMaker>(
     alloc: Global,
@@ -94,12 +122,12 @@ fn serve_client<I: Source, K: Sink, F: Files, M: PatternMaker>(
     patterns: M,
 ) -> (Result<InputEnd, Stop>, F, M)
     requires { IsUntouched (F.shelf files).told }
-    ensures { Ran keys.now result.0 (I.inlet input.old) (I.inlet input.new) (K.outlet output.old) (K.outlet output.new) }
+    ensures { Ran keys.now result.0 (around (I.inlet input.old) (K.outlet output.old) (F.shelf files) (M.refusals patterns)) (around (I.inlet input.new) (K.outlet output.new) (F.shelf result.1) (M.refusals result.2)) }
 {
-    match LoneSeat::new(alloc, files, patterns, MAX_ENTRIES, 0) {
-        Ok(mut seat) => {
-            let ended = serve(alloc, &mut seat, input, output, keys);
-            let (files, patterns) = seat.into_outside();
+    match EngineSeats::new(alloc, files, patterns, MAX_ENTRIES, 0) {
+        Ok(mut seats) => {
+            let ended = attend(alloc, &mut seats, input, output, keys);
+            let (files, patterns) = seats.into_outside();
             (ended, files, patterns)
         }
         Err(NoEngine { files, patterns }) => (Err(Stop::NoMemory), files, patterns),
@@ -108,7 +136,7 @@ fn serve_client<I: Source, K: Sink, F: Files, M: PatternMaker>(
 
 // The status of a run, by how its client was served.
 fn status_of(ended: Result<InputEnd, Stop>) -> Status
-    ensures answers { (keys : List Key) (left rest : Inlet) (before now : Outlet) → Ran keys ended left rest before now → Answers keys result left rest before now }
+    ensures answers { (keys : List Key) (old new : Around) → Ran keys ended old new → Answers keys result old new }
     ensures used { result ≡ Status.Usage → ⊥ }
 {
     match ended {
@@ -125,7 +153,8 @@ fn status_of(ended: Result<InputEnd, Stop>) -> Status
 
 /// Runs the program: its words are to be `-ui json`, with a file's name behind them where one is to be opened first, its
 /// input has the client's lines, and its output is sent what the client is shown and refused. The client has the number 0.
-/// The files, which hold what they held when they were made where they tell it, and the maker of patterns are given back.
+/// The files, which hold what they held when they were made where they tell it, and the maker of patterns are given back as
+/// what the history says of them left them.
 pub fn run<I: Source, K: Sink, F: Files, M: PatternMaker>(
     alloc: Global,
     words: &[String],
@@ -137,7 +166,7 @@ pub fn run<I: Source, K: Sink, F: Files, M: PatternMaker>(
     requires { IsUntouched (F.shelf files).told }
     ensures refused { is_call (map (λ word. string_bytes word) words.now) ≡ false → result.0 ≡ Status.Usage }
     ensures taken { is_call (map (λ word. string_bytes word) words.now) ≡ true → result.0 ≡ Status.Usage → ⊥ }
-    ensures answers { Answers (opens (map (λ word. string_bytes word) words.now)) result.0 (I.inlet input.old) (I.inlet input.new) (K.outlet output.old) (K.outlet output.new) }
+    ensures answers { Answers (opens (map (λ word. string_bytes word) words.now)) result.0 (around (I.inlet input.old) (K.outlet output.old) (F.shelf files) (M.refusals patterns)) (around (I.inlet input.new) (K.outlet output.new) (F.shelf result.1) (M.refusals result.2)) }
 {
     if !is_call(words) {
         return (Status::Usage, files, patterns);

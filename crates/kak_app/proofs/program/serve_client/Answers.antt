@@ -1,8 +1,22 @@
-use Rattle.kak_app.proofs.RunLemmas.{nothing-ran, served-ran}
+use Rattle.std.proofs.Common.{refl, sym, ap, ◌∙◌, subst, Err}
+use Rattle.session_lines.specs.declared.playing.Stop.TheVariants.{NoMemory}
+use Rattle.kak_engine.specs.Honesty.{Outside, outside_of}
+use Rattle.kak_engine.specs.Seating.{WasHonest}
+use Rattle.kak_app.specs.Runs.{around, Ran}
+use Rattle.kak_app.proofs.RunLemmas.{nothing-ran, nobody-else, served-ran}
 use Rattle.kak_app.proofs.program.serve_client.Goals as goal
 
 pub returns-in-Err : goal.returns-in-Err
-returns-in-Err g c = nothing-ran _ _ _
+returns-in-Err g c =
+    let first = around (g.I.Source.inlet c.args.input.now) (g.K.Sink.outlet c.args.output.now) (g.F.Files.shelf c.args.files) (g.M.PatternMaker.refusals c.args.patterns) in
+    subst (λ files. Ran c.args.keys.now (Err NoMemory) first (around (g.I.Source.inlet c.args.input.now) (g.K.Sink.outlet c.args.output.now) (g.F.Files.shelf files) (g.M.PatternMaker.refusals c.in-Err.field-0.patterns))) (sym c.in-Err.ensures.none.0)
+    (subst (λ patterns. Ran c.args.keys.now (Err NoMemory) first (around (g.I.Source.inlet c.args.input.now) (g.K.Sink.outlet c.args.output.now) (g.F.Files.shelf c.args.files) (g.M.PatternMaker.refusals patterns))) (sym c.in-Err.ensures.none.1)
+    (nothing-ran c.args.keys.now first))
 
 pub returns-in-Ok : goal.returns-in-Ok
-returns-in-Ok g c = served-ran _ c.serve-ended.result _ _ _ _ _ _ c.in-Ok.ensures.who c.in-Ok.ensures.limit c.serve-ended.ensures.same c.serve-ended.new.seat.alone c.serve-ended.ensures.legal c.serve-ended.ensures.served c.serve-ended.ensures.fault c.serve-ended.ensures.cause c.into_outside-files.ensures.asked
+returns-in-Ok g c =
+    let last : Outside = outside_of (g.F.Files.shelf c.into_outside-files.result.0) (g.M.PatternMaker.refusals c.into_outside-files.result.1) in
+    let honest = subst (λ (first : Outside). WasHonest c.attend-ended.new.seat.engine.history c.attend-ended.new.seat.engine.mark first last) (c.attend-ended.ensures.kept ∙ ap (λ s. s.first) c.in-Ok.ensures.new) c.into_outside-files.ensures.honest in
+    let nothing = ap (λ s. s.engine.history) c.in-Ok.ensures.new in
+    served-ran _ c.attend-ended.result _ _ _ _ (ap (λ s. s.who) c.in-Ok.ensures.new) (ap (λ s. s.engine.limit) c.in-Ok.ensures.new) (ap (λ s. s.engine.mark) c.in-Ok.ensures.new) c.attend-ended.ensures.same
+    (nobody-else _ _ refl refl c.attend-ended.ensures.same nothing) c.attend-ended.ensures.legal c.attend-ended.ensures.served c.attend-ended.ensures.fault c.attend-ended.ensures.cause c.attend-ended.ensures.whole c.into_outside-files.ensures.asked honest
