@@ -4,7 +4,7 @@ import subprocess
 import tempfile
 
 from drawings import CURSOR_ON_NEWLINE, OPENING, DEFAULT, ERROR, atom, drawing, keys_line, opening
-from processes import SECONDS, EndedEarly, Talk, run_whole
+from processes import SECONDS, EndedEarly, Talk, run_whole, run_with_files
 
 # words that aren't `-ui json`, or these and a file's name
 WRONG_WORDS = [
@@ -58,6 +58,9 @@ def usage(program, report):
     for name in ["a" * 255, "./-ui", "<esc>", "a b"]:
         named = opening(drawing(EMPTY, f"{name} 1:1 normal 1/1 - client0", (0, 0)))
         report.check_run(f"the name {name}", 0, named, run_whole(program, ["-ui", "json", name], b""))
+    fault = opening(drawn([atom("file fault: folder", ERROR)]))
+    done, _files = run_with_files(program, ["-ui", "json", "folder"], b"", {"folder/file": b"text\n"})
+    report.check_run("the name of a folder", 0, fault, done)
     unknown = opening(drawn([atom("unknown switch: -ui", ERROR)]))
     report.check_run("a name that begins with a dash", 0, unknown, run_whole(program, ["-ui", "json", "-ui"], b""))
     for words in WRONG_WORDS:
