@@ -72,7 +72,7 @@ begin-reading g h a left reading t p = record {
 }
 
 -- before the last piece no line was completed that wasn't played
-last-more : (left rest : Inlet) (bytes more pending : List ℕ) (given : List (List ℕ)) → rest.most ≡ left.most → bytes ≡ with_newlines given ++ pending → AllByRecursion HasNoNewline given → IsNeeded pending rest more → LastPiece left bytes given → LastPiece left (bytes ++ more) given
+pub last-more : (left rest : Inlet) (bytes more pending : List ℕ) (given : List (List ℕ)) → rest.most ≡ left.most → bytes ≡ with_newlines given ++ pending → AllByRecursion HasNoNewline given → IsNeeded pending rest more → LastPiece left bytes given → LastPiece left (bytes ++ more) given
 last-more left rest bytes more pending given m e none (inl h) l = record {
   before = l.before;
   piece = l.piece;
@@ -114,7 +114,7 @@ pub told : {E : Type 0} (n m : Next) (was now : Reading) (left rest : Inlet) →
 told {E = E} n m was now left rest e r = subst (λ q. Reads {E = E} (Ok q) was now left rest) e r
 
 -- the input has ended, with all that was taken before
-all-behind : (a b : Option (List ℕ)) (bytes more : List ℕ) → Consumes a b bytes → IfSome b (λ input. input ≡ more) → IfSome a (λ input. input ≡ bytes ++ more)
+pub all-behind : (a b : Option (List ℕ)) (bytes more : List ℕ) → Consumes a b bytes → IfSome b (λ input. input ≡ more) → IfSome a (λ input. input ≡ bytes ++ more)
 all-behind None b bytes more c e = tt
 all-behind (Some x) None bytes more c e = absurd c
 all-behind (Some x) (Some y) bytes more c e = c ∙ ap (λ q. bytes ++ q) e
@@ -137,11 +137,11 @@ kept-front opens all first more got late out e w =
     ap is_leaving (take-append-le n got late le) ∙ stays_front n got w.stays
 
 -- the lines of bytes whose first ones are those that were played
-lines-behind : (bytes behind : List ℕ) (given : List (List ℕ)) → bytes ≡ with_newlines given ++ behind → AllByRecursion HasNoNewline given → whole_lines [] bytes ≡ given ++ whole_lines [] behind
+pub lines-behind : (bytes behind : List ℕ) (given : List (List ℕ)) → bytes ≡ with_newlines given ++ behind → AllByRecursion HasNoNewline given → whole_lines [] bytes ≡ given ++ whole_lines [] behind
 lines-behind bytes behind given e none = ap (whole_lines []) e ∙ lines-given given behind none
 
 -- where no newline stands behind them, these are all
-lines-all : (bytes behind : List ℕ) (given : List (List ℕ)) → bytes ≡ with_newlines given ++ behind → AllByRecursion HasNoNewline given → HasNoNewline behind → whole_lines [] bytes ≡ given
+pub lines-all : (bytes behind : List ℕ) (given : List (List ℕ)) → bytes ≡ with_newlines given ++ behind → AllByRecursion HasNoNewline given → HasNoNewline behind → whole_lines [] bytes ≡ given
 lines-all bytes behind given e none h = lines-behind bytes behind given e none ∙ ap (λ r. given ++ r) (no-lines behind h) ∙ append-nil given
 
 some-line : (line : List ℕ) → 0 < length line → as_line line ≡ line ∷ []
@@ -149,7 +149,7 @@ some-line [] lt = absurd (omega (arith, lt))
 some-line (x ∷ line) lt = refl
 
 -- and with the last part those of the whole input
-input-lines : (bytes behind : List ℕ) (given : List (List ℕ)) → bytes ≡ with_newlines given ++ behind → AllByRecursion HasNoNewline given → HasNoNewline behind → lines_of_input bytes ≡ given ++ as_line behind
+pub input-lines : (bytes behind : List ℕ) (given : List (List ℕ)) → bytes ≡ with_newlines given ++ behind → AllByRecursion HasNoNewline given → HasNoNewline behind → lines_of_input bytes ≡ given ++ as_line behind
 input-lines bytes behind given e none h =
     ap (λ q. q ++ as_line (last_part [] bytes)) (lines-all bytes behind given e none h)
     ∙ ap (λ q. given ++ as_line q) (ap (last_part []) e ∙ part-given given behind none ∙ all-part behind h)
@@ -190,7 +190,7 @@ line-went g old mid new a b c left rest more was now said l f same e m r s t =
     }
 
 -- the lines of bytes in which a line stands behind those that were played
-lines-at : (bytes behind line pending : List ℕ) (given : List (List ℕ)) → bytes ≡ with_newlines given ++ behind → AllByRecursion HasNoNewline given → behind ≡ line ++ 10 ∷ pending → HasNoNewline line → whole_lines [] bytes ≡ given ++ line ∷ whole_lines [] pending
+pub lines-at : (bytes behind line pending : List ℕ) (given : List (List ℕ)) → bytes ≡ with_newlines given ++ behind → AllByRecursion HasNoNewline given → behind ≡ line ++ 10 ∷ pending → HasNoNewline line → whole_lines [] bytes ≡ given ++ line ∷ whole_lines [] pending
 lines-at bytes behind line pending given e none cut h = lines-behind bytes behind given e none ∙ ap (λ q. given ++ whole_lines [] q) cut ∙ ap (λ r. given ++ r) (lines-first line pending h)
 
 -- the phases of some lines, of one behind them, and of others behind it
@@ -262,7 +262,7 @@ line-stopped g old mid new a b c left rest more was now said why same e m r s t 
     (as-stopped g mid new b c why said now.line e t)
 
 -- a last line behind those that were played, where the input has ended
-last-lines : (bytes behind line : List ℕ) (given : List (List ℕ)) → bytes ≡ with_newlines given ++ behind → AllByRecursion HasNoNewline given → behind ≡ line → HasNoNewline line → 0 < length line → lines_of_input bytes ≡ given ++ line ∷ []
+pub last-lines : (bytes behind line : List ℕ) (given : List (List ℕ)) → bytes ≡ with_newlines given ++ behind → AllByRecursion HasNoNewline given → behind ≡ line → HasNoNewline line → 0 < length line → lines_of_input bytes ≡ given ++ line ∷ []
 last-lines bytes behind line given e none all h some =
     input-lines bytes line given (e ∙ ap (λ q. with_newlines given ++ q) all) none h ∙ ap (λ r. given ++ r) (some-line line some)
 

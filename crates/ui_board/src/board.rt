@@ -1,6 +1,6 @@
 //! A board of boxed user interfaces.
 
-ghost use Rattle.std.specs.Prelude.{◌≡◌, [], Some, None, IfOk, OnOk, OnErr, option_map};
+ghost use Rattle.std.specs.Prelude.{◌≡◌, ◌<◌, ◌^◌, [], length, map, Some, None, IfOk, OnOk, OnErr, option_map};
 ghost use Rattle.ui_board.specs.Told.{Drawn, Refused, telling};
 ghost use Rattle.ui_board.specs.Boards.{seat_at, shown_at, IsTaken, free_seat, seated, left_at, is_free, OthersStay, report_at};
 
@@ -23,6 +23,18 @@ impl Board {
         Board {
             seats: Vec::new(alloc),
         }
+    }
+
+    /// A board at which these boxes have the first seats, in their order. An error is want of memory; then they are dropped.
+    pub fn of(alloc: Global, uis: Vec<Box<dyn Ui>>) -> Result<Board, AllocError>
+        requires { length uis.items < 2 ^ 32 }
+        ensures { IfOk result (λ board. board.seats.items ≡ map Some uis.items) }
+    {
+        let mut seats = Vec::new(alloc);
+        for ui in uis {
+            seats.push(Some(ui))?;
+        }
+        Ok(Board { seats })
     }
 
     /// Gives a box the free seat of the least number, and tells that number. An error is want of memory, as is want of

@@ -1,0 +1,88 @@
+-- What is answered at the end of a replay, behind the reports.
+use Rattle.std.proofs.Common.{◌≡◌, ℕ, ◌<◌, ◌≤◌, ◌⊎◌, inl, inr, List, [], ◌∷◌, ◌++◌, length, map, Ok, Err, refl, sym, ap, ◌∙◌, subst, arith}
+use Rattle.std.specs.Prelude.{get_or}
+use Rattle.std.specs.declared.option.Option.{Option}
+use Rattle.std.specs.declared.result.Result.{Result}
+use Rattle.std.specs.List.{flat_map}
+use Rattle.std.proofs.KnownBytes.{Consumes-nil}
+use Rattle.std.proofs.lemmas.List.{length-map}
+use Rattle.kak_ports.specs.Ports.{Inlet, Outlet}
+use Rattle.ui_board.specs.Told.{Kind, Silent, Shown, untold, report_of}
+use Rattle.session_turns.specs.Lines.{whole_lines}
+use Rattle.session_events.specs.declared.event.Entry.{Entry}
+use Rattle.session_events.specs.Meaning.{Gives}
+use Rattle.session_events.specs.Seats.{Seated}
+use Rattle.session_lines.specs.declared.playing.Stop.{Stop}
+use Rattle.session_lines.specs.declared.playing.Stop.TheVariants.{HistoryFull, Broken, NoMemory, WriteFault}
+use Rattle.session_lines.specs.Stops.{StaysWhole}
+use Rattle.session_replay.specs.declared.ends.ReplayEnd.{ReplayEnd}
+use Rattle.session_replay.specs.declared.ends.ReplayEnd.TheVariants as end
+use Rattle.session_replay.specs.declared.players.Client.{Client}
+use Rattle.session_replay.specs.Clients.{Held}
+use Rattle.session_replay.specs.Players.{reports}
+use Rattle.session_replay.specs.Phases.{HoldReports, WasPlayed, IsNoLoss, Halts, AreInOrder}
+use Rattle.session_replay.specs.Replays.{unwritten, Reports, WasReplayed, FaultIs}
+use Rattle.session_replay.proofs.ReportLemmas.{reports-are}
+use Rattle.session_replay.proofs.StoppedLemmas.{IsLosing, replayed-lost}
+
+-- the reports of clients, one after another
+reports-flat : (clients : List Client) → flat_map (λ client. client.report.items) clients ≡ flat_map (λ report. report) (reports clients)
+reports-flat [] = refl
+reports-flat (client ∷ clients) = ap (λ q. client.report.items ++ q) (reports-flat clients)
+
+all-reports : (clients : List Client) (shown : List Shown) → length clients ≡ length shown → ((who : ℕ) → who < length shown → get_or (reports clients) who [] ≡ report_of (get_or shown who (untold Silent))) → flat_map (λ client. client.report.items) clients ≡ flat_map report_of shown
+all-reports clients shown count each = reports-flat clients ∙ reports-are shown (reports clients) (length-map clients (λ client. client.report.items) ∙ count) each
+
+held-reports : (ended : Result ReplayEnd Stop) (clients : List Client) (shown : List Shown) (held : ℕ → Held) → length clients ≡ length shown → ((who : ℕ) → (held who).report ≡ get_or (reports clients) who []) → HoldReports ended shown held → IsNoLoss ended → flat_map (λ client. client.report.items) clients ≡ flat_map report_of shown
+held-reports (Ok by) clients shown held count is h none = all-reports clients shown count (λ who inside. sym (is who) ∙ h who inside)
+held-reports (Err HistoryFull) clients shown held count is h none = all-reports clients shown count (λ who inside. sym (is who) ∙ h who inside)
+held-reports (Err WriteFault) clients shown held count is h none = all-reports clients shown count (λ who inside. sym (is who) ∙ h who inside)
+held-reports (Err (Broken at)) clients shown held count is h none = absurd none
+held-reports (Err NoMemory) clients shown held count is h none = absurd none
+
+same-reports : (ended result : Result ReplayEnd Stop) (before now : Outlet) (xs ys : List ℕ) → (IsNoLoss ended → xs ≡ ys) → Reports ended result before now xs → Reports ended result before now ys
+same-reports (Ok by) result before now xs ys e r = subst (λ q. Reports (Ok by) result before now q) (e tt) r
+same-reports (Err HistoryFull) result before now xs ys e r = subst (λ q. Reports (Err HistoryFull) result before now q) (e tt) r
+same-reports (Err WriteFault) result before now xs ys e r = subst (λ q. Reports (Err WriteFault) result before now q) (e tt) r
+same-reports (Err (Broken at)) result before now xs ys e r = r
+same-reports (Err NoMemory) result before now xs ys e r = r
+
+-- what was played, behind the reports
+pub played-replayed : (g : Gives) (limit at : ℕ) (kinds : List Kind) (ended result : Result ReplayEnd Stop) (h : List Entry) (held : ℕ → Held) (clients told : List Client) (left rest : Inlet) (before now : Outlet) → at ≡ limit → length clients ≡ length kinds → ((who : ℕ) → (held who).report ≡ get_or (reports clients) who [])
+    → told ≡ clients → WasPlayed g at kinds ended h held left rest → Reports ended result before now (flat_map (λ client. client.report.items) told) → WasReplayed g limit kinds h left rest before now result
+played-replayed g limit at kinds ended result h held clients told left rest before now e many is t q r =
+    let p : WasPlayed g limit kinds ended h held left rest = subst (λ n. WasPlayed g n kinds ended h held left rest) e q in
+    record {
+      bytes = p.bytes;
+      takes = p.takes;
+      few = p.few;
+      lines = p.lines;
+      shown = p.shown;
+      kinds_are = p.kinds_are;
+      ended = ended;
+      replayed = p.replayed;
+      reports = same-reports ended result before now (flat_map (λ client. client.report.items) clients) (flat_map report_of p.shown)
+          (held-reports ended clients p.shown held (many ∙ sym (ap length p.kinds_are) ∙ length-map p.shown (λ box. box.kind)) is p.reports)
+          (subst (λ cs. Reports ended result before now (flat_map (λ client. client.report.items) cs)) t r);
+    }
+
+-- nothing was read where memory was wanting for the clients
+no-order : (g : Gives) (limit count : ℕ) → AreInOrder g limit count [] []
+no-order g limit count shown same i inside = absurd (omega (arith, inside))
+
+pub nothing-replayed : (g : Gives) (limit : ℕ) (kinds : List Kind) (h : List Entry) (left : Inlet) (now : Outlet) → h ≡ [] → WasReplayed g limit kinds h left left now now (Err NoMemory)
+nothing-replayed g limit kinds h left now e = subst (λ q. WasReplayed g limit kinds q left left now now (Err NoMemory)) (sym e) (record {
+  bytes = s.stopped.bytes;
+  takes = s.stopped.takes;
+  few = s.stopped.few;
+  lines = [];
+  shown = s.shown;
+  kinds_are = s.kinds_are;
+  ended = Err NoMemory;
+  replayed = s.stopped.replayed;
+  reports = (refl, refl);
+})
+  where
+    s : IsLosing g limit kinds [] [] NoMemory left left
+    s = replayed-lost NoMemory g limit kinds [] [] left left tt (no-order g limit (length kinds)) (λ who inside. (untold (get_or kinds who Silent), refl, (refl, refl))) (λ who past. refl)
+        (record { bytes = []; takes = Consumes-nil left.left; few = omega arith; first = inl ([], refl) })

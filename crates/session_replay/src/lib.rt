@@ -1,0 +1,22 @@
+//! A replay: lines of many clients, each with its client's number before it, are played in the order in which they are
+//! written, on a session that nobody else uses. What a client is shown and refused is told to a box of its own, and at the
+//! end the reports of all boxes are written, in the order of the clients' numbers.
+#![tactic(auto)]
+
+pub mod ends;
+pub mod examples;
+pub mod finishing;
+pub mod parting;
+pub mod places;
+pub mod players;
+pub mod playing;
+pub mod reading;
+pub mod replaying;
+pub mod reports;
+pub mod telling;
+
+pub use ends::ReplayEnd;
+pub use examples::worked_examples;
+pub use places::Place;
+pub use players::{NoPlayers, Players, Taken};
+pub use replaying::replay_session;
