@@ -124,12 +124,14 @@ impl<O: Played> Desk<O> {
         glimpse
     }
 
-    /// The same for the keeper, as number u32::MAX, which no pass has.
+    /// The same for the keeper, as number u32::MAX, which no pass has. All that the keeper has then seen is of passes that it
+    /// admitted.
     pub fn watch<R: Wait>(&self, rt: &R, keeper: &mut Keeper<O>) -> O::Glimpse
         requires own { IsOf keeper.old.place self.now }
         ensures glimpse { O.shows self.now.frame keeper.new.seen keeper.new.mark 4294967295 result }
         ensures same { IsSameKeeper keeper.old keeper.new }
         ensures sees { SeesMoreOf O.maker keeper.old keeper.new }
+        ensures numbers { All (λ e. O.maker e < keeper.old.made) keeper.new.seen }
     {
         let shared = &self.table.shared;
         let object = take_turn(rt, shared, &mut keeper.seat);
