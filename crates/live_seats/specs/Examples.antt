@@ -1,0 +1,34 @@
+-- Worked examples of what a client has missed: clients 0 and 1 come, and 0 is drawn.
+use Rattle.std.specs.Prelude.{◌≡◌, true, false, List, [], ◌∷◌, ◌++◌}
+use Rattle.key_names.specs.declared.key.Key.{Key}
+use Rattle.session_events.specs.declared.event.Event.TheVariants.{Join, Key as Struck, Refresh, Leave}
+use Rattle.session_events.specs.declared.event.Entry.{Entry}
+use Rattle.session_events.specs.Entries.{entry_of}
+use Rattle.live_seats.specs.Missing.{behind_drawing, has_missed}
+
+abbrev pub both_came : List Entry
+both_came = entry_of 1 Join ∷ entry_of 0 Join ∷ []
+
+abbrev pub drawn : List Entry
+drawn = both_came ++ entry_of 0 (Refresh true) ∷ []
+
+pub record Examples : Type 0 where
+  -- who comes has missed something until it is drawn, even where nothing else happened
+  pub came : has_missed 0 both_came ≡ true
+  pub was_drawn : has_missed 0 drawn ≡ false
+  -- the other client wasn't drawn by that
+  pub other_not_drawn : has_missed 1 drawn ≡ true
+  -- drawings of others are nothing to be drawn
+  pub drawing_of_other : has_missed 0 (drawn ++ entry_of 1 (Refresh false) ∷ entry_of 1 (Refresh true) ∷ []) ≡ false
+  -- a key is, the client's own too
+  pub key_of_other : (key : Key) → has_missed 0 (drawn ++ entry_of 1 (Struck key) ∷ entry_of 1 (Refresh false) ∷ []) ≡ true
+  pub own_key : (key : Key) → has_missed 0 (drawn ++ entry_of 0 (Struck key) ∷ []) ≡ true
+  -- and so is the coming or the going of another
+  pub going_of_other : has_missed 0 (drawn ++ entry_of 1 Leave ∷ []) ≡ true
+  pub coming_of_other : has_missed 0 (drawn ++ entry_of 2 Join ∷ []) ≡ true
+  -- a second drawing shows all that stands before it
+  pub drawn_again : (key : Key) → has_missed 0 (drawn ++ entry_of 1 (Struck key) ∷ entry_of 0 (Refresh false) ∷ []) ≡ false
+  pub behind_last : (key : Key) → behind_drawing 0 (drawn ++ entry_of 1 (Struck key) ∷ []) ≡ entry_of 1 (Struck key) ∷ []
+  -- who hasn't come, or has gone, has missed nothing
+  pub never_came : has_missed 2 drawn ≡ false
+  pub has_gone : has_missed 0 (both_came ++ entry_of 0 Leave ∷ []) ≡ false

@@ -1,0 +1,7 @@
+//! A seat at a session where others play too: its client can be told what came since it was drawn.
+#![tactic(auto)]
+
+pub mod examples;
+pub mod live;
+
+pub use live::{LiveSeat, Missed};
