@@ -1,8 +1,7 @@
 -- What a client has missed behind one entry more, and behind entries of others.
-use Rattle.std.proofs.Common.{◌≡◌, ℕ, Bool, true, false, ◌||◌, List, [], ◌∷◌, ◌++◌, refl, sym, ap, ◌∙◌, subst}
+use Rattle.std.proofs.Common.{◌≡◌, ℕ, Bool, true, false, ◌||◌, List, [], ◌∷◌, ◌++◌, refl, ap, ◌∙◌}
 use Rattle.std.specs.Prelude.{if◌then◌else◌, ◌&&◌, not, ◌==◌}
 use Rattle.std.specs.List.{list_any}
-use Rattle.session_events.specs.declared.event.Event.{Event}
 use Rattle.session_events.specs.declared.event.Entry.{Entry}
 use Rattle.live_seats.specs.Missing.{is_drawing, is_drawing_of, is_news, behind_drawing, has_news}
 

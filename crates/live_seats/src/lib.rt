@@ -3,5 +3,7 @@
 
 pub mod examples;
 pub mod live;
+pub mod news;
 
 pub use live::{LiveSeat, Missed};
+pub use news::{has_news, is_drawing};

@@ -1,0 +1,31 @@
+//! What stands behind a client's last drawing.
+
+ghost use Rattle.std.specs.Prelude.{◌≡◌};
+ghost use Rattle.live_seats.specs.Missing.{is_drawing, has_news};
+
+use session_events::{Entry, Event};
+
+/// Whether an event is a drawing, asked for or not.
+pub fn is_drawing(event: Event) -> bool
+    ensures { result ≡ is_drawing event }
+{
+    matches!(event, Event::Refresh(_))
+}
+
+/// Whether something to be drawn stands behind a client's last drawing. It looks back no further than to that drawing, or to the
+/// last entry that is something to be drawn.
+pub fn has_news(history: &[Entry], who: u32) -> bool
+    ensures { result ≡ has_news who history.now }
+{
+    let mut rest = history;
+    while let Some((entry, before)) = rest.split_last() {
+        if !is_drawing(entry.event) {
+            return true;
+        }
+        if entry.who == who {
+            return false;
+        }
+        rest = before;
+    }
+    false
+}
