@@ -1,0 +1,5 @@
+pub mod Starts
+pub mod Meets
+pub mod Threads
+pub mod Running
+pub mod Examples

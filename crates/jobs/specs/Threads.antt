@@ -1,0 +1,17 @@
+-- What becomes of a job for which a thread was to be made.
+use Rattle.std.specs.Prelude.{◌≡◌}
+use Rattle.jobs.specs.declared.recall.Outcome.{Outcome}
+use Rattle.jobs.specs.declared.recall.Outcome.TheVariants.{Ran, Recalled}
+use Rattle.jobs.specs.declared.threads.Begun.{Begun}
+use Rattle.jobs.specs.declared.threads.Begun.TheVariants as begun
+
+-- a job was run, and what it gave keeps its promise; or it was recalled, and may still be run
+abbrev pub Comes : {J G : Type 0} → (J → Type 0) → (J → G → Type 0) → J → Outcome J G → Type 0
+Comes ready gives job (Ran given) = gives job given
+Comes ready gives job (Recalled back) = (back ≡ job) × ready back
+
+-- the job is at work under this handle, or it is handed back
+abbrev pub Begins : {J H : Type 0} → (H → J) → J → Begun J H → Type 0
+Begins job_of job (begun.There handle) = job_of handle ≡ job
+Begins job_of job (begun.Back back) = back ≡ job
+Begins job_of job (begun.NoMemory back) = back ≡ job

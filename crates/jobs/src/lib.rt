@@ -1,0 +1,21 @@
+//! Jobs, and who runs them: one after another in this thread, or each in a thread of its own.
+#![tactic(auto)]
+
+pub mod examples;
+pub mod in_turn;
+pub mod job;
+pub mod promise_of;
+pub mod ran_here;
+pub mod recall;
+pub mod running;
+pub mod spawner;
+pub mod threads;
+
+pub use in_turn::{InTurn, StartPlan};
+pub use job::Job;
+pub use running::{Thread, begin};
+pub use spawner::{Spawner, Started};
+pub use threads::{Begun, Handle, ThreadSpawner};
+
+#[cfg(test)]
+mod tests;

@@ -1,0 +1,125 @@
+//! A job that is run by a thread of its own.
+
+ghost use Rattle.std.specs.Prelude.{◌≡◌};
+ghost use Rattle.jobs.specs.Running.{promise_of};
+ghost use Rattle.jobs.specs.Threads.{Comes, Begins};
+
+use crate::job::Job;
+use crate::promise_of::PromiseOf;
+use crate::ran_here::RanHere;
+use crate::recall::{Outcome, Recall};
+use crate::threads::{Begun, Handle};
+use std::alloc::Global;
+use std::marker::Model;
+use std::snapshot::Snapshot;
+use std::sync::Wait;
+use std::thread::{Promise, PromisedHandle, Threads, spawn_with};
+
+/// Where a result comes from that keeps a promise.
+#[derive(Drop)]
+pub enum Running<T: Drop, P: Promise<T>> {
+    /// From a thread.
+    There(PromisedHandle<T, P>),
+    /// It is here already.
+    Here(RanHere<T, P>),
+}
+
+// Waits for the result.
+fn result_of<R: Threads, T: Drop, P: Promise<T>>(rt: &R, running: Running<T, P>) -> T
+    ensures { P.kept_by (promise_of running) result }
+{
+    match running {
+        Running::There(handle) => handle.join(rt),
+        Running::Here(ran) => ran.into_given(),
+    }
+}
+
+/// A job that was begun in a thread of its own. Contracts see the job.
+#[derive(Drop)]
+pub struct Thread<J: Job> {
+    run: Running<Outcome<J, J::Gives>, PromiseOf<J>>,
+}
+
+impl<J: Job> Model for Thread<J> {
+    ghost use Rattle.jobs.specs.Running.{promise_of};
+
+    ghost Value = { J };
+
+    ghost view = { λ t. promise_of t.run };
+}
+
+impl<J: Job> Handle<J> for Thread<J> {
+    ghost job = { λ t. t };
+
+    fn end<R: Threads + Wait>(self, rt: &R) -> J::Gives {
+        let Thread { run } = self;
+        match result_of(rt, run) {
+            Outcome::Ran(given) => given,
+            Outcome::Recalled(job) => job.run(rt),
+        }
+    }
+}
+
+// Runs a job that wasn't recalled.
+pub(crate) fn attempt<R: Wait, J: Job>(job: J, recall: Recall, rt: &R) -> Outcome<J, J::Gives>
+    requires { J.ready job }
+    ensures { Comes J.ready J.gives job result }
+{
+    if recall.is_called() {
+        Outcome::Recalled(job)
+    } else {
+        Outcome::Ran(job.run(rt))
+    }
+}
+
+// What came of a job that was recalled from its closure, since no thread could be made. Were it run for all that, its
+// result would be kept.
+fn recalled<J: Job>(
+    outcome: Outcome<J, J::Gives>,
+    promise: Snapshot<PromiseOf<J>>,
+) -> Begun<J, Thread<J>>
+    requires { Comes J.ready J.gives promise.value outcome }
+    ensures { Begins (λ t. t) promise.value result }
+{
+    match outcome {
+        Outcome::Recalled(job) => Begun::Back(job),
+        ran => Begun::There(Thread {
+            run: Running::Here(RanHere::new(promise, ran)),
+        }),
+    }
+}
+
+/// Begins a job in a thread of its own, which runs with `rt`. Where no thread can be made, the job is recalled from the
+/// closure that was to run there, and handed back.
+pub fn begin<R: Threads + Wait + Copy + Send + 'static, J: Job + Send + 'static>(
+    rt: R,
+    alloc: Global,
+    job: J,
+) -> Begun<J, Thread<J>>
+where
+    J::Gives: Send + 'static,
+    requires { J.ready job }
+    ensures { Begins (λ t. t) job result }
+{
+    let Ok(recall) = Recall::new(alloc) else {
+        return Begun::NoMemory(job);
+    };
+    let Ok(theirs) = recall.share() else {
+        return Begun::NoMemory(job);
+    };
+    let promise = PromiseOf::new(&job);
+    let copy = Snapshot::of(&promise);
+    let run = move || -> Outcome<J, J::Gives>
+        requires { J.ready job }
+        ensures { Comes J.ready J.gives job result }
+    { attempt(job, theirs, &rt) };
+    match spawn_with(&rt, promise, run) {
+        Ok(handle) => Begun::There(Thread {
+            run: Running::There(handle),
+        }),
+        Err(refused) => {
+            recall.call();
+            recalled((refused.value)(), copy)
+        }
+    }
+}

@@ -1,0 +1,105 @@
+use crate::in_turn::{InTurn, StartPlan};
+use crate::job::Job;
+use crate::recall::{Outcome, Recall};
+use crate::running::{Thread, attempt, begin};
+use crate::spawner::{Spawner, Started};
+use crate::threads::{Begun, ThreadSpawner};
+use std::alloc::Global;
+use std::sync::{Arc, Barrier, Wait};
+use std::test::Fail;
+
+// Doubles a number, which is below 1,000.
+#[derive(Drop)]
+struct Doubling {
+    number: u64,
+}
+
+impl Job for Doubling {
+    ghost use Rattle.std.specs.Prelude.{◌≡◌, ◌<◌, ◌*◌};
+
+    type Gives = u64;
+
+    ghost ready = { λ j. j.number < 1000 };
+
+    ghost gives = { λ j given. given ≡ 2 * j.number };
+
+    fn run<R: Wait>(self, _rt: &R) -> u64 {
+        2 * self.number
+    }
+}
+
+// Doubles a number once another job has come as far, which takes two threads.
+#[derive(Drop)]
+struct Meeting {
+    number: u64,
+    place: Arc<Barrier, Global>,
+}
+
+impl Job for Meeting {
+    ghost use Rattle.std.specs.Prelude.{◌≡◌, ◌<◌, ◌*◌};
+
+    type Gives = u64;
+
+    ghost ready = { λ j. j.number < 1000 };
+
+    ghost gives = { λ j given. given ≡ 2 * j.number };
+
+    fn run<R: Wait>(self, rt: &R) -> u64 {
+        self.place.wait(rt);
+        2 * self.number
+    }
+}
+
+#[test]
+fn jobs_in_turn_give_their_results_and_a_planned_start_is_handed_back(
+    rt: HostRuntime,
+) -> Result<(), Fail> {
+    let alloc = rt.alloc();
+    let plan = StartPlan::at(vec![in alloc; 1u64]?);
+    let mut spawner = InTurn::new(alloc, plan);
+    assert!(rt; matches!(&spawner.start(Doubling { number: 3 }), Started::Runs));
+    let Started::Back(job) = spawner.start(Doubling { number: 4 }) else {
+        return Err("the second start is handed back".into());
+    };
+    assert_eq!(rt; job.number, 4);
+    assert!(rt; matches!(&spawner.start(Doubling { number: 5 }), Started::Runs));
+    let given = spawner.gather(&rt)?;
+    assert_eq!(rt; given.as_slice(), [6u64, 10].as_slice());
+    assert_eq!(rt; spawner.gather(&rt)?.len(), 0);
+    Ok(())
+}
+
+#[test]
+fn jobs_in_threads_run_at_the_same_time_and_give_their_results_in_order(
+    rt: HostRuntime,
+) -> Result<(), Fail> {
+    let alloc = rt.alloc();
+    let place = Arc::new(alloc, Barrier::new(2))?;
+    let mut spawner = ThreadSpawner::new(rt, alloc, move |job: Meeting| begin(rt, alloc, job));
+    for number in 7..9 {
+        let place = Arc::try_clone(&place)?;
+        let started = spawner.start(Meeting { number, place });
+        assert!(rt; matches!(&started, Started::Runs));
+    }
+    let given = spawner.gather(&rt)?;
+    assert_eq!(rt; given.as_slice(), [14u64, 16].as_slice());
+    Ok(())
+}
+
+#[test]
+fn a_job_that_is_recalled_in_time_comes_back(rt: HostRuntime) -> Result<(), Fail> {
+    let alloc = rt.alloc();
+    let recall = Recall::new(alloc)?;
+    assert!(rt;
+        matches!(
+            &attempt(Doubling { number: 3 }, recall.share()?, &rt),
+            Outcome::Ran(6)
+        )
+    );
+    recall.call();
+    let Outcome::Recalled(job) = attempt(Doubling { number: 3 }, recall.share()?, &rt) else {
+        return Err("it was recalled".into());
+    };
+    assert_eq!(rt; job.number, 3);
+    Ok(())
+}
