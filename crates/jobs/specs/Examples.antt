@@ -1,9 +1,10 @@
 -- Worked examples: jobs are numbers, and what a job gives is its square.
-use Rattle.std.specs.Prelude.{◌≡◌, ℕ, ◌*◌, ◌^◌, ◌-◌, [], ◌∷◌}
+use Rattle.std.specs.Prelude.{◌≡◌, ℕ, ◌*◌, ◌^◌, ◌-◌, true, false, [], ◌∷◌}
 use Rattle.jobs.specs.declared.spawner.Started.TheVariants.{Runs, Back, NoMemory}
 use Rattle.jobs.specs.declared.recall.Outcome.TheVariants.{Ran, Recalled}
 use Rattle.jobs.specs.declared.threads.Begun.TheVariants as begun
 use Rattle.jobs.specs.Starts.{Starts, StartIsCounted}
+use Rattle.jobs.specs.Plans.{is_planned, next_number, IsAsPlanned}
 use Rattle.jobs.specs.Meets.{Meet}
 use Rattle.jobs.specs.Threads.{Comes, Begins}
 
@@ -36,6 +37,13 @@ pub record Examples : Type 0 where
   pub last_counted : StartIsCounted {J = ℕ} (Back 5) (2 ^ 64 - 1) (2 ^ 64 - 1)
   pub no_fault : StartIsCounted {J = ℕ} Runs 1 2 → ⊥
   pub no_fault_of_memory : StartIsCounted {J = ℕ} (NoMemory 5) 1 2 → ⊥
+  -- of the starts 0, 1 and 2 the second is to be handed back
+  pub first_planned : is_planned (1 ∷ []) 0 ≡ false
+  pub second_planned : is_planned (1 ∷ []) 1 ≡ true
+  pub third_planned : is_planned (1 ∷ []) (next_number 1) ≡ false
+  pub as_planned : IsAsPlanned {J = ℕ} (Back 5) (is_planned (4 ∷ 1 ∷ []) 1)
+  pub not_as_planned : IsAsPlanned {J = ℕ} Runs (is_planned (4 ∷ 1 ∷ []) 1) → ⊥
+  pub unplanned : IsAsPlanned {J = ℕ} (Back 5) (is_planned (4 ∷ 1 ∷ []) 2) → ⊥
   -- a job that went to a thread was run or recalled, and a recalled one can still be run
   pub ran : Comes IsReady Squares 5 (Ran 25)
   pub ran_wrong : Comes IsReady Squares 5 (Ran 24) → ⊥

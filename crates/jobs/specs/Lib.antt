@@ -1,4 +1,5 @@
 pub mod Starts
+pub mod Plans
 pub mod Meets
 pub mod Threads
 pub mod Running

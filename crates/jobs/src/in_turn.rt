@@ -2,6 +2,8 @@
 
 ghost use Rattle.std.specs.Prelude.{◌≡◌, [], All, IfOk};
 ghost use Rattle.jobs.specs.Meets.{Meet};
+ghost use Rattle.jobs.specs.Plans.{is_planned, next_number, IsAsPlanned};
+ghost use Rattle.jobs.specs.Starts.{Starts, StartIsCounted};
 
 use crate::job::Job;
 use crate::spawner::{Spawner, Started};
@@ -36,10 +38,14 @@ impl StartPlan {
     }
 
     // Counts a start, and tells whether it is to be handed back.
-    fn is_next(&mut self) -> bool {
+    fn is_next(&mut self) -> bool
+        ensures planned { result ≡ is_planned self.old.back.items self.old.made }
+        ensures made { self.new.made ≡ next_number self.old.made }
+        ensures back { self.new.back ≡ self.old.back }
+    {
         let number = self.made;
         self.made = number.saturating_add(1);
-        self.back.as_slice().contains(&number)
+        self.back.iter().any(|planned| *planned == number)
     }
 }
 
@@ -99,7 +105,16 @@ impl<J: Job> Spawner<J> for InTurn<J> {
 
     ghost faults = { λ s. s.faults };
 
-    fn start(&mut self, job: J) -> Started<J> {
+    fn start(&mut self, job: J) -> Started<J>
+        requires ready { J.ready job }
+        requires fit { All J.ready self.old.jobs.items }
+        ensures fit { All J.ready self.new.jobs.items }
+        ensures starts { Starts result job self.old.jobs.items self.new.jobs.items }
+        ensures counted { StartIsCounted result self.old.faults self.new.faults }
+        ensures planned { IsAsPlanned result (is_planned self.old.plan.back.items self.old.plan.made) }
+        ensures made { self.new.plan.made ≡ next_number self.old.plan.made }
+        ensures back { self.new.plan.back ≡ self.old.plan.back }
+    {
         if self.plan.is_next() {
             self.faults = self.faults.saturating_add(1);
             return Started::Back(job);

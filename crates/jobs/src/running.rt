@@ -13,7 +13,7 @@ use std::alloc::Global;
 use std::marker::Model;
 use std::snapshot::Snapshot;
 use std::sync::Wait;
-use std::thread::{Promise, PromisedHandle, Threads, spawn_with};
+use std::thread::{Builder, Promise, PromisedHandle, Threads};
 
 /// Where a result comes from that keeps a promise.
 #[derive(Drop)]
@@ -89,9 +89,9 @@ fn recalled<J: Job>(
     }
 }
 
-/// Begins a job in a thread of its own, which runs with `rt`. Where no thread can be made, the job is recalled from the
-/// closure that was to run there, and handed back.
-pub fn begin<R: Threads + Wait + Copy + Send + 'static, J: Job + Send + 'static>(
+// Begins a job in a thread that is made so.
+pub(crate) fn begin_by<R: Threads + Wait + Copy + Send + 'static, J: Job + Send + 'static>(
+    maker: Builder,
     rt: R,
     alloc: Global,
     job: J,
@@ -113,7 +113,7 @@ where
         requires { J.ready job }
         ensures { Comes J.ready J.gives job result }
     { attempt(job, theirs, &rt) };
-    match spawn_with(&rt, promise, run) {
+    match maker.spawn_with(&rt, promise, run) {
         Ok(handle) => Begun::There(Thread {
             run: Running::There(handle),
         }),
@@ -122,4 +122,19 @@ where
             recalled((refused.value)(), copy)
         }
     }
+}
+
+/// Begins a job in a thread of its own, which runs with `rt`. Where no thread can be made, the job is recalled from the
+/// closure that was to run there, and handed back.
+pub fn begin<R: Threads + Wait + Copy + Send + 'static, J: Job + Send + 'static>(
+    rt: R,
+    alloc: Global,
+    job: J,
+) -> Begun<J, Thread<J>>
+where
+    J::Gives: Send + 'static,
+    requires { J.ready job }
+    ensures { Begins (λ t. t) job result }
+{
+    begin_by(Builder::new(), rt, alloc, job)
 }

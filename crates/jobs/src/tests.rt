@@ -1,12 +1,12 @@
 use crate::in_turn::{InTurn, StartPlan};
 use crate::job::Job;
-use crate::recall::{Outcome, Recall};
-use crate::running::{Thread, attempt, begin};
+use crate::running::{begin, begin_by};
 use crate::spawner::{Spawner, Started};
-use crate::threads::{Begun, ThreadSpawner};
+use crate::threads::ThreadSpawner;
 use std::alloc::Global;
 use std::sync::{Arc, Barrier, Wait};
 use std::test::Fail;
+use std::thread::Builder;
 
 // Doubles a number, which is below 1,000.
 #[derive(Drop)]
@@ -87,19 +87,15 @@ fn jobs_in_threads_run_at_the_same_time_and_give_their_results_in_order(
 }
 
 #[test]
-fn a_job_that_is_recalled_in_time_comes_back(rt: HostRuntime) -> Result<(), Fail> {
+fn a_job_for_which_no_thread_can_be_made_is_handed_back(rt: HostRuntime) -> Result<(), Fail> {
     let alloc = rt.alloc();
-    let recall = Recall::new(alloc)?;
-    assert!(rt;
-        matches!(
-            &attempt(Doubling { number: 3 }, recall.share()?, &rt),
-            Outcome::Ran(6)
-        )
-    );
-    recall.call();
-    let Outcome::Recalled(job) = attempt(Doubling { number: 3 }, recall.share()?, &rt) else {
-        return Err("it was recalled".into());
+    let mut spawner = ThreadSpawner::new(rt, alloc, move |job: Doubling| {
+        begin_by(Builder::new().stack_size(usize::MAX), rt, alloc, job)
+    });
+    let Started::Back(job) = spawner.start(Doubling { number: 3 }) else {
+        return Err("such a thread can't be made".into());
     };
     assert_eq!(rt; job.number, 3);
+    assert_eq!(rt; spawner.gather(&rt)?.len(), 0);
     Ok(())
 }

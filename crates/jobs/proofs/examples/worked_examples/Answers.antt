@@ -1,4 +1,4 @@
-use Rattle.std.proofs.Common.{◌≡◌, ℕ, List, [], ◌∷◌, refl, arith}
+use Rattle.std.proofs.Common.{◌≡◌, ℕ, Bool, true, false, List, [], ◌∷◌, refl, arith}
 use Rattle.jobs.proofs.examples.worked_examples.Goals as goal
 
 pub returns : goal.returns
@@ -20,6 +20,12 @@ returns c = record {
   last_counted = omega arith;
   no_fault = λ s. absurd (omega (arith, s));
   no_fault_of_memory = λ s. absurd (omega (arith, s));
+  first_planned = refl;
+  second_planned = refl;
+  third_planned = refl;
+  as_planned = refl;
+  not_as_planned = λ s. let e : ◌≡◌ {A = Bool} true false = s in cc;
+  unplanned = λ s. let e : ◌≡◌ {A = Bool} false true = s in cc;
   ran = refl;
   ran_wrong = λ s. absurd (omega (arith, s));
   recalled = (refl, λ e. absurd (omega (arith, e)));
