@@ -1,8 +1,10 @@
+ghost use Rattle.std.specs.Prelude.{◌<◌};
+
 use crate::in_turn::{InTurn, StartPlan};
 use crate::job::Job;
-use crate::running::{begin, begin_by};
+use crate::running::{Thread, begin, begin_by};
 use crate::spawner::{Spawner, Started};
-use crate::threads::ThreadSpawner;
+use crate::threads::{Begun, ThreadSpawner};
 use std::alloc::Global;
 use std::sync::{Arc, Barrier, Wait};
 use std::test::Fail;
@@ -89,9 +91,13 @@ fn jobs_in_threads_run_at_the_same_time_and_give_their_results_in_order(
 #[test]
 fn a_job_for_which_no_thread_can_be_made_is_handed_back(rt: HostRuntime) -> Result<(), Fail> {
     let alloc = rt.alloc();
-    let mut spawner = ThreadSpawner::new(rt, alloc, move |job: Doubling| {
-        begin_by(Builder::new().stack_size(usize::MAX), rt, alloc, job)
-    });
+    let mut spawner = ThreadSpawner::new(
+        rt,
+        alloc,
+        move |job: Doubling| -> Begun<Doubling, Thread<Doubling>>
+            requires { job.number < 1000 }
+        { begin_by(Builder::new().stack_size(usize::MAX), rt, alloc, job) },
+    );
     let Started::Back(job) = spawner.start(Doubling { number: 3 }) else {
         return Err("such a thread can't be made".into());
     };
