@@ -1,0 +1,52 @@
+-- Worked examples of what is heard over a link, and of what comes in at an acceptor.
+use Rattle.std.specs.Prelude.{ℕ, List, [], ◌∷◌, Some, None}
+use Rattle.client_links.specs.declared.link.Heard.TheVariants.{Got, End, Idle, Failed}
+use Rattle.client_links.specs.declared.acceptor.Bound.TheVariants.{Up}
+use Rattle.client_links.specs.declared.acceptor.Next.TheVariants.{Came, Idle as NoneYet}
+use Rattle.client_links.specs.Wires.{Wire, Hears, HearingIsCounted, TellsNoMore, IsFresh}
+use Rattle.client_links.specs.Doors.{Door, Binds, Comes}
+
+-- a link that tells all, over which nothing was sent
+abbrev pub wire : List ℕ → List ℕ → Wire
+wire received left = record { received = Some received; left = Some left; read_faults = 0; outlet = record { told = Some []; faults = 0 } }
+
+-- a link that tells nothing, of which so many receivings failed
+abbrev pub untold : ℕ → Wire
+untold faults = record { received = None; left = None; read_faults = faults; outlet = record { told = None; faults = 0 } }
+
+-- an acceptor that listens for session 115, to which so many links came
+abbrev pub open_door : ℕ → Door
+open_door came = record { listens = Some (115 ∷ []); came = Some came; faults = 0 }
+
+-- an acceptor that doesn't listen, to which no link came
+abbrev pub shut_door : Door
+shut_door = record { listens = None; came = Some 0; faults = 0 }
+
+pub record Examples : Type 0 where
+  -- 2 and 3 came behind 1 into a room of three bytes, of which the third is left open
+  pub got : Hears (Got 2) (wire (1 ∷ []) (2 ∷ 3 ∷ 4 ∷ [])) (wire (1 ∷ 2 ∷ 3 ∷ []) (4 ∷ [])) (2 ∷ 3 ∷ 9 ∷ [])
+  pub got_untold : Hears (Got 1) (untold 0) (untold 0) (7 ∷ [])
+  -- nothing has come yet, though 1 still will; behind it the other side has ended
+  pub idle : Hears Idle (wire [] (1 ∷ [])) (wire [] (1 ∷ [])) (9 ∷ [])
+  pub ended : Hears End (wire (1 ∷ []) []) (wire (1 ∷ []) []) (9 ∷ [])
+  pub counted : HearingIsCounted Failed (untold 3) (untold 4)
+  pub fresh : IsFresh (wire [] (1 ∷ []))
+  -- a session is listened for, and the first link comes
+  pub bound : Binds Up shut_door (open_door 0) (115 ∷ [])
+  pub came : Comes {L = ℕ} (Came 5) (open_door 0) (open_door 1)
+  -- no bytes are not bytes that came, nor are more than there was room for
+  pub not_none : Hears (Got 0) (wire [] []) (wire [] []) [] → ⊥
+  pub no_room : Hears (Got 2) (untold 0) (untold 0) (7 ∷ []) → ⊥
+  -- the end doesn't come before the last byte, and none is lost, while nothing has come either
+  pub not_ended : Hears End (wire [] (1 ∷ [])) (wire [] (1 ∷ [])) [] → ⊥
+  pub none_lost : Hears (Got 1) (wire [] (1 ∷ 2 ∷ [])) (wire (1 ∷ []) []) (1 ∷ []) → ⊥
+  pub none_taken : Hears Idle (wire [] (1 ∷ [])) (wire (1 ∷ []) []) (1 ∷ []) → ⊥
+  -- a fault is counted, and what is no fault isn't
+  pub no_fault : HearingIsCounted Idle (untold 3) (untold 4) → ⊥
+  pub not_uncounted : HearingIsCounted Failed (untold 3) (untold 3) → ⊥
+  -- what wasn't told isn't told later
+  pub not_told : TellsNoMore (untold 0) (wire [] []) → ⊥
+  pub not_fresh : IsFresh (wire (1 ∷ []) []) → ⊥
+  -- no link comes where none is listened for, and none comes uncounted
+  pub not_unasked : Comes {L = ℕ} (Came 5) shut_door shut_door → ⊥
+  pub not_twice : Comes {L = ℕ} NoneYet (open_door 0) (open_door 1) → ⊥

@@ -1,0 +1,19 @@
+//! What a server sees of its connections: links, each to one client, and an acceptor, from which they come. Their calls
+//! say what they do to the bytes, where these are told, and fail only where a count of faults rises. Beside each trait
+//! stands a form in memory, whose failures are planned.
+#![tactic(auto)]
+
+pub mod acceptor;
+pub mod examples;
+pub mod link;
+pub mod mem_acceptor;
+pub mod mem_link;
+mod planned;
+
+pub use acceptor::{Acceptor, Bound, Next};
+pub use link::{Heard, Link};
+pub use mem_acceptor::MemAcceptor;
+pub use mem_link::MemLink;
+
+#[cfg(test)]
+mod tests;
