@@ -1,3 +1,4 @@
 pub mod CutLemmas
+pub mod HearingLemmas
 pub mod PieceLemmas
 pub mod TakenLemmas

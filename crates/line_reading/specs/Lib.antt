@@ -1,3 +1,4 @@
 pub mod Reading
 pub mod Pieces
 pub mod Examples
+pub mod Hearing

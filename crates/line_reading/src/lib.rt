@@ -1,4 +1,4 @@
-//! Lines, read one by one from a source of bytes: a call takes what the next line needs and nothing behind it, and tells
+//! Lines, read one by one from a source of bytes or heard from a link: a call takes what the next line needs and nothing behind it, and tells
 //! how the input ended, where it did.
 #![tactic(auto)]
 
@@ -8,7 +8,7 @@ pub mod pieces;
 pub mod reader;
 
 pub use limits::{MAX_INPUT, MAX_PIECE};
-pub use reader::{LineReader, Next};
+pub use reader::{Came, LineReader, Next};
 
 #[cfg(test)]
 mod tests;

@@ -2,10 +2,14 @@
 
 ghost use Rattle.std.specs.Prelude.{◌≡◌, ◌<◌, ◌≤◌, [], length, take, drop};
 ghost use Rattle.kak_ports.specs.Ports.{Takes, TakeIsCounted};
+ghost use Rattle.client_links.specs.Wires.{Hears, HearingIsCounted, TellsNoMore};
 ghost use Rattle.line_reading.specs.Pieces.{Fills};
+ghost use Rattle.line_reading.specs.Hearing.{FillsFrom};
 
+use client_links::{Heard, Link};
 use kak_ports::{Source, Took};
 use std::marker::Model;
+use std::sync::Wait;
 
 /// Bytes that were taken at once and not looked at yet, seen as their list.
 #[derive(Drop)]
@@ -71,6 +75,28 @@ impl Piece {
             Took::Failed => Took::Failed,
         }
     }
+
+    /// Receives the next bytes of a link in place of those here, at most so many.
+    pub fn hear<R: Wait, L: Link>(&mut self, rt: &R, link: &mut L, room: usize) -> Heard
+        requires some { 0 < room }
+        requires inside { room ≤ 4096 }
+        ensures fills { FillsFrom result (L.wire link.old) (L.wire link.new) room self.new }
+        ensures counted { HearingIsCounted result (L.wire link.old) (L.wire link.new) }
+        ensures sent { (L.wire link.new).outlet ≡ (L.wire link.old).outlet }
+        ensures told { TellsNoMore (L.wire link.old) (L.wire link.new) }
+    {
+        self.from = 0;
+        self.to = 0;
+        match hear_front(rt, link, &mut self.bytes, room) {
+            Heard::Got(count) => {
+                self.to = count;
+                Heard::Got(count)
+            }
+            Heard::End => Heard::End,
+            Heard::Idle => Heard::Idle,
+            Heard::Failed => Heard::Failed,
+        }
+    }
 }
 
 // Takes the next bytes of a source into the front of a slice, at most so many.
@@ -83,4 +109,17 @@ fn take_front<I: Source>(source: &mut I, into: &mut [u8], room: usize) -> Took
     ensures size { length into.new ≡ length into.old }
 {
     source.take(&mut into[..room])
+}
+
+// Receives the next bytes of a link into the front of a slice, at most so many.
+fn hear_front<R: Wait, L: Link>(rt: &R, link: &mut L, into: &mut [u8], room: usize) -> Heard
+    requires some { 0 < room }
+    requires inside { room ≤ length into.old }
+    ensures hears { Hears result (L.wire link.old) (L.wire link.new) (take room into.new) }
+    ensures counted { HearingIsCounted result (L.wire link.old) (L.wire link.new) }
+    ensures sent { (L.wire link.new).outlet ≡ (L.wire link.old).outlet }
+    ensures told { TellsNoMore (L.wire link.old) (L.wire link.new) }
+    ensures size { length into.new ≡ length into.old }
+{
+    link.recv(rt, &mut into[..room])
 }

@@ -1,14 +1,19 @@
 //! A reader of lines.
 
-ghost use Rattle.std.specs.Prelude.{◌≡◌, ◌==◌, ◌<◌, [], length, position, IfSome, if◌then◌else◌};
+ghost use Rattle.std.specs.Prelude.{◌≡◌, ◌==◌, ◌<◌, ◌≤◌, ◌+◌, [], length, position, None, IfSome, IsTrue, false, if◌then◌else◌};
 ghost use Rattle.line_reading.specs.Pieces.{Moves};
+ghost use Rattle.client_links.specs.Wires.{TellsNoMore};
+ghost use Rattle.line_reading.specs.declared.limits.TheConstants.{MAX_INPUT, MAX_PIECE};
 ghost use Rattle.line_reading.specs.Reading.{Reads, FaultIsTold};
+ghost use Rattle.line_reading.specs.Hearing.{HearsLine, ReadFaultIsTold};
 
 use crate::limits::{MAX_INPUT, MAX_PIECE};
 use crate::pieces::Piece;
+use client_links::{Heard, Link};
 use kak_ports::{Source, Took};
 use std::alloc::{AllocError, Global};
 use std::marker::Model;
+use std::sync::Wait;
 
 /// What came of the next line.
 #[derive(Clone, Copy, PartialEq, Eq, Debug)]
@@ -20,6 +25,23 @@ pub enum Next {
     /// The input ended, and nothing is left of it.
     Ended,
     /// The input failed. What has come of the line is kept.
+    ReadFault,
+    /// All bytes that may be taken were taken, and the line isn't whole. What has come of it is kept.
+    Full,
+}
+
+/// What came of the next line of a link.
+#[derive(Clone, Copy, PartialEq, Eq, Debug)]
+pub enum Came {
+    /// A line came, and its newline.
+    Line,
+    /// The link ended behind a last line without a newline, which isn't empty.
+    Last,
+    /// The link ended, and nothing is left of what it said.
+    Ended,
+    /// No more has come yet. What has come of the line is kept.
+    Idle,
+    /// Receiving failed. What has come of the line is kept.
     ReadFault,
     /// All bytes that may be taken were taken, and the line isn't whole. What has come of it is kept.
     Full,
@@ -86,6 +108,24 @@ fn move_line(line: &mut Vec<u8>, piece: &mut Piece) -> Result<bool, AllocError>
     }
 }
 
+// How many bytes may be taken at once behind those that were taken, if any may be.
+fn room_behind(taken: u64) -> Option<usize>
+    requires { taken ≤ MAX_INPUT }
+    ensures some { IfSome result (λ room. (0 < room) × (room ≤ MAX_PIECE) × (taken + room ≤ MAX_INPUT)) }
+    ensures none { result ≡ None → taken ≡ MAX_INPUT }
+{
+    let room = (MAX_INPUT - taken).min(MAX_PIECE) as usize;
+    if room == 0 { None } else { Some(room) }
+}
+
+// Whether a line has no byte.
+fn is_empty(line: &Vec<u8>) -> bool
+    ensures none { IsTrue result → line.now.items ≡ [] }
+    ensures some { result ≡ false → 0 < length line.now.items }
+{
+    line.is_empty()
+}
+
 impl LineReader {
     /// A reader that has taken nothing.
     pub fn new(alloc: Global) -> LineReader
@@ -121,18 +161,47 @@ impl LineReader {
                 self.given = true;
                 return Ok(Next::Line);
             }
-            if self.taken == MAX_INPUT {
+            let Some(room) = room_behind(self.taken) else {
                 return Ok(Next::Full);
-            }
-            let room = (MAX_INPUT - self.taken).min(MAX_PIECE) as usize;
+            };
             match self.piece.fill(source, room) {
                 Took::Got(count) => self.taken += count as u64,
-                Took::End if self.line.is_empty() => return Ok(Next::Ended),
+                Took::End if is_empty(&self.line) => return Ok(Next::Ended),
                 Took::End => {
                     self.given = true;
                     return Ok(Next::Last);
                 }
                 Took::Failed => return Ok(Next::ReadFault),
+            }
+        }
+    }
+
+    /// Hears the next line of a link. Where memory is wanting, nothing that was received is lost.
+    pub fn hear<R: Wait, L: Link>(&mut self, rt: &R, link: &mut L) -> Result<Came, AllocError>
+        ensures hears { HearsLine result self.old self.new (L.wire link.old) (L.wire link.new) }
+        ensures fault { ReadFaultIsTold result (L.wire link.old) (L.wire link.new) }
+        ensures sent { (L.wire link.new).outlet ≡ (L.wire link.old).outlet }
+        ensures told { TellsNoMore (L.wire link.old) (L.wire link.new) }
+    {
+        begin_line(&mut self.line, self.given);
+        self.given = false;
+        'pieces: loop {
+            if move_line(&mut self.line, &mut self.piece)? {
+                self.given = true;
+                return Ok(Came::Line);
+            }
+            let Some(room) = room_behind(self.taken) else {
+                return Ok(Came::Full);
+            };
+            match self.piece.hear(rt, link, room) {
+                Heard::Got(count) => self.taken += count as u64,
+                Heard::End if is_empty(&self.line) => return Ok(Came::Ended),
+                Heard::End => {
+                    self.given = true;
+                    return Ok(Came::Last);
+                }
+                Heard::Idle => return Ok(Came::Idle),
+                Heard::Failed => return Ok(Came::ReadFault),
             }
         }
     }

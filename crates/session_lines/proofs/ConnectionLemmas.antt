@@ -9,9 +9,8 @@ use Rattle.std.specs.Prelude.{if◌then◌else◌}
 use Rattle.std.proofs.lemmas.List.{take_all}
 use Rattle.kak_ports.specs.Ports.{Inlet, Outlet}
 use Rattle.key_names.specs.declared.key.Key.{Key}
-use Rattle.session_turns.specs.Lines.{whole_lines}
 use Rattle.session_turns.specs.Histories.{Answer, own, answers, is_leaving}
-use Rattle.session_turns.specs.Turns.{Phase, Opening, turns_of, lines_among, plays, answers_to}
+use Rattle.session_turns.specs.Turns.{Turn, Phase, Opening, later, lines_among, plays, answers_to}
 use Rattle.session_turns.specs.Growth.{Whole, Over, Adds, IsWhole, IsOver}
 use Rattle.session_turns.specs.Headline.{Lost, Stands, LinesRead, AreLines}
 use Rattle.session_turns.proofs.Lists.{is_leaving-append, length-events_of}
@@ -30,21 +29,16 @@ use Rattle.session_lines.specs.declared.reading.InputEnd.{InputEnd}
 use Rattle.session_lines.specs.declared.reading.InputEnd.TheVariants.{Left, Ended, ReadFault, Full}
 use Rattle.session_lines.specs.Session.{protocol}
 use Rattle.session_lines.specs.Stops.{IsLoss}
-use Rattle.session_lines.specs.Serving.{Service, Serves, HasGone, how_of, line_phases}
+use Rattle.session_lines.specs.Serving.{Service, Serves, HasGone, how_of}
 use Rattle.line_reading.specs.Reading.{IsAll}
-use Rattle.session_lines.specs.Reading.{how_read, EndIs}
+use Rattle.session_lines.specs.Reading.{how_read, WasKept, EndIs}
 use Rattle.session_lines.specs.Connections.{end_of, is_unwritten, Plays, WasServed}
 use Rattle.session_lines.proofs.ReadingLemmas.{stopped-lines}
 use Rattle.session_lines.proofs.ServingLemmas.{serves-append}
 
--- the lines of turns
-lines-are : (lines : List (List ℕ)) → lines_among (turns_of lines) ≡ lines
-lines-are [] = refl
-lines-are (l ∷ lines) = ap (λ r. l ∷ r) (lines-are lines)
-
 -- an opening that stopped: nothing was read
-pub opening-stopped : (g : Service) (old new : Seated) (a b : Outlet) (left : Inlet) (why : Stop) → Serves g old new a b (how_of (Err why)) (Opening ∷ []) → Plays (Opening ∷ []) g old new a b left left (Err why)
-opening-stopped g old new a b left why s = record { bytes = []; takes = Consumes-nil left.left; few = omega arith; lines = []; lines_are = stopped-lines why _ [] [] (inl refl); serves = s; end_is = tt }
+pub opening-stopped : (u : Bool) (g : Service) (old new : Seated) (a b : Outlet) (left : Inlet) (why : Stop) → Serves g old new a b (how_of (Err why)) (Opening ∷ []) → (p : Plays u (Opening ∷ []) g old new a b left left (Err why)) × (p.bytes ≡ [])
+opening-stopped u g old new a b left why s = (record { bytes = []; takes = Consumes-nil left.left; few = omega arith; turns = []; lines_are = stopped-lines why _ [] [] (inl refl); asked = λ e. refl; serves = s; end_is = tt }, refl)
 
 -- what is over with its opening has that opening's answers
 opening-over : (opens : List Key) (got : List (Answer Event)) (out : List ℕ) → IsOver (protocol opens) (Opening ∷ []) got out → is_leaving (answers_to (protocol opens) (Opening ∷ []) got) ≡ true
@@ -61,16 +55,20 @@ opening-over opens got out o =
     least n = omega arith
 
 -- an opening in which the client was let go: nothing was read
-pub opening-left : (g : Service) (old new : Seated) (a b : Outlet) (left : Inlet) (l : Bool) → l ≡ true → Serves g old new a b (how_of (Ok l)) (Opening ∷ []) → Plays (Opening ∷ []) g old new a b left left (Ok Left)
-opening-left g old new a b left l e s = record {
-  bytes = [];
-  takes = Consumes-nil left.left;
-  few = omega arith;
-  lines = [];
-  lines_are = inl refl;
-  serves = now;
-  end_is = inl (opening-over g.opens now.got now.out now.fits, refl);
-}
+pub opening-left : (u : Bool) (g : Service) (old new : Seated) (a b : Outlet) (left : Inlet) (l : Bool) → l ≡ true → Serves g old new a b (how_of (Ok l)) (Opening ∷ []) → (p : Plays u (Opening ∷ []) g old new a b left left (Ok Left)) × (p.bytes ≡ [])
+opening-left u g old new a b left l e s = (
+  record {
+    bytes = [];
+    takes = Consumes-nil left.left;
+    few = omega arith;
+    turns = [];
+    lines_are = inl refl;
+    asked = λ e. refl;
+    serves = now;
+    end_is = inl (opening-over g.opens now.got now.out now.fits, refl);
+  },
+  refl,
+)
   where
     now : Serves g old new a b Over (Opening ∷ [])
     now = subst (λ q. Serves g old new a b (how_of (Ok q)) (Opening ∷ [])) e s
@@ -90,29 +88,36 @@ kept-behind opens first more a b x w k =
     both x y d e = rw (d, e) refl
 
 -- an input behind the opening
-pub opened-played : (r : Result InputEnd Stop) (g : Service) (old mid new : Seated) (a b c : Outlet) (left rest : Inlet) (l : Bool) → l ≡ false → IsSameSeat old mid
-    → Serves g old mid a b (how_of (Ok l)) (Opening ∷ []) → Plays [] g mid new b c left rest r → Plays (Opening ∷ []) g old new a c left rest r
-opened-played r g old mid new a b c left rest l f same opened p = record {
-  bytes = p.bytes;
-  takes = p.takes;
-  few = p.few;
-  lines = p.lines;
-  lines_are = p.lines_are;
-  serves = serves-append g old mid new a b c (how_read r) (Opening ∷ []) (line_phases p.lines) same s p.serves;
-  end_is = ends r p.bytes p.serves.got p.end_is;
-}
+pub opened-played : (r : Result InputEnd Stop) (u : Bool) (g : Service) (old mid new : Seated) (a b c : Outlet) (left rest : Inlet) (l : Bool) → l ≡ false → IsSameSeat old mid
+    → Serves g old mid a b (how_of (Ok l)) (Opening ∷ []) → (q : Plays u [] g mid new b c left rest r) → (p : Plays u (Opening ∷ []) g old new a c left rest r) × (p.bytes ≡ q.bytes)
+opened-played r u g old mid new a b c left rest l f same opened p = (
+  record {
+    bytes = p.bytes;
+    takes = p.takes;
+    few = p.few;
+    turns = p.turns;
+    lines_are = p.lines_are;
+    asked = p.asked;
+    serves = serves-append g old mid new a b c (how_read r) (Opening ∷ []) (later p.turns) same s p.serves;
+    end_is = ends r p.bytes p.turns p.serves.got p.end_is;
+  },
+  refl,
+)
   where
     s : Serves g old mid a b Whole (Opening ∷ [])
     s = subst (λ q. Serves g old mid a b (how_of (Ok q)) (Opening ∷ [])) f opened
 
-    ends : (r : Result InputEnd Stop) (bytes : List ℕ) (got : List (Answer Event)) → EndIs g.opens [] got r left bytes → EndIs g.opens (Opening ∷ []) (s.got ++ got) r left bytes
-    ends (Ok Left) bytes got (inl e) = cc
-    ends (Ok Left) bytes got (inr (inl e)) = inr (inl (record { before = e.before; piece = e.piece; cut = e.cut; one = e.one; most = e.most; kept = kept-behind g.opens (Opening ∷ []) (line_phases (whole_lines [] e.before)) s.got got s.out s.fits e.kept }))
-    ends (Ok Left) bytes got (inr (inr e)) = inr (inr (e.0, kept-behind g.opens (Opening ∷ []) (line_phases (whole_lines [] bytes)) s.got got s.out s.fits e.1))
-    ends (Ok Ended) bytes got e = e
-    ends (Ok ReadFault) bytes got e = tt
-    ends (Ok Full) bytes got e = e
-    ends (Err why) bytes got e = tt
+    kept : (bytes : List ℕ) (turns : List Turn) (got : List (Answer Event)) → WasKept g.opens [] turns got bytes → WasKept g.opens (Opening ∷ []) turns (s.got ++ got) bytes
+    kept bytes turns got k = record { front = k.front; behind = k.behind; cut = k.cut; lines = k.lines; stays = kept-behind g.opens (Opening ∷ []) (later k.front) s.got got s.out s.fits k.stays }
+
+    ends : (r : Result InputEnd Stop) (bytes : List ℕ) (turns : List Turn) (got : List (Answer Event)) → EndIs g.opens [] turns got r left bytes → EndIs g.opens (Opening ∷ []) turns (s.got ++ got) r left bytes
+    ends (Ok Left) bytes turns got (inl e) = cc
+    ends (Ok Left) bytes turns got (inr (inl e)) = inr (inl (record { before = e.before; piece = e.piece; cut = e.cut; one = e.one; most = e.most; kept = kept e.before turns got e.kept }))
+    ends (Ok Left) bytes turns got (inr (inr e)) = inr (inr (e.0, kept bytes turns got e.1))
+    ends (Ok Ended) bytes turns got e = e
+    ends (Ok ReadFault) bytes turns got e = tt
+    ends (Ok Full) bytes turns got e = e
+    ends (Err why) bytes turns got e = tt
 
 -- the client has left behind what was added
 gone : (g : Service) (x y z : Seated) (got : List (Answer Event)) → x.seen ≡ [] → IsSameSeat x y → Adds (rules g.gives) x.number x.seen y.seen got → HasGone g.gives y z → HasLeft (protocol g.opens) (rules g.gives) x.number z.seen got
@@ -150,40 +155,41 @@ lost-stayed : (g : Service) (k : ℕ) (h : List Entry) (got : List (Answer Event
 lost-stayed g k h got f = record { answered = f.answered; stood = inl f.stood }
 
 -- the headline, from what stands
-served : (g : Service) (x y : Seated) (a b : Outlet) (left rest : Inlet) (r q : Result InputEnd Stop) (z : Seated) → (p : Plays (Opening ∷ []) g x y a b left rest r) → LinesRead (end_of q) (IsAll left p.bytes) p.bytes p.lines
-    → Stands (protocol g.opens) (rules g.gives) (end_of q) x.number z.seen (turns_of p.lines) p.serves.out → EndIs g.opens (Opening ∷ []) (answers (rules g.gives) x.number z.seen) q left p.bytes → WasServed g x.number z.seen a b left rest q
-served g x y a b left rest r q z p l s e = record {
-  bytes = p.bytes;
-  takes = p.takes;
-  few = p.few;
-  lines = p.lines;
-  out = p.serves.out;
-  sends = p.serves.sends;
-  served = record {
-    lines = subst (λ ls. LinesRead (end_of q) (IsAll left p.bytes) p.bytes ls) (sym (lines-are p.lines)) l;
-    stands = s;
-  };
-  end_is = e;
-}
+served : (u : Bool) (g : Service) (x y : Seated) (a b : Outlet) (left rest : Inlet) (r q : Result InputEnd Stop) (z : Seated) → (p : Plays u (Opening ∷ []) g x y a b left rest r) → LinesRead (end_of q) (IsAll left p.bytes) p.bytes (lines_among p.turns)
+    → Stands (protocol g.opens) (rules g.gives) (end_of q) x.number z.seen p.turns p.serves.out → EndIs g.opens (Opening ∷ []) p.turns (answers (rules g.gives) x.number z.seen) q left p.bytes → (w : WasServed u g x.number z.seen a b left rest q) × (w.bytes ≡ p.bytes)
+served u g x y a b left rest r q z p l s e = (
+  record {
+    bytes = p.bytes;
+    takes = p.takes;
+    few = p.few;
+    turns = p.turns;
+    asked = p.asked;
+    out = p.serves.out;
+    sends = p.serves.sends;
+    served = record { lines = l; stands = s };
+    end_is = e;
+  },
+  refl,
+)
 
 -- the connection ended, and the client left
-ended-left : (g : Service) (x y z : Seated) (a b : Outlet) (left rest : Inlet) (ending : InputEnd) → (p : Plays (Opening ∷ []) g x y a b left rest (Ok ending)) → HasLeft (protocol g.opens) (rules g.gives) x.number z.seen p.serves.got → WasServed g x.number z.seen a b left rest (Ok ending)
-ended-left g x y z a b left rest ending p f =
-    served g x y a b left rest (Ok ending) (Ok ending) z p p.lines_are (stands ending p f) (subst (λ got. EndIs g.opens (Opening ∷ []) got (Ok ending) left p.bytes) (sym f.answered) p.end_is)
+ended-left : (u : Bool) (g : Service) (x y z : Seated) (a b : Outlet) (left rest : Inlet) (ending : InputEnd) → (p : Plays u (Opening ∷ []) g x y a b left rest (Ok ending)) → HasLeft (protocol g.opens) (rules g.gives) x.number z.seen p.serves.got → (w : WasServed u g x.number z.seen a b left rest (Ok ending)) × (w.bytes ≡ p.bytes)
+ended-left u g x y z a b left rest ending p f =
+    served u g x y a b left rest (Ok ending) (Ok ending) z p p.lines_are (stands ending p f) (subst (λ got. EndIs g.opens (Opening ∷ []) p.turns got (Ok ending) left p.bytes) (sym f.answered) p.end_is)
   where
-    stands : (ending : InputEnd) (p : Plays (Opening ∷ []) g x y a b left rest (Ok ending)) → HasLeft (protocol g.opens) (rules g.gives) x.number z.seen p.serves.got → Stands (protocol g.opens) (rules g.gives) (end_of (Ok ending)) x.number z.seen (turns_of p.lines) p.serves.out
-    stands Left p f = left-stands (protocol g.opens) (rules g.gives) x.number z.seen (turns_of p.lines) p.serves.got p.serves.out p.serves.fits f
-    stands Ended p f = closed-stands (protocol g.opens) (rules g.gives) x.number z.seen (turns_of p.lines) p.serves.got p.serves.out p.serves.fits f
-    stands ReadFault p f = closed-stands (protocol g.opens) (rules g.gives) x.number z.seen (turns_of p.lines) p.serves.got p.serves.out p.serves.fits f
-    stands Full p f = closed-stands (protocol g.opens) (rules g.gives) x.number z.seen (turns_of p.lines) p.serves.got p.serves.out p.serves.fits f
+    stands : (ending : InputEnd) (p : Plays u (Opening ∷ []) g x y a b left rest (Ok ending)) → HasLeft (protocol g.opens) (rules g.gives) x.number z.seen p.serves.got → Stands (protocol g.opens) (rules g.gives) (end_of (Ok ending)) x.number z.seen p.turns p.serves.out
+    stands Left p f = left-stands (protocol g.opens) (rules g.gives) x.number z.seen p.turns p.serves.got p.serves.out p.serves.fits f
+    stands Ended p f = closed-stands (protocol g.opens) (rules g.gives) x.number z.seen p.turns p.serves.got p.serves.out p.serves.fits f
+    stands ReadFault p f = closed-stands (protocol g.opens) (rules g.gives) x.number z.seen p.turns p.serves.got p.serves.out p.serves.fits f
+    stands Full p f = closed-stands (protocol g.opens) (rules g.gives) x.number z.seen p.turns p.serves.got p.serves.out p.serves.fits f
 
 -- what was lost, was lost whatever had been played, unless a write failed
-lost-served : (g : Service) (x y z : Seated) (a b : Outlet) (left rest : Inlet) (r : Result InputEnd Stop) (why : Stop) → end_of (Err why) ≡ Lost → is_unwritten r ≡ false → (p : Plays (Opening ∷ []) g x y a b left rest r) → HasLost (protocol g.opens) (rules g.gives) x.number z.seen p.serves.got → WasServed g x.number z.seen a b left rest (Err why)
-lost-served g x y z a b left rest r why is_lost written p f =
-    served g x y a b left rest r (Err why) z p (subst (λ e. LinesRead e (IsAll left p.bytes) p.bytes p.lines) (sym is_lost) (any-lines r p))
-    (subst (λ e. Stands (protocol g.opens) (rules g.gives) e x.number z.seen (turns_of p.lines) p.serves.out) (sym is_lost) (stands r written p f)) tt
+lost-served : (u : Bool) (g : Service) (x y z : Seated) (a b : Outlet) (left rest : Inlet) (r : Result InputEnd Stop) (why : Stop) → end_of (Err why) ≡ Lost → is_unwritten r ≡ false → (p : Plays u (Opening ∷ []) g x y a b left rest r) → HasLost (protocol g.opens) (rules g.gives) x.number z.seen p.serves.got → (w : WasServed u g x.number z.seen a b left rest (Err why)) × (w.bytes ≡ p.bytes)
+lost-served u g x y z a b left rest r why is_lost written p f =
+    served u g x y a b left rest r (Err why) z p (subst (λ e. LinesRead e (IsAll left p.bytes) p.bytes (lines_among p.turns)) (sym is_lost) (any-lines r p))
+    (subst (λ e. Stands (protocol g.opens) (rules g.gives) e x.number z.seen p.turns p.serves.out) (sym is_lost) (stands r written p f)) tt
   where
-    any-lines : (r : Result InputEnd Stop) (p : Plays (Opening ∷ []) g x y a b left rest r) → AreLines (IsAll left p.bytes) p.bytes p.lines
+    any-lines : (r : Result InputEnd Stop) (p : Plays u (Opening ∷ []) g x y a b left rest r) → AreLines (IsAll left p.bytes) p.bytes (lines_among p.turns)
     any-lines (Ok Left) p = p.lines_are
     any-lines (Ok Ended) p = inr p.lines_are
     any-lines (Ok ReadFault) p = inl p.lines_are
@@ -193,14 +199,14 @@ lost-served g x y z a b left rest r why is_lost written p f =
     any-lines (Err stop.NoMemory) p = p.lines_are
     any-lines (Err stop.WriteFault) p = p.lines_are
 
-    stands : (r : Result InputEnd Stop) → is_unwritten r ≡ false → (p : Plays (Opening ∷ []) g x y a b left rest r) → HasLost (protocol g.opens) (rules g.gives) x.number z.seen p.serves.got → Stands (protocol g.opens) (rules g.gives) Lost x.number z.seen (turns_of p.lines) p.serves.out
-    stands (Ok Left) w p f = over-lost (protocol g.opens) (rules g.gives) x.number z.seen (turns_of p.lines) p.serves.got p.serves.out p.serves.fits f
-    stands (Ok Ended) w p f = whole-lost (protocol g.opens) (rules g.gives) x.number z.seen (turns_of p.lines) p.serves.got p.serves.out p.serves.fits f
-    stands (Ok ReadFault) w p f = whole-lost (protocol g.opens) (rules g.gives) x.number z.seen (turns_of p.lines) p.serves.got p.serves.out p.serves.fits f
-    stands (Ok Full) w p f = whole-lost (protocol g.opens) (rules g.gives) x.number z.seen (turns_of p.lines) p.serves.got p.serves.out p.serves.fits f
-    stands (Err stop.HistoryFull) w p f = short-lost (protocol g.opens) (rules g.gives) x.number z.seen (turns_of p.lines) p.serves.got p.serves.out p.serves.fits f
-    stands (Err (stop.Broken at)) w p f = lost-lost (protocol g.opens) (rules g.gives) x.number z.seen (turns_of p.lines) p.serves.got p.serves.out p.serves.fits f
-    stands (Err stop.NoMemory) w p f = lost-lost (protocol g.opens) (rules g.gives) x.number z.seen (turns_of p.lines) p.serves.got p.serves.out p.serves.fits f
+    stands : (r : Result InputEnd Stop) → is_unwritten r ≡ false → (p : Plays u (Opening ∷ []) g x y a b left rest r) → HasLost (protocol g.opens) (rules g.gives) x.number z.seen p.serves.got → Stands (protocol g.opens) (rules g.gives) Lost x.number z.seen p.turns p.serves.out
+    stands (Ok Left) w p f = over-lost (protocol g.opens) (rules g.gives) x.number z.seen p.turns p.serves.got p.serves.out p.serves.fits f
+    stands (Ok Ended) w p f = whole-lost (protocol g.opens) (rules g.gives) x.number z.seen p.turns p.serves.got p.serves.out p.serves.fits f
+    stands (Ok ReadFault) w p f = whole-lost (protocol g.opens) (rules g.gives) x.number z.seen p.turns p.serves.got p.serves.out p.serves.fits f
+    stands (Ok Full) w p f = whole-lost (protocol g.opens) (rules g.gives) x.number z.seen p.turns p.serves.got p.serves.out p.serves.fits f
+    stands (Err stop.HistoryFull) w p f = short-lost (protocol g.opens) (rules g.gives) x.number z.seen p.turns p.serves.got p.serves.out p.serves.fits f
+    stands (Err (stop.Broken at)) w p f = lost-lost (protocol g.opens) (rules g.gives) x.number z.seen p.turns p.serves.got p.serves.out p.serves.fits f
+    stands (Err stop.NoMemory) w p f = lost-lost (protocol g.opens) (rules g.gives) x.number z.seen p.turns p.serves.got p.serves.out p.serves.fits f
     stands (Err stop.WriteFault) w p f = cc
 
 -- a leaving that failed is a loss
@@ -211,29 +217,29 @@ loss-is stop.NoMemory seat l = absurd l
 loss-is stop.WriteFault seat l = absurd l
 
 -- leaving failed behind whatever was played
-pub leaving-lost : (g : Service) (x y z : Seated) (a b : Outlet) (left rest : Inlet) (r : Result InputEnd Stop) (why : Stop) → x.seen ≡ [] → IsSameSeat x y → is_unwritten r ≡ false → Plays (Opening ∷ []) g x y a b left rest r → Sees g.gives y z × IsLoss why z → WasServed g x.number z.seen a b left rest (Err why)
-leaving-lost g x y z a b left rest r why none same written p s =
-    lost-served g x y z a b left rest r why (loss-is why z s.1) written p (lost-stayed g x.number z.seen p.serves.got (stayed g x y z p.serves.got none same p.serves.adds s.0))
+pub leaving-lost : (u : Bool) (g : Service) (x y z : Seated) (a b : Outlet) (left rest : Inlet) (r : Result InputEnd Stop) (why : Stop) → x.seen ≡ [] → IsSameSeat x y → is_unwritten r ≡ false → (p : Plays u (Opening ∷ []) g x y a b left rest r) → Sees g.gives y z × IsLoss why z → (w : WasServed u g x.number z.seen a b left rest (Err why)) × (w.bytes ≡ p.bytes)
+leaving-lost u g x y z a b left rest r why none same written p s =
+    lost-served u g x y z a b left rest r why (loss-is why z s.1) written p (lost-stayed g x.number z.seen p.serves.got (stayed g x y z p.serves.got none same p.serves.adds s.0))
 
 -- the client left behind whatever was played
-pub all-left : (r : Result InputEnd Stop) (g : Service) (x y z : Seated) (a b : Outlet) (left rest : Inlet) → x.seen ≡ [] → IsSameSeat x y → is_unwritten r ≡ false → Plays (Opening ∷ []) g x y a b left rest r → HasGone g.gives y z → WasServed g x.number z.seen a b left rest r
-all-left r g x y z a b left rest none same written p e = by r written p (gone g x y z p.serves.got none same p.serves.adds e)
+pub all-left : (r : Result InputEnd Stop) (u : Bool) (g : Service) (x y z : Seated) (a b : Outlet) (left rest : Inlet) → x.seen ≡ [] → IsSameSeat x y → is_unwritten r ≡ false → (p : Plays u (Opening ∷ []) g x y a b left rest r) → HasGone g.gives y z → (w : WasServed u g x.number z.seen a b left rest r) × (w.bytes ≡ p.bytes)
+all-left r u g x y z a b left rest none same written p e = by r written p (gone g x y z p.serves.got none same p.serves.adds e)
   where
-    by : (r : Result InputEnd Stop) → is_unwritten r ≡ false → (p : Plays (Opening ∷ []) g x y a b left rest r) → HasLeft (protocol g.opens) (rules g.gives) x.number z.seen p.serves.got → WasServed g x.number z.seen a b left rest r
-    by (Ok ending) w p f = ended-left g x y z a b left rest ending p f
+    by : (r : Result InputEnd Stop) → is_unwritten r ≡ false → (p : Plays u (Opening ∷ []) g x y a b left rest r) → HasLeft (protocol g.opens) (rules g.gives) x.number z.seen p.serves.got → (w : WasServed u g x.number z.seen a b left rest r) × (w.bytes ≡ p.bytes)
+    by (Ok ending) w p f = ended-left u g x y z a b left rest ending p f
     by (Err stop.HistoryFull) w p f =
-        served g x y a b left rest (Err stop.HistoryFull) (Err stop.HistoryFull) z p p.lines_are
-        (refused-stands (protocol g.opens) (rules g.gives) x.number z.seen (turns_of p.lines) p.serves.got p.serves.out p.serves.fits f) tt
-    by (Err (stop.Broken at)) w p f = lost-served g x y z a b left rest (Err (stop.Broken at)) (stop.Broken at) refl w p (lost-left g x.number z.seen p.serves.got f)
-    by (Err stop.NoMemory) w p f = lost-served g x y z a b left rest (Err stop.NoMemory) stop.NoMemory refl w p (lost-left g x.number z.seen p.serves.got f)
+        served u g x y a b left rest (Err stop.HistoryFull) (Err stop.HistoryFull) z p p.lines_are
+        (refused-stands (protocol g.opens) (rules g.gives) x.number z.seen p.turns p.serves.got p.serves.out p.serves.fits f) tt
+    by (Err (stop.Broken at)) w p f = lost-served u g x y z a b left rest (Err (stop.Broken at)) (stop.Broken at) refl w p (lost-left g x.number z.seen p.serves.got f)
+    by (Err stop.NoMemory) w p f = lost-served u g x y z a b left rest (Err stop.NoMemory) stop.NoMemory refl w p (lost-left g x.number z.seen p.serves.got f)
     by (Err stop.WriteFault) w p f = cc
 
 -- a write failed, and nothing more was played
-pub unwritten-served : (r : Result InputEnd Stop) (g : Service) (x y : Seated) (a b : Outlet) (left rest : Inlet) → is_unwritten r ≡ true → x.seen ≡ [] → IsSameSeat x y → Plays (Opening ∷ []) g x y a b left rest r → WasServed g x.number y.seen a b left rest r
-unwritten-served (Ok ending) g x y a b left rest e none same p = cc
-unwritten-served (Err stop.HistoryFull) g x y a b left rest e none same p = cc
-unwritten-served (Err (stop.Broken at)) g x y a b left rest e none same p = cc
-unwritten-served (Err stop.NoMemory) g x y a b left rest e none same p = cc
-unwritten-served (Err stop.WriteFault) g x y a b left rest e none same p =
-    served g x y a b left rest (Err stop.WriteFault) (Err stop.WriteFault) y p p.lines_are
-    (unsent-stands (protocol g.opens) (rules g.gives) x.number y.seen (turns_of p.lines) p.serves.got p.serves.out p.serves.fits (still g x y p.serves.got none p.serves.adds)) tt
+pub unwritten-served : (r : Result InputEnd Stop) (u : Bool) (g : Service) (x y : Seated) (a b : Outlet) (left rest : Inlet) → is_unwritten r ≡ true → x.seen ≡ [] → IsSameSeat x y → (p : Plays u (Opening ∷ []) g x y a b left rest r) → (w : WasServed u g x.number y.seen a b left rest r) × (w.bytes ≡ p.bytes)
+unwritten-served (Ok ending) u g x y a b left rest e none same p = cc
+unwritten-served (Err stop.HistoryFull) u g x y a b left rest e none same p = cc
+unwritten-served (Err (stop.Broken at)) u g x y a b left rest e none same p = cc
+unwritten-served (Err stop.NoMemory) u g x y a b left rest e none same p = cc
+unwritten-served (Err stop.WriteFault) u g x y a b left rest e none same p =
+    served u g x y a b left rest (Err stop.WriteFault) (Err stop.WriteFault) y p p.lines_are
+    (unsent-stands (protocol g.opens) (rules g.gives) x.number y.seen p.turns p.serves.got p.serves.out p.serves.fits (still g x y p.serves.got none p.serves.adds)) tt

@@ -9,7 +9,7 @@ use Rattle.std.proofs.KnownBytes.{Consumes-nil, Consumes-trans}
 use Rattle.kak_ports.specs.Ports.{Inlet, Outlet, Rose}
 use Rattle.session_turns.specs.Lines.{whole_lines, last_part, as_line, lines_of_input, with_newlines, HasNoNewline}
 use Rattle.session_turns.specs.Histories.{Answer, is_leaving}
-use Rattle.session_turns.specs.Turns.{Phase, Line as Said, During, plays, answers_to}
+use Rattle.session_turns.specs.Turns.{Turn, Line as Said, Idle, Phase, During, later, turns_of, lines_among, plays, answers_to}
 use Rattle.session_turns.specs.Growth.{How, Whole, Over, Lost, IsWhole}
 use Rattle.session_turns.specs.Headline.{LinesRead, AreLines}
 use Rattle.session_turns.proofs.Lists.{stays_front, length-events_of}
@@ -30,83 +30,120 @@ use Rattle.session_lines.specs.Stops.{IsLoss}
 use Rattle.session_lines.specs.Session.{protocol}
 use Rattle.session_lines.specs.Serving.{Service, Serves, how_of, line_phases}
 use Rattle.session_lines.specs.Reading.{EndIs, FaultIs}
-use Rattle.session_lines.specs.Connections.{end_of, Plays}
+use Rattle.session_lines.specs.Connections.{end_of, AreAsked, Plays}
 use Rattle.session_lines.proofs.ServingLemmas.{serves-append, serves-over, serves-stopped, serves-nothing, serves-lost}
 
+-- the lines of some turns, and of others behind them
+pub among-append : (ts us : List Turn) → lines_among (ts ++ us) ≡ lines_among ts ++ lines_among us
+among-append [] us = refl
+among-append ((Said line) ∷ ts) us = ap (λ r. line ∷ r) (among-append ts us)
+among-append (Idle ∷ ts) us = among-append ts us
+
+pub later-append : (ts us : List Turn) → later (ts ++ us) ≡ later ts ++ later us
+later-append [] us = refl
+later-append (t ∷ ts) us = ap (λ r. During t ∷ r) (later-append ts us)
+
+turns_of-append : (ls ms : List (List ℕ)) → turns_of (ls ++ ms) ≡ turns_of ls ++ turns_of ms
+turns_of-append [] ms = refl
+turns_of-append (l ∷ ls) ms = ap (λ r. Said l ∷ r) (turns_of-append ls ms)
+
+-- the lines of turns that are lines
+pub lines-of : (lines : List (List ℕ)) → lines_among (turns_of lines) ≡ lines
+lines-of [] = refl
+lines-of (l ∷ lines) = ap (λ r. l ∷ r) (lines-of lines)
+
+asked-of : (lines : List (List ℕ)) → AreAsked (turns_of lines)
+asked-of lines = ap turns_of (sym (lines-of lines))
+
+asked-append : (ts us : List Turn) → AreAsked ts → AreAsked us → AreAsked (ts ++ us)
+asked-append ts us a b =
+    ap (λ r. r ++ us) a ∙ ap (λ r. turns_of (lines_among ts) ++ r) b ∙ sym (turns_of-append (lines_among ts) (lines_among us)) ∙ ap turns_of (sym (among-append ts us))
+
 -- of the bytes all but a last piece completed no line that wasn't played
-pub record LastPiece (left : Inlet) (bytes : List ℕ) (given : List (List ℕ)) : Type 0 where
+pub record LastPiece (left : Inlet) (bytes : List ℕ) (turns : List Turn) : Type 0 where
   pub before : List ℕ
   pub piece : List ℕ
-  pub later : List (List ℕ)
+  pub front : List Turn
+  pub behind : List Turn
   pub cut : bytes ≡ before ++ piece
   pub one : length piece ≤ MAX_PIECE
   pub most : length piece ≤ left.most
-  pub lines : given ≡ whole_lines [] before ++ later
+  pub turns_are : turns ≡ front ++ behind
+  pub lines : lines_among front ≡ whole_lines [] before
 
--- what was read so far, where the client stays: these lines were all played, and these bytes stand behind them
-pub record HasRead (g : Service) (old new : Seated) (a b : Outlet) (left rest : Inlet) (taken : ℕ) (behind : List ℕ) : Type 0 where
+-- what was read so far, where the client stays: these turns were all played, and these bytes stand behind their lines
+pub record HasRead (u : Bool) (g : Service) (old new : Seated) (a b : Outlet) (left rest : Inlet) (taken : ℕ) (behind : List ℕ) : Type 0 where
   pub bytes : List ℕ
-  pub given : List (List ℕ)
+  pub turns : List Turn
   pub takes : Consumes left.left rest.left bytes
   pub count : taken ≡ length bytes
   pub few : taken ≤ MAX_INPUT
   pub most : rest.most ≡ left.most
-  pub all : bytes ≡ with_newlines given ++ behind
-  pub none : AllByRecursion HasNoNewline given
-  pub serves : Serves g old new a b Whole (line_phases given)
-  pub last : LastPiece left bytes given
+  pub all : bytes ≡ with_newlines (lines_among turns) ++ behind
+  pub none : AllByRecursion HasNoNewline (lines_among turns)
+  pub asked : u ≡ false → AreAsked turns
+  pub serves : Serves g old new a b Whole (later turns)
+  pub last : LastPiece left bytes turns
 
 -- nothing was read yet
-pub begin-reading : (g : Service) (h : Seated) (a : Outlet) (left : Inlet) (reading : Reading) → reading.taken ≡ 0 → reading.pending ≡ [] → HasRead g h h a a left left reading.taken reading.pending
-begin-reading g h a left reading t p = record {
+pub begin-reading : (u : Bool) (g : Service) (h : Seated) (a : Outlet) (left : Inlet) (reading : Reading) → reading.taken ≡ 0 → reading.pending ≡ [] → HasRead u g h h a a left left reading.taken reading.pending
+begin-reading u g h a left reading t p = record {
   bytes = [];
-  given = [];
+  turns = [];
   takes = Consumes-nil left.left;
   count = t;
   few = omega (arith, t);
   most = refl;
   all = sym p;
   none = tt;
+  asked = λ e. refl;
   serves = serves-nothing g h a;
-  last = record { before = []; piece = []; later = []; cut = refl; one = omega arith; most = omega arith; lines = refl };
+  last = record { before = []; piece = []; front = []; behind = []; cut = refl; one = omega arith; most = omega arith; turns_are = refl; lines = refl };
 }
 
 -- before the last piece no line was completed that wasn't played
-pub last-more : (left rest : Inlet) (bytes more pending : List ℕ) (given : List (List ℕ)) → rest.most ≡ left.most → bytes ≡ with_newlines given ++ pending → AllByRecursion HasNoNewline given → IsNeeded pending rest more → LastPiece left bytes given → LastPiece left (bytes ++ more) given
-last-more left rest bytes more pending given m e none (inl h) l = record {
+pub last-more : (left rest : Inlet) (bytes more pending : List ℕ) (turns : List Turn) → rest.most ≡ left.most → bytes ≡ with_newlines (lines_among turns) ++ pending → AllByRecursion HasNoNewline (lines_among turns) → IsNeeded pending rest more → LastPiece left bytes turns → LastPiece left (bytes ++ more) turns
+last-more left rest bytes more pending turns m e none (inl h) l = record {
   before = l.before;
   piece = l.piece;
-  later = l.later;
+  front = l.front;
+  behind = l.behind;
   cut = ap (λ q. bytes ++ q) h ∙ append-nil bytes ∙ l.cut;
   one = l.one;
   most = l.most;
+  turns_are = l.turns_are;
   lines = l.lines;
 }
-last-more left rest bytes more pending given m e none (inr p) l = record {
-  before = bytes ++ p.before;
-  piece = p.piece;
-  later = [];
-  cut = ap (λ q. bytes ++ q) p.cut ∙ sym (append_assoc bytes p.before p.piece);
-  one = p.one;
-  most = omega (arith, p.most, m);
-  lines = sym (append-nil (whole_lines [] (bytes ++ p.before)) ∙ ap (λ q. whole_lines [] (q ++ p.before)) e ∙ ap (whole_lines []) (append_assoc (with_newlines given) pending p.before)
-      ∙ lines-given given (pending ++ p.before) none ∙ ap (λ r. given ++ r) (no-lines (pending ++ p.before) p.none) ∙ append-nil given);
-}
+last-more left rest bytes more pending turns m e none (inr p) l =
+    let given : List (List ℕ) = lines_among turns in
+    record {
+      before = bytes ++ p.before;
+      piece = p.piece;
+      front = turns;
+      behind = [];
+      cut = ap (λ q. bytes ++ q) p.cut ∙ sym (append_assoc bytes p.before p.piece);
+      one = p.one;
+      most = omega (arith, p.most, m);
+      turns_are = sym (append-nil turns);
+      lines = sym (ap (λ q. whole_lines [] (q ++ p.before)) e ∙ ap (whole_lines []) (append_assoc (with_newlines given) pending p.before)
+          ∙ lines-given given (pending ++ p.before) none ∙ ap (λ r. given ++ r) (no-lines (pending ++ p.before) p.none) ∙ append-nil given);
+    }
 
 -- a call of the reader took what it took
-abbrev read-more : {E : Type 0} (g : Service) (old new : Seated) (a b : Outlet) (left rest more : Inlet) (answer : Result Next E) (was now : Reading) (r : Reads answer was now rest more) → more.most ≡ rest.most
-    → HasRead g old new a b left rest was.taken was.pending → HasRead g old new a b left more now.taken (was.pending ++ r.bytes)
-read-more g old new a b left rest more answer was now r m s = record {
+abbrev pub read-more : {E : Type 0} (u : Bool) (g : Service) (old new : Seated) (a b : Outlet) (left rest more : Inlet) (answer : Result Next E) (was now : Reading) (r : Reads answer was now rest more) → more.most ≡ rest.most
+    → HasRead u g old new a b left rest was.taken was.pending → HasRead u g old new a b left more now.taken (was.pending ++ r.bytes)
+read-more u g old new a b left rest more answer was now r m s = record {
   bytes = s.bytes ++ r.bytes;
-  given = s.given;
+  turns = s.turns;
   takes = Consumes-trans left.left rest.left more.left s.bytes r.bytes s.takes r.takes;
   count = omega (arith, r.counted, s.count, length-append s.bytes r.bytes);
   few = r.few;
   most = m ∙ s.most;
-  all = ap (λ q. q ++ r.bytes) s.all ∙ append_assoc (with_newlines s.given) was.pending r.bytes;
+  all = ap (λ q. q ++ r.bytes) s.all ∙ append_assoc (with_newlines (lines_among s.turns)) was.pending r.bytes;
   none = s.none;
+  asked = s.asked;
   serves = s.serves;
-  last = last-more left rest s.bytes r.bytes was.pending s.given s.most s.all s.none r.needed s.last;
+  last = last-more left rest s.bytes r.bytes was.pending s.turns s.most s.all s.none r.needed s.last;
 }
 
 -- what a call of the reader told
@@ -120,20 +157,19 @@ all-behind (Some x) None bytes more c e = absurd c
 all-behind (Some x) (Some y) bytes more c e = c ∙ ap (λ q. bytes ++ q) e
 
 pub turns-append : (ls ms : List (List ℕ)) → line_phases (ls ++ ms) ≡ line_phases ls ++ line_phases ms
-turns-append [] ms = refl
-turns-append (l ∷ ls) ms = ap (λ r. During (Said l) ∷ r) (turns-append ls ms)
+turns-append ls ms = ap later (turns_of-append ls ms) ∙ later-append (turns_of ls) (turns_of ms)
 
 -- a serving with other phases that are the same, with its answers
 with-phases : (g : Service) (old new : Seated) (a b : Outlet) (how : How) (ts us : List Phase) → ts ≡ us → (s : Serves g old new a b how ts) → (t : Serves g old new a b how us) × (t.got ≡ s.got)
 with-phases g old new a b how ts us e s = subst (λ q. (t : Serves g old new a b how q) × (t.got ≡ s.got)) e (s, refl)
 
--- phases that kept the client keep it whatever is answered behind, and so do the first ones of them
-kept-front : (opens : List Key) (all first more : List Phase) (got late : List (Answer Event)) (out : List ℕ) → all ≡ first ++ more → IsWhole (protocol opens) all got out → is_leaving (answers_to (protocol opens) first (got ++ late)) ≡ false
+-- turns that kept the client keep it whatever is answered behind, and so do the first ones of them
+kept-front : (opens : List Key) (all first more : List Turn) (got late : List (Answer Event)) (out : List ℕ) → all ≡ first ++ more → IsWhole (protocol opens) (later all) got out → is_leaving (answers_to (protocol opens) (later first) (got ++ late)) ≡ false
 kept-front opens all first more got late out e w =
-    let n : ℕ = length (flat_map (plays (protocol opens)) first) in
-    let events : length got ≡ length (flat_map (plays (protocol opens)) first ++ flat_map (plays (protocol opens)) more) =
-    sym (length-events_of got) ∙ ap length w.events ∙ ap (λ ts. length (flat_map (plays (protocol opens)) ts)) e ∙ ap length (flat_map-append (protocol opens) first more) in
-    let le : n ≤ length got = omega (arith, events, length-append (flat_map (plays (protocol opens)) first) (flat_map (plays (protocol opens)) more)) in
+    let n : ℕ = length (flat_map (plays (protocol opens)) (later first)) in
+    let events : length got ≡ length (flat_map (plays (protocol opens)) (later first) ++ flat_map (plays (protocol opens)) (later more)) =
+    sym (length-events_of got) ∙ ap length w.events ∙ ap (λ ts. length (flat_map (plays (protocol opens)) ts)) (ap later e ∙ later-append first more) ∙ ap length (flat_map-append (protocol opens) (later first) (later more)) in
+    let le : n ≤ length got = omega (arith, events, length-append (flat_map (plays (protocol opens)) (later first)) (flat_map (plays (protocol opens)) (later more))) in
     ap is_leaving (take-append-le n got late le) ∙ stays_front n got w.stays
 
 -- the lines of bytes whose first ones are those that were played
@@ -161,75 +197,106 @@ stopped-lines (stop.Broken at) ended bytes lines a = a
 stopped-lines stop.NoMemory ended bytes lines a = a
 stopped-lines stop.WriteFault ended bytes lines a = a
 
+-- more was played behind what was read, and the client stays
+pub behind-read : (u : Bool) (g : Service) (old mid new : Seated) (a b c : Outlet) (left rest : Inlet) (taken : ℕ) (behind : List ℕ) (s : HasRead u g old mid a b left rest taken behind) (turn : Turn) → IsSameSeat old mid
+    → Serves g mid new b c Whole (During turn ∷ []) → Serves g old new a c Whole (later (s.turns ++ turn ∷ []))
+behind-read u g old mid new a b c left rest taken behind s turn same t =
+    subst (λ ts. Serves g old new a c Whole ts) (sym (later-append s.turns (turn ∷ []))) (serves-append g old mid new a b c Whole (later s.turns) (During turn ∷ []) same s.serves t)
+
+-- no line was completed by a turn behind the last piece
+pub last-behind : (left : Inlet) (bytes : List ℕ) (turns more : List Turn) → LastPiece left bytes turns → LastPiece left bytes (turns ++ more)
+last-behind left bytes turns more l = record {
+  before = l.before;
+  piece = l.piece;
+  front = l.front;
+  behind = l.behind ++ more;
+  cut = l.cut;
+  one = l.one;
+  most = l.most;
+  turns_are = ap (λ q. q ++ more) l.turns_are ∙ append_assoc l.front l.behind more;
+  lines = l.lines;
+}
+
 -- a line was played, and the client stays
-pub line-went : {E : Type 0} (g : Service) (old mid new : Seated) (a b c : Outlet) (left rest more : Inlet) (was now : Reading) (said : List ℕ) (l : Bool) → l ≡ false → IsSameSeat old mid → said ≡ now.line → more.most ≡ rest.most → Reads {E = E} (Ok next.Line) was now rest more
-    → HasRead g old mid a b left rest was.taken was.pending → Serves g mid new b c (how_of (Ok l)) (line_phases (said ∷ [])) → HasRead g old new a c left more now.taken now.pending
-line-went g old mid new a b c left rest more was now said l f same e m r s t =
-    let h = read-more g old mid a b left rest more (Ok next.Line) was now r m s in
-    record {
-      bytes = h.bytes;
-      given = h.given ++ now.line ∷ [];
-      takes = h.takes;
-      count = h.count;
-      few = h.few;
-      most = h.most;
-      all = h.all ∙ ap (λ q. with_newlines h.given ++ q) r.gives.split ∙ sym (given-pushed h.given now.line now.pending);
-      none = none-pushed h.given now.line h.none r.gives.first;
-      serves = subst (λ ts. Serves g old new a c Whole ts) (sym (turns-append h.given (now.line ∷ [])))
-          (serves-append g old mid new a b c Whole (line_phases h.given) (line_phases (now.line ∷ [])) same h.serves
-          (subst (λ q. Serves g mid new b c Whole (line_phases (q ∷ []))) e (subst (λ q. Serves g mid new b c (how_of (Ok q)) (line_phases (said ∷ []))) f t)));
-      last = record {
-        before = h.last.before;
-        piece = h.last.piece;
-        later = h.last.later ++ now.line ∷ [];
-        cut = h.last.cut;
-        one = h.last.one;
-        most = h.last.most;
-        lines = ap (λ q. q ++ now.line ∷ []) h.last.lines ∙ append_assoc (whole_lines [] h.last.before) h.last.later (now.line ∷ []);
-      };
-    }
+pub line-went : {E : Type 0} (u : Bool) (g : Service) (old mid new : Seated) (a b c : Outlet) (left rest more : Inlet) (was now : Reading) (said : List ℕ) (l : Bool) → l ≡ false → IsSameSeat old mid → said ≡ now.line → more.most ≡ rest.most → (r : Reads {E = E} (Ok next.Line) was now rest more)
+    → (s : HasRead u g old mid a b left rest was.taken was.pending) → Serves g mid new b c (how_of (Ok l)) (line_phases (said ∷ [])) → (p : HasRead u g old new a c left more now.taken now.pending) × (p.bytes ≡ s.bytes ++ r.bytes)
+line-went u g old mid new a b c left rest more was now said l f same e m r s t =
+    let h = read-more u g old mid a b left rest more (Ok next.Line) was now r m s in
+    let given : List (List ℕ) = lines_among s.turns in
+    let among : lines_among (s.turns ++ Said now.line ∷ []) ≡ given ++ now.line ∷ [] = among-append s.turns (Said now.line ∷ []) in (
+      record {
+        bytes = h.bytes;
+        turns = h.turns ++ Said now.line ∷ [];
+        takes = h.takes;
+        count = h.count;
+        few = h.few;
+        most = h.most;
+        all = h.all ∙ ap (λ q. with_newlines given ++ q) r.gives.split ∙ sym (given-pushed given now.line now.pending) ∙ ap (λ q. with_newlines q ++ now.pending) (sym among);
+        none = subst (λ q. AllByRecursion HasNoNewline q) (sym among) (none-pushed given now.line h.none r.gives.first);
+        asked = λ e. asked-append s.turns (Said now.line ∷ []) (s.asked e) refl;
+        serves = behind-read u g old mid new a b c left more now.taken (was.pending ++ r.bytes) h (Said now.line) same
+            (subst (λ q. Serves g mid new b c Whole (line_phases (q ∷ []))) e (subst (λ q. Serves g mid new b c (how_of (Ok q)) (line_phases (said ∷ []))) f t));
+        last = last-behind left h.bytes h.turns (Said now.line ∷ []) h.last;
+      },
+      refl,
+    )
 
 -- the lines of bytes in which a line stands behind those that were played
 pub lines-at : (bytes behind line pending : List ℕ) (given : List (List ℕ)) → bytes ≡ with_newlines given ++ behind → AllByRecursion HasNoNewline given → behind ≡ line ++ 10 ∷ pending → HasNoNewline line → whole_lines [] bytes ≡ given ++ line ∷ whole_lines [] pending
 lines-at bytes behind line pending given e none cut h = lines-behind bytes behind given e none ∙ ap (λ q. given ++ whole_lines [] q) cut ∙ ap (λ r. given ++ r) (lines-first line pending h)
 
--- the phases of some lines, of one behind them, and of others behind it
-phases-at : (given later lines : List (List ℕ)) (line : List ℕ) → lines ≡ given ++ line ∷ later → line_phases given ++ (line_phases (line ∷ []) ++ line_phases later) ≡ line_phases lines
-phases-at given later lines line e = sym (turns-append given (line ∷ later)) ∙ ap line_phases (sym e)
+-- turns, and lines behind them that weren't played
+abbrev with-lines : List Turn → List (List ℕ) → List Turn
+with-lines turns lines = turns ++ turns_of lines
+
+-- their lines
+lines-with : (turns : List Turn) (behind lines : List (List ℕ)) → lines ≡ lines_among turns ++ behind → lines_among (with-lines turns behind) ≡ lines
+lines-with turns behind lines e = among-append turns (turns_of behind) ∙ ap (λ r. lines_among turns ++ r) (lines-of behind) ∙ sym e
+
+asked-with : (turns : List Turn) (behind : List (List ℕ)) → AreAsked turns → AreAsked (with-lines turns behind)
+asked-with turns behind a = asked-append turns (turns_of behind) a (asked-of behind)
 
 -- the client may leave after a line: of the lines behind it none is played, and what kept the client before is known
-left-at : (g : Service) (old mid new : Seated) (a b c : Outlet) (left rest : Inlet) (taken : ℕ) (behind line : List ℕ) (later lines : List (List ℕ)) (h : HasRead g old mid a b left rest taken behind) → lines ≡ h.given ++ line ∷ later → IsSameSeat old mid → AreLines (IsAll left h.bytes) h.bytes lines
-    → ((got : List (Answer Event)) → ((first more : List Phase) → line_phases h.given ≡ first ++ more → is_leaving (answers_to (protocol g.opens) first got) ≡ false) → EndIs g.opens [] got (Ok Left) left h.bytes)
-    → Serves g mid new b c Over (line_phases (line ∷ [])) → Plays [] g old new a c left rest (Ok Left)
-left-at g old mid new a b c left rest taken behind line later lines h cut same read end t = record {
-  bytes = h.bytes;
-  takes = h.takes;
-  few = omega (arith, h.few, h.count);
-  lines = lines;
-  lines_are = read;
-  serves = found.0;
-  end_is = end found.0.got (λ first more e. ap (λ q. is_leaving (answers_to (protocol g.opens) first q)) found.1 ∙ kept-front g.opens (line_phases h.given) first more h.serves.got now.got h.serves.out e h.serves.fits);
-}
+left-at : (u : Bool) (g : Service) (old mid new : Seated) (a b c : Outlet) (left rest : Inlet) (taken : ℕ) (behind line : List ℕ) (beyond lines : List (List ℕ)) (h : HasRead u g old mid a b left rest taken behind) → lines ≡ lines_among h.turns ++ line ∷ beyond → IsSameSeat old mid → AreLines (IsAll left h.bytes) h.bytes lines
+    → ((got : List (Answer Event)) → ((first more : List Turn) → h.turns ≡ first ++ more → is_leaving (answers_to (protocol g.opens) (later first) got) ≡ false) → EndIs g.opens [] (with-lines h.turns (line ∷ beyond)) got (Ok Left) left h.bytes)
+    → Serves g mid new b c Over (line_phases (line ∷ [])) → (p : Plays u [] g old new a c left rest (Ok Left)) × (p.bytes ≡ h.bytes)
+left-at u g old mid new a b c left rest taken behind line beyond lines h cut same read end t = (
+  record {
+    bytes = h.bytes;
+    takes = h.takes;
+    few = omega (arith, h.few, h.count);
+    turns = with-lines h.turns (line ∷ beyond);
+    lines_are = subst (λ ls. AreLines (IsAll left h.bytes) h.bytes ls) (sym (lines-with h.turns (line ∷ beyond) lines cut)) read;
+    asked = λ e. asked-with h.turns (line ∷ beyond) (h.asked e);
+    serves = found.0;
+    end_is = end found.0.got (λ first more e. ap (λ q. is_leaving (answers_to (protocol g.opens) (later first) q)) found.1 ∙ kept-front g.opens h.turns first more h.serves.got now.got h.serves.out e h.serves.fits);
+  },
+  refl,
+)
   where
-    now : Serves g mid new b c Over (line_phases (line ∷ []) ++ line_phases later)
-    now = serves-over g mid new b c (line_phases (line ∷ [])) (line_phases later) t
+    now : Serves g mid new b c Over (line_phases (line ∷ []) ++ line_phases beyond)
+    now = serves-over g mid new b c (line_phases (line ∷ [])) (line_phases beyond) t
 
-    found : (t : Serves g old new a c Over (line_phases lines)) × (t.got ≡ h.serves.got ++ now.got)
-    found = with-phases g old new a c Over _ _ (phases-at h.given later lines line cut) (serves-append g old mid new a b c Over (line_phases h.given) (line_phases (line ∷ []) ++ line_phases later) same h.serves now)
+    found : (t : Serves g old new a c Over (later (with-lines h.turns (line ∷ beyond)))) × (t.got ≡ h.serves.got ++ now.got)
+    found = with-phases g old new a c Over _ _ (sym (later-append h.turns (turns_of (line ∷ beyond)))) (serves-append g old mid new a b c Over (later h.turns) (line_phases (line ∷ []) ++ line_phases beyond) same h.serves now)
 
 -- playing stopped in a line
-stopped-at : (g : Service) (old mid new : Seated) (a b c : Outlet) (left rest : Inlet) (taken : ℕ) (behind line : List ℕ) (later lines : List (List ℕ)) (why : Stop) (h : HasRead g old mid a b left rest taken behind) → lines ≡ h.given ++ line ∷ later → IsSameSeat old mid → AreLines (IsAll left h.bytes) h.bytes lines
-    → Serves g mid new b c (how_of (Err why)) (line_phases (line ∷ [])) → Plays [] g old new a c left rest (Err why)
-stopped-at g old mid new a b c left rest taken behind line later lines why h cut same read t = record {
-  bytes = h.bytes;
-  takes = h.takes;
-  few = omega (arith, h.few, h.count);
-  lines = lines;
-  lines_are = stopped-lines why (IsAll left h.bytes) h.bytes lines read;
-  serves = subst (λ ts. Serves g old new a c (how_of (Err why)) ts) (phases-at h.given later lines line cut)
-      (serves-append g old mid new a b c (how_of (Err why)) (line_phases h.given) (line_phases (line ∷ []) ++ line_phases later) same h.serves (serves-stopped g mid new b c why (line_phases (line ∷ [])) (line_phases later) t));
-  end_is = tt;
-}
+stopped-at : (u : Bool) (g : Service) (old mid new : Seated) (a b c : Outlet) (left rest : Inlet) (taken : ℕ) (behind line : List ℕ) (beyond lines : List (List ℕ)) (why : Stop) (h : HasRead u g old mid a b left rest taken behind) → lines ≡ lines_among h.turns ++ line ∷ beyond → IsSameSeat old mid → AreLines (IsAll left h.bytes) h.bytes lines
+    → Serves g mid new b c (how_of (Err why)) (line_phases (line ∷ [])) → (p : Plays u [] g old new a c left rest (Err why)) × (p.bytes ≡ h.bytes)
+stopped-at u g old mid new a b c left rest taken behind line beyond lines why h cut same read t = (
+  record {
+    bytes = h.bytes;
+    takes = h.takes;
+    few = omega (arith, h.few, h.count);
+    turns = with-lines h.turns (line ∷ beyond);
+    lines_are = subst (λ ls. LinesRead (end_of (Err why)) (IsAll left h.bytes) h.bytes ls) (sym (lines-with h.turns (line ∷ beyond) lines cut)) (stopped-lines why (IsAll left h.bytes) h.bytes lines read);
+    asked = λ e. asked-with h.turns (line ∷ beyond) (h.asked e);
+    serves = subst (λ ts. Serves g old new a c (how_of (Err why)) ts) (sym (later-append h.turns (turns_of (line ∷ beyond))))
+        (serves-append g old mid new a b c (how_of (Err why)) (later h.turns) (line_phases (line ∷ []) ++ line_phases beyond) same h.serves (serves-stopped g mid new b c why (line_phases (line ∷ [])) (line_phases beyond) t));
+    end_is = tt;
+  },
+  refl,
+)
 
 as-left : (g : Service) (x y : Seated) (a b : Outlet) (said line : List ℕ) (l : Bool) → l ≡ true → said ≡ line → Serves g x y a b (how_of (Ok l)) (line_phases (said ∷ [])) → Serves g x y a b Over (line_phases (line ∷ []))
 as-left g x y a b said line l f e t = subst (λ q. Serves g x y a b Over (line_phases (q ∷ []))) e (subst (λ q. Serves g x y a b (how_of (Ok q)) (line_phases (said ∷ []))) f t)
@@ -237,28 +304,35 @@ as-left g x y a b said line l f e t = subst (λ q. Serves g x y a b Over (line_p
 as-stopped : (g : Service) (x y : Seated) (a b : Outlet) (why : Stop) (said line : List ℕ) → said ≡ line → Serves g x y a b (how_of (Err why)) (line_phases (said ∷ [])) → Serves g x y a b (how_of (Err why)) (line_phases (line ∷ []))
 as-stopped g x y a b why said line e t = subst (λ q. Serves g x y a b (how_of (Err why)) (line_phases (q ∷ []))) e t
 
-pub line-left : {E : Type 0} (g : Service) (old mid new : Seated) (a b c : Outlet) (left rest more : Inlet) (was now : Reading) (said : List ℕ) (l : Bool) → l ≡ true → IsSameSeat old mid → said ≡ now.line → more.most ≡ rest.most → Reads {E = E} (Ok next.Line) was now rest more
-    → HasRead g old mid a b left rest was.taken was.pending → Serves g mid new b c (how_of (Ok l)) (line_phases (said ∷ [])) → Plays [] g old new a c left more (Ok Left)
-line-left g old mid new a b c left rest more was now said l f same e m r s t =
-    let h = read-more g old mid a b left rest more (Ok next.Line) was now r m s in
-    left-at g old mid new a b c left more now.taken (was.pending ++ r.bytes) now.line (whole_lines [] now.pending) (whole_lines [] (s.bytes ++ r.bytes)) h
-    (lines-at (s.bytes ++ r.bytes) (was.pending ++ r.bytes) now.line now.pending s.given h.all s.none r.gives.split r.gives.first) same (inl refl)
+pub line-left : {E : Type 0} (u : Bool) (g : Service) (old mid new : Seated) (a b c : Outlet) (left rest more : Inlet) (was now : Reading) (said : List ℕ) (l : Bool) → l ≡ true → IsSameSeat old mid → said ≡ now.line → more.most ≡ rest.most → (r : Reads {E = E} (Ok next.Line) was now rest more)
+    → (s : HasRead u g old mid a b left rest was.taken was.pending) → Serves g mid new b c (how_of (Ok l)) (line_phases (said ∷ [])) → (p : Plays u [] g old new a c left more (Ok Left)) × (p.bytes ≡ s.bytes ++ r.bytes)
+line-left u g old mid new a b c left rest more was now said l f same e m r s t =
+    let h = read-more u g old mid a b left rest more (Ok next.Line) was now r m s in
+    let beyond : List (List ℕ) = now.line ∷ whole_lines [] now.pending in
+    left-at u g old mid new a b c left more now.taken (was.pending ++ r.bytes) now.line (whole_lines [] now.pending) (whole_lines [] (s.bytes ++ r.bytes)) h
+    (lines-at (s.bytes ++ r.bytes) (was.pending ++ r.bytes) now.line now.pending (lines_among s.turns) h.all s.none r.gives.split r.gives.first) same (inl refl)
     (λ got kept. inr (inl (record {
       before = h.last.before;
       piece = h.last.piece;
       cut = h.last.cut;
       one = h.last.one;
       most = h.last.most;
-      kept = kept (line_phases (whole_lines [] h.last.before)) (line_phases h.last.later) (ap line_phases h.last.lines ∙ turns-append (whole_lines [] h.last.before) h.last.later);
+      kept = record {
+        front = h.last.front;
+        behind = h.last.behind ++ turns_of beyond;
+        cut = ap (λ q. q ++ turns_of beyond) h.last.turns_are ∙ append_assoc h.last.front h.last.behind (turns_of beyond);
+        lines = h.last.lines;
+        stays = kept h.last.front h.last.behind h.last.turns_are;
+      };
     })))
     (as-left g mid new b c said now.line l f e t)
 
-pub line-stopped : {E : Type 0} (g : Service) (old mid new : Seated) (a b c : Outlet) (left rest more : Inlet) (was now : Reading) (said : List ℕ) (why : Stop) → IsSameSeat old mid → said ≡ now.line → more.most ≡ rest.most → Reads {E = E} (Ok next.Line) was now rest more
-    → HasRead g old mid a b left rest was.taken was.pending → Serves g mid new b c (how_of (Err why)) (line_phases (said ∷ [])) → Plays [] g old new a c left more (Err why)
-line-stopped g old mid new a b c left rest more was now said why same e m r s t =
-    let h = read-more g old mid a b left rest more (Ok next.Line) was now r m s in
-    stopped-at g old mid new a b c left more now.taken (was.pending ++ r.bytes) now.line (whole_lines [] now.pending) (whole_lines [] (s.bytes ++ r.bytes)) why h
-    (lines-at (s.bytes ++ r.bytes) (was.pending ++ r.bytes) now.line now.pending s.given h.all s.none r.gives.split r.gives.first) same (inl refl)
+pub line-stopped : {E : Type 0} (u : Bool) (g : Service) (old mid new : Seated) (a b c : Outlet) (left rest more : Inlet) (was now : Reading) (said : List ℕ) (why : Stop) → IsSameSeat old mid → said ≡ now.line → more.most ≡ rest.most → (r : Reads {E = E} (Ok next.Line) was now rest more)
+    → (s : HasRead u g old mid a b left rest was.taken was.pending) → Serves g mid new b c (how_of (Err why)) (line_phases (said ∷ [])) → (p : Plays u [] g old new a c left more (Err why)) × (p.bytes ≡ s.bytes ++ r.bytes)
+line-stopped u g old mid new a b c left rest more was now said why same e m r s t =
+    let h = read-more u g old mid a b left rest more (Ok next.Line) was now r m s in
+    stopped-at u g old mid new a b c left more now.taken (was.pending ++ r.bytes) now.line (whole_lines [] now.pending) (whole_lines [] (s.bytes ++ r.bytes)) why h
+    (lines-at (s.bytes ++ r.bytes) (was.pending ++ r.bytes) now.line now.pending (lines_among s.turns) h.all s.none r.gives.split r.gives.first) same (inl refl)
     (as-stopped g mid new b c why said now.line e t)
 
 -- a last line behind those that were played, where the input has ended
@@ -266,112 +340,122 @@ pub last-lines : (bytes behind line : List ℕ) (given : List (List ℕ)) → by
 last-lines bytes behind line given e none all h some =
     input-lines bytes line given (e ∙ ap (λ q. with_newlines given ++ q) all) none h ∙ ap (λ r. given ++ r) (some-line line some)
 
-pub last-went : {E : Type 0} (g : Service) (old mid new : Seated) (a b c : Outlet) (left rest more : Inlet) (was now : Reading) (said : List ℕ) (l : Bool) → l ≡ false → IsSameSeat old mid → said ≡ now.line → more.most ≡ rest.most → Reads {E = E} (Ok next.Last) was now rest more
-    → HasRead g old mid a b left rest was.taken was.pending → Serves g mid new b c (how_of (Ok l)) (line_phases (said ∷ [])) → Plays [] g old new a c left more (Ok Ended)
-last-went g old mid new a b c left rest more was now said l f same e m r s t =
-    let h = read-more g old mid a b left rest more (Ok next.Last) was now r m s in
+pub last-went : {E : Type 0} (u : Bool) (g : Service) (old mid new : Seated) (a b c : Outlet) (left rest more : Inlet) (was now : Reading) (said : List ℕ) (l : Bool) → l ≡ false → IsSameSeat old mid → said ≡ now.line → more.most ≡ rest.most → (r : Reads {E = E} (Ok next.Last) was now rest more)
+    → (s : HasRead u g old mid a b left rest was.taken was.pending) → Serves g mid new b c (how_of (Ok l)) (line_phases (said ∷ [])) → (p : Plays u [] g old new a c left more (Ok Ended)) × (p.bytes ≡ s.bytes ++ r.bytes)
+last-went u g old mid new a b c left rest more was now said l f same e m r s t =
+    let h = read-more u g old mid a b left rest more (Ok next.Last) was now r m s in
     let all : IsAll left (s.bytes ++ r.bytes) = all-behind left.left rest.left s.bytes r.bytes s.takes r.gives.ended in
-    record {
-      bytes = h.bytes;
-      takes = h.takes;
-      few = omega (arith, r.few, h.count);
-      lines = lines_of_input (s.bytes ++ r.bytes);
-      lines_are = (all, refl);
-      serves = subst (λ ts. Serves g old new a c Whole ts)
-          (phases-at s.given [] (lines_of_input (s.bytes ++ r.bytes)) now.line (last-lines (s.bytes ++ r.bytes) (was.pending ++ r.bytes) now.line s.given h.all s.none r.gives.all r.gives.none r.gives.some))
-          (serves-append g old mid new a b c Whole (line_phases s.given) (line_phases (now.line ∷ [])) same s.serves
-          (subst (λ q. Serves g mid new b c Whole (line_phases (q ∷ []))) e (subst (λ q. Serves g mid new b c (how_of (Ok q)) (line_phases (said ∷ []))) f t)));
-      end_is = all;
-    }
+    let lines : lines_of_input (s.bytes ++ r.bytes) ≡ lines_among s.turns ++ now.line ∷ [] =
+    last-lines (s.bytes ++ r.bytes) (was.pending ++ r.bytes) now.line (lines_among s.turns) h.all s.none r.gives.all r.gives.none r.gives.some in (
+      record {
+        bytes = h.bytes;
+        takes = h.takes;
+        few = omega (arith, r.few, h.count);
+        turns = with-lines s.turns (now.line ∷ []);
+        lines_are = (all, lines-with s.turns (now.line ∷ []) (lines_of_input (s.bytes ++ r.bytes)) lines);
+        asked = λ e. asked-with s.turns (now.line ∷ []) (s.asked e);
+        serves = behind-read u g old mid new a b c left more now.taken (was.pending ++ r.bytes) h (Said now.line) same
+            (subst (λ q. Serves g mid new b c Whole (line_phases (q ∷ []))) e (subst (λ q. Serves g mid new b c (how_of (Ok q)) (line_phases (said ∷ []))) f t));
+        end_is = all;
+      },
+      refl,
+    )
 
-pub last-left : {E : Type 0} (g : Service) (old mid new : Seated) (a b c : Outlet) (left rest more : Inlet) (was now : Reading) (said : List ℕ) (l : Bool) → l ≡ true → IsSameSeat old mid → said ≡ now.line → more.most ≡ rest.most → Reads {E = E} (Ok next.Last) was now rest more
-    → HasRead g old mid a b left rest was.taken was.pending → Serves g mid new b c (how_of (Ok l)) (line_phases (said ∷ [])) → Plays [] g old new a c left more (Ok Left)
-last-left g old mid new a b c left rest more was now said l f same e m r s t =
-    let h = read-more g old mid a b left rest more (Ok next.Last) was now r m s in
+pub last-left : {E : Type 0} (u : Bool) (g : Service) (old mid new : Seated) (a b c : Outlet) (left rest more : Inlet) (was now : Reading) (said : List ℕ) (l : Bool) → l ≡ true → IsSameSeat old mid → said ≡ now.line → more.most ≡ rest.most → (r : Reads {E = E} (Ok next.Last) was now rest more)
+    → (s : HasRead u g old mid a b left rest was.taken was.pending) → Serves g mid new b c (how_of (Ok l)) (line_phases (said ∷ [])) → (p : Plays u [] g old new a c left more (Ok Left)) × (p.bytes ≡ s.bytes ++ r.bytes)
+last-left u g old mid new a b c left rest more was now said l f same e m r s t =
+    let h = read-more u g old mid a b left rest more (Ok next.Last) was now r m s in
     let all : IsAll left (s.bytes ++ r.bytes) = all-behind left.left rest.left s.bytes r.bytes s.takes r.gives.ended in
-    let whole : whole_lines [] (s.bytes ++ r.bytes) ≡ s.given = lines-all (s.bytes ++ r.bytes) (was.pending ++ r.bytes) s.given h.all s.none (subst HasNoNewline (sym r.gives.all) r.gives.none) in
-    left-at g old mid new a b c left more now.taken (was.pending ++ r.bytes) now.line [] (lines_of_input (s.bytes ++ r.bytes)) h
-    (last-lines (s.bytes ++ r.bytes) (was.pending ++ r.bytes) now.line s.given h.all s.none r.gives.all r.gives.none r.gives.some) same (inr (all, refl))
-    (λ got kept. inr (inr (all, kept (line_phases (whole_lines [] (s.bytes ++ r.bytes))) [] (ap line_phases (sym whole) ∙ sym (append-nil (line_phases (whole_lines [] (s.bytes ++ r.bytes))))))))
+    let whole : whole_lines [] (s.bytes ++ r.bytes) ≡ lines_among s.turns =
+    lines-all (s.bytes ++ r.bytes) (was.pending ++ r.bytes) (lines_among s.turns) h.all s.none (subst HasNoNewline (sym r.gives.all) r.gives.none) in
+    left-at u g old mid new a b c left more now.taken (was.pending ++ r.bytes) now.line [] (lines_of_input (s.bytes ++ r.bytes)) h
+    (last-lines (s.bytes ++ r.bytes) (was.pending ++ r.bytes) now.line (lines_among s.turns) h.all s.none r.gives.all r.gives.none r.gives.some) same (inr (all, refl))
+    (λ got kept. inr (inr (all, record { front = s.turns; behind = Said now.line ∷ []; cut = refl; lines = sym whole; stays = kept s.turns [] (sym (append-nil s.turns)) })))
     (as-left g mid new b c said now.line l f e t)
 
-pub last-stopped : {E : Type 0} (g : Service) (old mid new : Seated) (a b c : Outlet) (left rest more : Inlet) (was now : Reading) (said : List ℕ) (why : Stop) → IsSameSeat old mid → said ≡ now.line → more.most ≡ rest.most → Reads {E = E} (Ok next.Last) was now rest more
-    → HasRead g old mid a b left rest was.taken was.pending → Serves g mid new b c (how_of (Err why)) (line_phases (said ∷ [])) → Plays [] g old new a c left more (Err why)
-last-stopped g old mid new a b c left rest more was now said why same e m r s t =
-    let h = read-more g old mid a b left rest more (Ok next.Last) was now r m s in
+pub last-stopped : {E : Type 0} (u : Bool) (g : Service) (old mid new : Seated) (a b c : Outlet) (left rest more : Inlet) (was now : Reading) (said : List ℕ) (why : Stop) → IsSameSeat old mid → said ≡ now.line → more.most ≡ rest.most → (r : Reads {E = E} (Ok next.Last) was now rest more)
+    → (s : HasRead u g old mid a b left rest was.taken was.pending) → Serves g mid new b c (how_of (Err why)) (line_phases (said ∷ [])) → (p : Plays u [] g old new a c left more (Err why)) × (p.bytes ≡ s.bytes ++ r.bytes)
+last-stopped u g old mid new a b c left rest more was now said why same e m r s t =
+    let h = read-more u g old mid a b left rest more (Ok next.Last) was now r m s in
     let all : IsAll left (s.bytes ++ r.bytes) = all-behind left.left rest.left s.bytes r.bytes s.takes r.gives.ended in
-    stopped-at g old mid new a b c left more now.taken (was.pending ++ r.bytes) now.line [] (lines_of_input (s.bytes ++ r.bytes)) why h
-    (last-lines (s.bytes ++ r.bytes) (was.pending ++ r.bytes) now.line s.given h.all s.none r.gives.all r.gives.none r.gives.some) same (inr (all, refl))
+    stopped-at u g old mid new a b c left more now.taken (was.pending ++ r.bytes) now.line [] (lines_of_input (s.bytes ++ r.bytes)) why h
+    (last-lines (s.bytes ++ r.bytes) (was.pending ++ r.bytes) now.line (lines_among s.turns) h.all s.none r.gives.all r.gives.none r.gives.some) same (inr (all, refl))
     (as-stopped g mid new b c why said now.line e t)
 
--- the lines that were played are all that the bytes complete
-abbrev serves-lines : (g : Service) (old new : Seated) (a b : Outlet) (given lines : List (List ℕ)) → lines ≡ given → Serves g old new a b Whole (line_phases given) → Serves g old new a b Whole (line_phases lines)
-serves-lines g old new a b given lines e s = subst (λ ls. Serves g old new a b Whole (line_phases ls)) (sym e) s
-
 -- the input ended behind a newline, or before all bytes
-pub input-ended : {E : Type 0} (g : Service) (old new : Seated) (a b : Outlet) (left rest more : Inlet) (was now : Reading) → more.most ≡ rest.most → Reads {E = E} (Ok next.Ended) was now rest more
-    → HasRead g old new a b left rest was.taken was.pending → Plays [] g old new a b left more (Ok Ended)
-input-ended g old new a b left rest more was now m r s =
-    let h = read-more g old new a b left rest more (Ok next.Ended) was now r m s in
-    let all : IsAll left (s.bytes ++ r.bytes) = all-behind left.left rest.left s.bytes r.bytes s.takes r.gives.ended in
-    record {
-      bytes = h.bytes;
-      takes = h.takes;
-      few = omega (arith, r.few, h.count);
-      lines = lines_of_input (s.bytes ++ r.bytes);
-      lines_are = (all, refl);
-      serves = serves-lines g old new a b s.given (lines_of_input (s.bytes ++ r.bytes))
-          (input-lines (s.bytes ++ r.bytes) [] s.given (h.all ∙ ap (λ q. with_newlines s.given ++ q) r.gives.all) s.none refl ∙ append-nil s.given) s.serves;
-      end_is = all;
-    }
+pub input-ended : {E : Type 0} (u : Bool) (g : Service) (old new : Seated) (a b : Outlet) (left rest more : Inlet) (was now : Reading) → more.most ≡ rest.most → (r : Reads {E = E} (Ok next.Ended) was now rest more)
+    → (s : HasRead u g old new a b left rest was.taken was.pending) → (p : Plays u [] g old new a b left more (Ok Ended)) × (p.bytes ≡ s.bytes ++ r.bytes)
+input-ended u g old new a b left rest more was now m r s =
+    let h = read-more u g old new a b left rest more (Ok next.Ended) was now r m s in
+    let all : IsAll left (s.bytes ++ r.bytes) = all-behind left.left rest.left s.bytes r.bytes s.takes r.gives.ended in (
+      record {
+        bytes = h.bytes;
+        takes = h.takes;
+        few = omega (arith, r.few, h.count);
+        turns = s.turns;
+        lines_are = (all, sym (input-lines (s.bytes ++ r.bytes) [] (lines_among s.turns) (h.all ∙ ap (λ q. with_newlines (lines_among s.turns) ++ q) r.gives.all) s.none refl ∙ append-nil (lines_among s.turns)));
+        asked = s.asked;
+        serves = s.serves;
+        end_is = all;
+      },
+      refl,
+    )
 
 -- the input failed
-pub input-failed : {E : Type 0} (g : Service) (old new : Seated) (a b : Outlet) (left rest more : Inlet) (was now : Reading) → more.most ≡ rest.most → Reads {E = E} (Ok next.ReadFault) was now rest more
-    → HasRead g old new a b left rest was.taken was.pending → Plays [] g old new a b left more (Ok ReadFault)
-input-failed g old new a b left rest more was now m r s =
-    let h = read-more g old new a b left rest more (Ok next.ReadFault) was now r m s in
-    record {
-      bytes = h.bytes;
-      takes = h.takes;
-      few = omega (arith, r.few, h.count);
-      lines = whole_lines [] (s.bytes ++ r.bytes);
-      lines_are = refl;
-      serves = serves-lines g old new a b s.given (whole_lines [] (s.bytes ++ r.bytes)) (lines-all (s.bytes ++ r.bytes) (was.pending ++ r.bytes) s.given h.all s.none r.gives.none) s.serves;
-      end_is = tt;
-    }
+pub input-failed : {E : Type 0} (u : Bool) (g : Service) (old new : Seated) (a b : Outlet) (left rest more : Inlet) (was now : Reading) → more.most ≡ rest.most → (r : Reads {E = E} (Ok next.ReadFault) was now rest more)
+    → (s : HasRead u g old new a b left rest was.taken was.pending) → (p : Plays u [] g old new a b left more (Ok ReadFault)) × (p.bytes ≡ s.bytes ++ r.bytes)
+input-failed u g old new a b left rest more was now m r s =
+    let h = read-more u g old new a b left rest more (Ok next.ReadFault) was now r m s in (
+      record {
+        bytes = h.bytes;
+        takes = h.takes;
+        few = omega (arith, r.few, h.count);
+        turns = s.turns;
+        lines_are = sym (lines-all (s.bytes ++ r.bytes) (was.pending ++ r.bytes) (lines_among s.turns) h.all s.none r.gives.none);
+        asked = s.asked;
+        serves = s.serves;
+        end_is = tt;
+      },
+      refl,
+    )
 
 -- all that may be taken was taken
-pub input-full : {E : Type 0} (g : Service) (old new : Seated) (a b : Outlet) (left rest more : Inlet) (was now : Reading) → more.most ≡ rest.most → Reads {E = E} (Ok next.Full) was now rest more
-    → HasRead g old new a b left rest was.taken was.pending → Plays [] g old new a b left more (Ok Full)
-input-full g old new a b left rest more was now m r s =
-    let h = read-more g old new a b left rest more (Ok next.Full) was now r m s in
-    record {
-      bytes = h.bytes;
-      takes = h.takes;
-      few = omega (arith, r.few, h.count);
-      lines = whole_lines [] (s.bytes ++ r.bytes);
-      lines_are = refl;
-      serves = serves-lines g old new a b s.given (whole_lines [] (s.bytes ++ r.bytes)) (lines-all (s.bytes ++ r.bytes) (was.pending ++ r.bytes) s.given h.all s.none r.gives.0.none) s.serves;
-      end_is = sym h.count ∙ r.gives.1;
-    }
+pub input-full : {E : Type 0} (u : Bool) (g : Service) (old new : Seated) (a b : Outlet) (left rest more : Inlet) (was now : Reading) → more.most ≡ rest.most → (r : Reads {E = E} (Ok next.Full) was now rest more)
+    → (s : HasRead u g old new a b left rest was.taken was.pending) → (p : Plays u [] g old new a b left more (Ok Full)) × (p.bytes ≡ s.bytes ++ r.bytes)
+input-full u g old new a b left rest more was now m r s =
+    let h = read-more u g old new a b left rest more (Ok next.Full) was now r m s in (
+      record {
+        bytes = h.bytes;
+        takes = h.takes;
+        few = omega (arith, r.few, h.count);
+        turns = s.turns;
+        lines_are = sym (lines-all (s.bytes ++ r.bytes) (was.pending ++ r.bytes) (lines_among s.turns) h.all s.none r.gives.0.none);
+        asked = s.asked;
+        serves = s.serves;
+        end_is = sym h.count ∙ r.gives.1;
+      },
+      refl,
+    )
 
 -- memory was wanting for a line
-pub line-lost : {E : Type 0} (e : E) (g : Service) (old new : Seated) (a b : Outlet) (left rest more : Inlet) (was now : Reading) → IsSameSeat old new → more.most ≡ rest.most → Reads (Err e) was now rest more
-    → HasRead g old new a b left rest was.taken was.pending → Plays [] g old new a b left more (Err stop.NoMemory)
-line-lost e g old new a b left rest more was now same m r s =
-    let h = read-more g old new a b left rest more (Err e) was now r m s in
-    let behind : List (List ℕ) = whole_lines [] (was.pending ++ r.bytes) in
-    record {
-      bytes = h.bytes;
-      takes = h.takes;
-      few = omega (arith, r.few, h.count);
-      lines = whole_lines [] (s.bytes ++ r.bytes);
-      lines_are = inl refl;
-      serves = subst (λ ts. Serves g old new a b Lost ts)
-          (sym (ap line_phases (lines-behind (s.bytes ++ r.bytes) (was.pending ++ r.bytes) s.given h.all s.none) ∙ turns-append s.given behind))
-          (serves-append g old new new a b b Lost (line_phases s.given) (line_phases behind) same s.serves (serves-lost g new b (line_phases behind)));
-      end_is = tt;
-    }
+pub line-lost : {E : Type 0} (e : E) (u : Bool) (g : Service) (old new : Seated) (a b : Outlet) (left rest more : Inlet) (was now : Reading) → IsSameSeat old new → more.most ≡ rest.most → (r : Reads (Err e) was now rest more)
+    → (s : HasRead u g old new a b left rest was.taken was.pending) → (p : Plays u [] g old new a b left more (Err stop.NoMemory)) × (p.bytes ≡ s.bytes ++ r.bytes)
+line-lost e u g old new a b left rest more was now same m r s =
+    let h = read-more u g old new a b left rest more (Err e) was now r m s in
+    let behind : List (List ℕ) = whole_lines [] (was.pending ++ r.bytes) in (
+      record {
+        bytes = h.bytes;
+        takes = h.takes;
+        few = omega (arith, r.few, h.count);
+        turns = with-lines s.turns behind;
+        lines_are = inl (lines-with s.turns behind (whole_lines [] (s.bytes ++ r.bytes)) (lines-behind (s.bytes ++ r.bytes) (was.pending ++ r.bytes) (lines_among s.turns) h.all s.none));
+        asked = λ e. asked-with s.turns behind (s.asked e);
+        serves = subst (λ ts. Serves g old new a b Lost ts) (sym (later-append s.turns (turns_of behind)))
+            (serves-append g old new new a b b Lost (later s.turns) (line_phases behind) same s.serves (serves-lost g new b (line_phases behind)));
+        end_is = tt;
+      },
+      refl,
+    )
 
 -- fewer bytes are left to come, or stand behind a line
 pub line-shorter : {E : Type 0} (left rest : Inlet) (was now : Reading) → Reads {E = E} (Ok next.Line) was now left rest → (MAX_INPUT - now.taken) + length now.pending < (MAX_INPUT - was.taken) + length was.pending

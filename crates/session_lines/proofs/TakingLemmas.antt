@@ -80,8 +80,8 @@ pub key-taken : (g : Gives) (x y : Seated) (key : keys.Key) (output : Output) �
 key-taken g x y key output m s = one-taken g x y (Struck key) output [] refl s (sym (ap drawn_bytes (ap (λ o. o.drawing) s.is ∙ m.strikes (x.seen ++ s.between) x.number key s.answers)))
 
 -- the client was drawn
-pub drawing-taken : (g : Gives) (x y : Seated) (output : Output) (out : List ℕ) → IsMeaning g → Steps g x y (Refresh true) output → out ≡ drawn_bytes output.drawing → AreTaken g x y (Refresh true ∷ []) out false
-drawing-taken g x y output out m s b = subst (λ l. AreTaken g x y (Refresh true ∷ []) out l) (ap (λ o. o.leaving) s.is ∙ m.draws (x.seen ++ s.between) x.number true s.answers) (one-taken g x y (Refresh true) output out refl s b)
+pub drawing-taken : (g : Gives) (asked : Bool) (x y : Seated) (output : Output) (out : List ℕ) → IsMeaning g → Steps g x y (Refresh asked) output → out ≡ drawn_bytes output.drawing → AreTaken g x y (Refresh asked ∷ []) out false
+drawing-taken g asked x y output out m s b = subst (λ l. AreTaken g x y (Refresh asked ∷ []) out l) (ap (λ o. o.leaving) s.is ∙ m.draws (x.seen ++ s.between) x.number asked s.answers) (one-taken g x y (Refresh asked) output out refl s b)
 
 -- no event was taken yet
 pub none-taken : (g : Gives) (x : Seated) → AreTaken g x x [] [] false

@@ -5,7 +5,7 @@ use Rattle.kak_ports.specs.Ports.{Inlet, Rose}
 use Rattle.key_names.specs.declared.key.Key.{Key}
 use Rattle.session_turns.specs.Lines.{whole_lines}
 use Rattle.session_turns.specs.Histories.{Answer, is_leaving}
-use Rattle.session_turns.specs.Turns.{Phase, answers_to}
+use Rattle.session_turns.specs.Turns.{Turn, Phase, later, lines_among, answers_to}
 use Rattle.session_turns.specs.Growth.{How, Whole, Over}
 use Rattle.session_events.specs.declared.event.Event.{Event}
 use Rattle.line_reading.specs.declared.limits.TheConstants.{MAX_INPUT, MAX_PIECE}
@@ -15,7 +15,7 @@ use Rattle.session_lines.specs.declared.playing.Stop.TheVariants as stop
 use Rattle.session_lines.specs.declared.reading.InputEnd.{InputEnd}
 use Rattle.session_lines.specs.declared.reading.InputEnd.TheVariants.{Left, Ended, ReadFault, Full}
 use Rattle.session_lines.specs.Session.{protocol}
-use Rattle.session_lines.specs.Serving.{how_of, line_phases}
+use Rattle.session_lines.specs.Serving.{how_of}
 
 -- how the phases of the lines got on
 abbrev pub how_read : Result InputEnd Stop → How
@@ -23,32 +23,37 @@ how_read (Ok Left) = Over
 how_read (Ok _) = Whole
 how_read (Err stop) = how_of (Err stop)
 
--- the client wasn't let go in the phases before the lines that some bytes complete, nor in these
-abbrev pub WasKept : List Key → List Phase → List (Answer Event) → List ℕ → Type 0
-WasKept opens first got bytes = is_leaving (answers_to (protocol opens) (first ++ line_phases (whole_lines [] bytes)) got) ≡ false
+-- Of some turns the first ones are those of the lines that some bytes complete, and the client wasn't let go in the
+-- phases before them, nor in these.
+pub record WasKept (opens : List Key) (first : List Phase) (turns : List Turn) (got : List (Answer Event)) (bytes : List ℕ) : Type 0 where
+  pub front : List Turn
+  pub behind : List Turn
+  pub cut : turns ≡ front ++ behind
+  pub lines : lines_among front ≡ whole_lines [] bytes
+  pub stays : is_leaving (answers_to (protocol opens) (first ++ later front) got) ≡ false
 
--- the client was let go in the phases before all lines, and nothing was taken
+-- the client was let go in the phases before all turns, and nothing was taken
 abbrev pub WasLetGoFirst : List Key → List Phase → List (Answer Event) → List ℕ → Type 0
 WasLetGoFirst opens first got bytes = (is_leaving (answers_to (protocol opens) first got) ≡ true) × (bytes ≡ [])
 
 -- The client was let go in the last piece of the bytes, which is no longer than what one take gives: nothing was taken
 -- behind the piece with the line that let it go.
-pub record WasLetGoLast (opens : List Key) (first : List Phase) (got : List (Answer Event)) (left : Inlet) (bytes : List ℕ) : Type 0 where
+pub record WasLetGoLast (opens : List Key) (first : List Phase) (turns : List Turn) (got : List (Answer Event)) (left : Inlet) (bytes : List ℕ) : Type 0 where
   pub before : List ℕ
   pub piece : List ℕ
   pub cut : bytes ≡ before ++ piece
   pub one : length piece ≤ MAX_PIECE
   pub most : length piece ≤ left.most
-  pub kept : WasKept opens first got before
+  pub kept : WasKept opens first turns got before
 
--- At each end of the reading: the client was let go before all lines, in the last piece, or in a last part where the input
+-- At each end of the reading: the client was let go before all turns, in the last piece, or in a last part where the input
 -- has ended; an input that ended is the bytes that were taken; one that is too long gave all that may be taken.
-abbrev pub EndIs : List Key → List Phase → List (Answer Event) → Result InputEnd Stop → Inlet → List ℕ → Type 0
-EndIs opens first got (Ok Left) left bytes =
-    WasLetGoFirst opens first got bytes ⊎ (WasLetGoLast opens first got left bytes ⊎ (IsAll left bytes × WasKept opens first got bytes))
-EndIs opens first got (Ok Ended) left bytes = IsAll left bytes
-EndIs opens first got (Ok Full) left bytes = length bytes ≡ MAX_INPUT
-EndIs opens first got _ left bytes = ⊤
+abbrev pub EndIs : List Key → List Phase → List Turn → List (Answer Event) → Result InputEnd Stop → Inlet → List ℕ → Type 0
+EndIs opens first turns got (Ok Left) left bytes =
+    WasLetGoFirst opens first got bytes ⊎ (WasLetGoLast opens first turns got left bytes ⊎ (IsAll left bytes × WasKept opens first turns got bytes))
+EndIs opens first turns got (Ok Ended) left bytes = IsAll left bytes
+EndIs opens first turns got (Ok Full) left bytes = length bytes ≡ MAX_INPUT
+EndIs opens first turns got _ left bytes = ⊤
 
 -- a read fault is told only where the count of the source's faults rose, and else none was met, unless the session was
 -- broken when the client was to leave

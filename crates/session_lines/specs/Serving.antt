@@ -55,10 +55,10 @@ abbrev pub Takes : Gives → Seated → Seated → List Event → Result Bool St
 Takes gives old new events (Ok leaving) = AreTaken gives old new events [] leaving
 Takes gives old new events (Err why) = AreCut gives old new events why
 
--- the client was drawn, by which it may not leave, or its drawing was refused
-abbrev pub TakesDrawing : Gives → Seated → Seated → Result Telling Stop → Type 0
-TakesDrawing gives old new (Ok telling) = AreTaken gives old new (Refresh true ∷ []) (telling_bytes telling) false
-TakesDrawing gives old new (Err why) = AreCut gives old new (Refresh true ∷ []) why
+-- the client was drawn, whether it asked for it or not, by which it may not leave, or its drawing was refused
+abbrev pub TakesDrawing : Gives → Bool → Seated → Seated → Result Telling Stop → Type 0
+TakesDrawing gives asked old new (Ok telling) = AreTaken gives old new (Refresh asked ∷ []) (telling_bytes telling) false
+TakesDrawing gives asked old new (Err why) = AreCut gives old new (Refresh asked ∷ []) why
 
 -- A phase was played: its events were taken, and the client is to be told what they gave and then what the phase says itself.
 pub record IsAnswered (gives : Gives) (old new : Seated) (events : List Event) (said : List ℕ) (reply : Reply) : Type 0 where

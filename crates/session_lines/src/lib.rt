@@ -8,6 +8,6 @@ pub mod reading;
 pub mod turns;
 
 pub use connection::{play_connection, serve};
-pub use playing::{Reply, Stop, Telling, leave, play_keys};
+pub use playing::{Reply, Stop, Telling, answer_idle, leave, play_keys};
 pub use reading::{InputEnd, play_input};
-pub use turns::{answer_line, answer_opening, open, play_line};
+pub use turns::{answer_line, answer_opening, open, play_line, write_telling};

@@ -1,7 +1,7 @@
 //! Events of a client that is joined, played over a seat.
 
 ghost use Rattle.std.specs.Prelude.{◌≡◌, ◌∷◌, [], true, false, Some, IfOk, IfErr, IfSome, OnErr};
-ghost use Rattle.session_events.specs.declared.event.Event.TheVariants.{Key as Struck};
+ghost use Rattle.session_events.specs.declared.event.Event.TheVariants.{Key as Struck, Refresh};
 ghost use Rattle.session_events.specs.Entries.{is_join, is_leave};
 ghost use Rattle.session_events.specs.Meaning.{IsMeaning, drawn_bytes};
 ghost use Rattle.session_events.specs.Seats.{IsIn, IsSameSeat, IsLegalSeat, Steps, Sees};
@@ -108,18 +108,34 @@ fn strike<S: Seat>(alloc: Global, seat: &mut S, key: Key) -> Result<bool, Stop>
     Ok(output.leaving)
 }
 
-// Draws the client.
-fn draw<S: Seat>(alloc: Global, seat: &mut S) -> Result<Telling, Stop>
+// Draws the client, which asked for it or didn't.
+fn draw<S: Seat>(alloc: Global, seat: &mut S, asked: bool) -> Result<Telling, Stop>
     requires { IsReady (S.seated seat.old) }
     ensures meaning { IsMeaning S.gives }
     ensures stays { Stays (S.seated seat.old) (S.seated seat.new) }
     ensures kept { S.kept seat.new ≡ S.kept seat.old }
     ensures whole { StaysWhole result (S.seated seat.old).mark (S.seated seat.new).mark }
-    ensures takes { TakesDrawing S.gives (S.seated seat.old) (S.seated seat.new) result }
+    ensures takes { TakesDrawing S.gives asked (S.seated seat.old) (S.seated seat.new) result }
     ensures stops { Stops result (S.seated seat.new) }
 {
-    let output = take(alloc, seat, Event::Refresh(true))?;
+    let output = take(alloc, seat, Event::Refresh(asked))?;
     Ok(telling_of(output.drawing))
+}
+
+/// Draws the client without its having asked for it.
+pub fn answer_idle<S: Seat>(alloc: Global, seat: &mut S) -> Result<Reply, Stop>
+    requires { IsReady (S.seated seat.old) }
+    ensures stays { Stays (S.seated seat.old) (S.seated seat.new) }
+    ensures kept { S.kept seat.new ≡ S.kept seat.old }
+    ensures whole { StaysWhole result (S.seated seat.old).mark (S.seated seat.new).mark }
+    ensures answers { Answers S.gives (S.seated seat.old) (S.seated seat.new) (Refresh false ∷ []) [] result }
+    ensures stops { Stops result (S.seated seat.new) }
+{
+    let telling = draw(alloc, seat, false)?;
+    Ok(Reply {
+        telling,
+        leaving: false,
+    })
 }
 
 /// Strikes keys and draws the client.
@@ -136,7 +152,7 @@ pub fn play_keys<S: Seat>(alloc: Global, seat: &mut S, keys: &[Key]) -> Result<R
     for &key in keys {
         leaving |= strike(alloc, seat, key)?;
     }
-    let telling = draw(alloc, seat)?;
+    let telling = draw(alloc, seat, true)?;
     Ok(Reply { telling, leaving })
 }
 

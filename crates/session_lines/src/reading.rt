@@ -1,6 +1,6 @@
 //! A connection's input, read to its end and played line by line.
 
-ghost use Rattle.std.specs.Prelude.{◌≡◌, List, []};
+ghost use Rattle.std.specs.Prelude.{◌≡◌, List, [], false};
 ghost use Rattle.key_names.specs.declared.key.Key.{Key};
 ghost use Rattle.session_lines.specs.Connections.{Plays};
 ghost use Rattle.session_lines.specs.Reading.{FaultIs};
@@ -40,7 +40,7 @@ pub fn play_input<S: Seat, I: Source, K: Sink>(
     ensures stays { Stays (S.seated seat.old) (S.seated seat.new) }
     ensures kept { S.kept seat.new ≡ S.kept seat.old }
     ensures whole { StaysWhole result (S.seated seat.old).mark (S.seated seat.new).mark }
-    ensures plays { (opens : List Key) → Plays [] (service S.gives opens) (S.seated seat.old) (S.seated seat.new) (K.outlet sink.old) (K.outlet sink.new) (I.inlet source.old) (I.inlet source.new) result }
+    ensures plays { (opens : List Key) → Plays false [] (service S.gives opens) (S.seated seat.old) (S.seated seat.new) (K.outlet sink.old) (K.outlet sink.new) (I.inlet source.old) (I.inlet source.new) result }
     ensures fault { FaultIs result (I.inlet source.old) (I.inlet source.new) }
     ensures cause { Causes result (S.seated seat.new) (K.outlet sink.old) (K.outlet sink.new) }
 {

@@ -56,8 +56,8 @@ pub fn answer_opening<S: Seat>(alloc: Global, seat: &mut S, keys: &[Key]) -> Res
     play_keys(alloc, seat, keys)
 }
 
-// Writes what a client is told as lines of JSON, behind what stands there.
-fn write_telling(telling: &Telling, out: &mut Vec<u8>) -> Result<(), AllocError>
+/// Writes what a client is told as lines of JSON. Where memory is wanting, a part may stand there.
+pub fn write_telling(telling: &Telling, out: &mut Vec<u8>) -> Result<(), AllocError>
     requires { out.old.items ≡ [] }
     ensures { OnOk result (out.new.items ≡ telling_bytes telling.now) }
 {

@@ -7,12 +7,12 @@ use Rattle.session_lines.proofs.connection.serve.Goals as goal
 
 pub returns-then-is_unwritten-clause-served : goal.returns-then-is_unwritten-clause-served
 returns-then-is_unwritten-clause-served g c =
-    unwritten-served c.play_connection-played.result _ _ _ _ _ _ _ (sym c.is_unwritten.ensures ∙ c.if-is_unwritten.true) refl (unseen-same c.play_connection-played.ensures.stays.same) c.play_connection-played.ensures.plays
+    (unwritten-served c.play_connection-played.result _ _ _ _ _ _ _ _ (sym c.is_unwritten.ensures ∙ c.if-is_unwritten.true) refl (unseen-same c.play_connection-played.ensures.stays.same) c.play_connection-played.ensures.plays).0
 
 pub returns-in_err-leave-clause-served : goal.returns-in_err-leave-clause-served
 returns-in_err-leave-clause-served g c =
     let p = err_from_is_err_and c.from_residual.result c.from_residual.ensures.1 in
-    rw (p.1, p.2) (leaving-lost _ _ _ _ _ _ _ _ c.play_connection-played.result _ refl (unseen-same c.play_connection-played.ensures.stays.same) (sym c.is_unwritten.ensures ∙ c.if-is_unwritten.false) c.play_connection-played.ensures.plays c.in_err-leave.ensures.leaves)
+    rw (p.1, p.2) ((leaving-lost _ _ _ _ _ _ _ _ _ c.play_connection-played.result _ refl (unseen-same c.play_connection-played.ensures.stays.same) (sym c.is_unwritten.ensures ∙ c.if-is_unwritten.false) c.play_connection-played.ensures.plays c.in_err-leave.ensures.leaves).0)
 
 pub returns-in_err-leave-clause-fault : goal.returns-in_err-leave-clause-fault
 returns-in_err-leave-clause-fault g c =
@@ -25,7 +25,7 @@ returns-in_err-leave-clause-cause g c =
     rw (p.1, p.2) (loss-causes c.play_connection-played.result _ _ _ _ _ (sym c.is_unwritten.ensures ∙ c.if-is_unwritten.false) c.play_connection-played.ensures.cause c.in_err-leave.ensures.leaves.1)
 
 pub returns-clause-served : goal.returns-clause-served
-returns-clause-served g c = all-left c.play_connection-played.result _ _ _ _ _ _ _ _ refl (unseen-same c.play_connection-played.ensures.stays.same) (sym c.is_unwritten.ensures ∙ c.if-is_unwritten.false) c.play_connection-played.ensures.plays c.in_ok-leave.ensures.leaves
+returns-clause-served g c = (all-left c.play_connection-played.result _ _ _ _ _ _ _ _ _ refl (unseen-same c.play_connection-played.ensures.stays.same) (sym c.is_unwritten.ensures ∙ c.if-is_unwritten.false) c.play_connection-played.ensures.plays c.in_ok-leave.ensures.leaves).0
 
 pub returns-clause-cause : goal.returns-clause-cause
 returns-clause-cause g c = causes-later c.play_connection-played.result _ _ _ _ c.leave.ensures.same c.in_ok-leave.ensures.leaves c.leave.ensures.marked c.play_connection-played.ensures.cause

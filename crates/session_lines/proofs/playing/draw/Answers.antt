@@ -1,4 +1,3 @@
-use Rattle.std.proofs.Common.{true}
 use Rattle.std.proofs.lemmas.Result.{err_from_is_err_and}
 use Rattle.session_events.specs.declared.event.Event.TheVariants.{Refresh}
 use Rattle.session_lines.proofs.TakingLemmas.{one-refused, drawing-taken}
@@ -7,7 +6,7 @@ use Rattle.session_lines.proofs.playing.draw.Goals as goal
 pub returns-in_err-output-clause-takes : goal.returns-in_err-output-clause-takes
 returns-in_err-output-clause-takes g c =
     let p = err_from_is_err_and c.from_residual.result c.from_residual.ensures.1 in
-    rw (p.1, p.2) (one-refused _ _ _ (Refresh true) _ c.in_err-output.ensures.err)
+    rw (p.1, p.2) (one-refused _ _ _ (Refresh _) _ c.in_err-output.ensures.err)
 
 pub returns-clause-takes : goal.returns-clause-takes
-returns-clause-takes g c = drawing-taken _ _ _ c.in_ok-output.output _ c.in_ok-output.ensures.meaning c.in_ok-output.ensures.ok c.telling_of.ensures
+returns-clause-takes g c = drawing-taken _ _ _ _ c.in_ok-output.output _ c.in_ok-output.ensures.meaning c.in_ok-output.ensures.ok c.telling_of.ensures
