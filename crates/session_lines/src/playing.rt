@@ -122,13 +122,14 @@ fn draw<S: Seat>(alloc: Global, seat: &mut S, asked: bool) -> Result<Telling, St
     Ok(telling_of(output.drawing))
 }
 
-/// Draws the client without its having asked for it.
+/// Draws the client without its having asked for it. It may not leave by that.
 pub fn answer_idle<S: Seat>(alloc: Global, seat: &mut S) -> Result<Reply, Stop>
     requires { IsReady (S.seated seat.old) }
     ensures stays { Stays (S.seated seat.old) (S.seated seat.new) }
     ensures kept { S.kept seat.new ≡ S.kept seat.old }
     ensures whole { StaysWhole result (S.seated seat.old).mark (S.seated seat.new).mark }
     ensures answers { Answers S.gives (S.seated seat.old) (S.seated seat.new) (Refresh false ∷ []) [] result }
+    ensures remains { IfOk result (λ reply. reply.leaving ≡ false) }
     ensures stops { Stops result (S.seated seat.new) }
 {
     let telling = draw(alloc, seat, false)?;
