@@ -1,0 +1,130 @@
+-- A client that has no entry yet, and its coming.
+use Rattle.std.proofs.Common.{◌≡◌, ℕ, ◌<◌, inl, Bool, true, false, ◌||◌, List, [], ◌∷◌, ◌++◌, Err, refl, sym, ap, ◌∙◌, subst, arith}
+use Rattle.std.specs.Prelude.{if◌then◌else◌, ◌&&◌, ◌==◌}
+use Rattle.std.specs.Io.KnownBytes.{Appends}
+use Rattle.std.proofs.KnownBytes.{Appends-nil, Consumes-nil}
+use Rattle.std.proofs.lemmas.Bool.{eq-eqb}
+use Rattle.kak_ports.specs.Ports.{Inlet, Outlet}
+use Rattle.session_turns.specs.Histories.{own, answers}
+use Rattle.session_turns.specs.Turns.{Opening, plays, size}
+use Rattle.session_turns.specs.Headline.{Stands, IsServed, Refused, Lost}
+use Rattle.session_turns.proofs.HistoryLemmas.{own-append, answers_behind-others, leave-own}
+use Rattle.session_turns.proofs.TurnLemmas.{phase_stops, phase_breaks}
+use Rattle.session_turns.proofs.Ends.{never-stands, lost-lost}
+use Rattle.session_events.specs.declared.event.Event.{Event}
+use Rattle.session_events.specs.declared.event.Event.TheVariants.{Join}
+use Rattle.session_events.specs.declared.event.Entry.{Entry}
+use Rattle.session_events.specs.declared.event.Output.{Output}
+use Rattle.session_events.specs.Entries.{entry_with, is_join, has_joined}
+use Rattle.session_events.specs.Meaning.{Gives, rules}
+use Rattle.session_events.specs.Seats.{Seated, IsSameSeat, Steps, Sees}
+use Rattle.client_links.specs.Wires.{Wire}
+use Rattle.line_reading.specs.Reading.{IsAll}
+use Rattle.line_reading.specs.Hearing.{inlet_of}
+use Rattle.session_lines.specs.declared.playing.Stop.{Stop}
+use Rattle.session_lines.specs.declared.playing.Stop.TheVariants as stop
+use Rattle.session_lines.specs.Session.{protocol}
+use Rattle.session_lines.specs.Serving.{Service}
+use Rattle.session_lines.specs.Connections.{end_of, WasServed}
+use Rattle.link_lines.specs.declared.ended.Ended.{Ended}
+use Rattle.link_lines.specs.declared.ended.Ended.TheVariants.{Left, Closed, LinkRead, LinkWrite, InputFull, HistoryFull, Full, Broken, NoMemory}
+use Rattle.link_lines.specs.Endings.{result_of, Parts, WasServedOver, JoinsNot}
+
+-- entries of others behind those of a client that has none
+pub never-yet : (g : Gives) (x y : Seated) → IsSameSeat x y → own (rules g) x.number x.seen ≡ [] → Sees g x y → own (rules g) y.number y.seen ≡ []
+never-yet g x y same none s =
+    let P : ℕ → Type 0 = λ n. own (rules g) n y.seen ≡ [] in
+    subst P (sym same.number) (ap (own (rules g) x.number) s.stands ∙ own-append (rules g) x.number x.seen s.between ∙ ap (λ q. q ++ own (rules g) x.number s.between) none ∙ s.foreign)
+
+step-none : (t : Bool) (e : Event) (es : List Event) (rest : Bool) → (es ≡ [] → rest ≡ false) → (if t then e ∷ es else es) ≡ [] → ((t && is_join e) || rest) ≡ false
+step-none true e es rest f h = cc
+step-none false e es rest f h = f h
+
+-- who has no entry hasn't joined
+none-joined : (g : Gives) (k : ℕ) (h : List Entry) → own (rules g) k h ≡ [] → has_joined k h ≡ false
+none-joined g k [] e = refl
+none-joined g k (n ∷ h) e = step-none (n.who == k) n.event (own (rules g) k h) (has_joined k h) (none-joined g k h) e
+
+pub not-joined : (g : Gives) (seat : Seated) → own (rules g) seat.number seat.seen ≡ [] → has_joined seat.number seat.seen ≡ true → ⊥
+not-joined g seat e j = differ (has_joined seat.number seat.seen) (none-joined g seat.number seat.seen e) j
+  where
+    differ : (b : Bool) → b ≡ false → b ≡ true → ⊥
+    differ true f t = cc
+    differ false f t = cc
+
+-- the client came: that is all that it did
+pub joined-own : (g : Gives) (x y : Seated) (output : Output) → IsSameSeat x y → own (rules g) x.number x.seen ≡ [] → Steps g x y Join output → own (rules g) y.number y.seen ≡ Join ∷ []
+joined-own g x y output same none s =
+    let P : ℕ → Type 0 = λ n. own (rules g) n y.seen ≡ Join ∷ [] in
+    subst P (sym same.number)
+    (ap (own (rules g) x.number) s.stands
+    ∙ leave-own (rules g) x.number (x.seen ++ s.between) (entry_with x.number Join s.answers) (eq-eqb x.number x.number refl)
+    ∙ ap (λ q. q ++ Join ∷ []) (own-append (rules g) x.number x.seen s.between ∙ ap (λ q. q ++ own (rules g) x.number s.between) none ∙ s.foreign))
+
+-- a client that didn't come is owed nothing, and was sent nothing
+none-answered : (g : Gives) (k : ℕ) (h : List Entry) → own (rules g) k h ≡ [] → answers (rules g) k h ≡ []
+none-answered g k h e = answers_behind-others (rules g) k [] h e
+
+refused-stands : (g : Service) (k : ℕ) (h : List Entry) → own (rules g.gives) k h ≡ [] → Stands (protocol g.opens) (rules g.gives) Refused k h [] []
+refused-stands g k h e =
+    never-stands (protocol g.opens) (rules g.gives) k h [] [] (phase_stops (protocol g.opens) Opening [] (plays (protocol g.opens) Opening, refl) some) (record { answered = none-answered g.gives k h e; stood = e })
+  where
+    some : 0 < size (protocol g.opens) Opening
+    some = omega arith
+
+lost-stands : (g : Service) (k : ℕ) (h : List Entry) → own (rules g.gives) k h ≡ [] → Stands (protocol g.opens) (rules g.gives) Lost k h [] []
+lost-stands g k h e =
+    lost-lost (protocol g.opens) (rules g.gives) k h [] [] [] (phase_breaks (protocol g.opens) Opening [] (plays (protocol g.opens) Opening, refl)) (record { answered = none-answered g.gives k h e; stood = inl e })
+
+-- a connection over which nothing went, for any of the ends
+nothing-full : (g : Service) (k : ℕ) (h : List Entry) (a : Outlet) (left : Inlet) → own (rules g.gives) k h ≡ [] → (w : WasServed true g k h a a left left (Err stop.HistoryFull)) × (w.bytes ≡ [])
+nothing-full g k h a left none = (
+  record {
+    bytes = [];
+    takes = Consumes-nil left.left;
+    few = omega arith;
+    turns = [];
+    asked = λ e. refl;
+    out = [];
+    sends = Appends-nil a.told;
+    served = record { lines = inl refl; stands = refused-stands g k h none };
+    end_is = tt;
+  },
+  refl,
+)
+
+nothing-lost : (g : Service) (k : ℕ) (h : List Entry) (a : Outlet) (left : Inlet) (why : Stop) → end_of (Err why) ≡ Lost → own (rules g.gives) k h ≡ [] → (w : WasServed true g k h a a left left (Err why)) × (w.bytes ≡ [])
+nothing-lost g k h a left why lost none = (
+  record {
+    bytes = [];
+    takes = Consumes-nil left.left;
+    few = omega arith;
+    turns = [];
+    asked = λ e. refl;
+    out = [];
+    sends = Appends-nil a.told;
+    served = subst (λ e. IsServed (protocol g.opens) (rules g.gives) e k h [] (IsAll left []) [] []) (sym lost) (record { lines = inl refl; stands = lost-stands g k h none });
+    end_is = tt;
+  },
+  refl,
+)
+
+-- that is a serving
+bare-row : (g : Service) (k : ℕ) (h : List Entry) (a : Wire) (e : Ended) → Parts g.gives e k h h → (w : WasServed true g k h a.outlet a.outlet (inlet_of a) (inlet_of a) (result_of e)) × (w.bytes ≡ []) → WasServedOver g k h a a e
+bare-row g k h a e parts w = record { front = h; served = w.0; received = subst (λ bs. Appends a.received a.received bs) (sym w.1) (Appends-nil a.received); parting = parts }
+
+-- how a serving ended where the client couldn't come
+pub refused-over : (g : Service) (a : Wire) (e : Ended) (seat : Seated) → JoinsNot g.gives e seat → WasServedOver g seat.number seat.seen a a e
+refused-over g a HistoryFull seat j =
+    bare-row g seat.number seat.seen a HistoryFull refl (nothing-full g seat.number seat.seen a.outlet (inlet_of a) j.0)
+refused-over g a Full seat j =
+    bare-row g seat.number seat.seen a Full refl (nothing-full g seat.number seat.seen a.outlet (inlet_of a) j)
+refused-over g a (Broken at) seat j =
+    bare-row g seat.number seat.seen a (Broken at) refl (nothing-lost g seat.number seat.seen a.outlet (inlet_of a) (stop.Broken at) refl j.0)
+refused-over g a NoMemory seat j =
+    bare-row g seat.number seat.seen a NoMemory refl (nothing-lost g seat.number seat.seen a.outlet (inlet_of a) stop.NoMemory refl j)
+refused-over g a Left seat j = absurd j
+refused-over g a Closed seat j = absurd j
+refused-over g a LinkRead seat j = absurd j
+refused-over g a LinkWrite seat j = absurd j
+refused-over g a InputFull seat j = absurd j

@@ -1,0 +1,6 @@
+pub mod LostLemmas
+pub mod TalkLemmas
+pub mod HeardLemmas
+pub mod ComingLemmas
+pub mod EndLemmas
+pub mod LaterLemmas

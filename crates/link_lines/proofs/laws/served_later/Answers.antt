@@ -1,0 +1,5 @@
+use Rattle.link_lines.proofs.LaterLemmas.{over-later}
+use Rattle.link_lines.proofs.laws.served_later.Goals as goal
+
+pub returns : goal.returns
+returns c = over-later

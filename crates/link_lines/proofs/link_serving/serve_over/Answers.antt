@@ -1,0 +1,19 @@
+use Rattle.std.proofs.Common.{refl, ◌∙◌}
+use Rattle.session_lines.proofs.StayingLemmas.{unseen-same}
+use Rattle.link_lines.proofs.ComingLemmas.{refused-over}
+use Rattle.link_lines.proofs.EndLemmas.{as-who, left-over, lost-over}
+use Rattle.link_lines.proofs.link_serving.serve_over.Goals as goal
+
+pub returns-in-Err-clause-served : goal.returns-in-Err-clause-served
+returns-in-Err-clause-served g c = as-who _ _ _ _ _ _ _ (c.come.ensures.same.number ∙ c.requires.number) (refused-over _ _ _ _ c.in-Err.ensures.refused)
+
+pub returns-in-Ok-clause-served : goal.returns-in-Ok-clause-served
+returns-in-Ok-clause-served g c =
+    rw c.ended_of.ensures (as-who _ _ _ _ _ _ _ (c.come.ensures.same.number ∙ c.requires.number)
+    (left-over c.play_link-played.result _ _ _ _ _ _ refl (unseen-same c.play_link-played.ensures.stays.same) c.play_link-played.ensures.plays c.in-Ok.ensures.leaves))
+
+pub returns-in-Err-Broken-clause-served : goal.returns-in-Err-Broken-clause-served
+returns-in-Err-Broken-clause-served g c =
+    let l = rw c.in-Err-Broken.field-0-is at c.in-Err-Broken.ensures.leaves in
+    rw c.in-Err-Broken.field-0-is (as-who _ _ _ _ _ _ _ (c.come.ensures.same.number ∙ c.requires.number)
+    (lost-over c.play_link-played.result _ _ _ _ _ _ _ refl (unseen-same c.play_link-played.ensures.stays.same) c.play_link-played.ensures.plays l))

@@ -1,0 +1,95 @@
+//! A link, heard to its end and played line by line.
+
+ghost use Rattle.std.specs.Prelude.{◌≡◌, ◌∷◌, [], List};
+ghost use Rattle.key_names.specs.declared.key.Key.{Key};
+ghost use Rattle.client_links.specs.Wires.{TellsNoMore};
+ghost use Rattle.session_turns.specs.Histories.{own};
+ghost use Rattle.session_turns.specs.Turns.{Opening};
+ghost use Rattle.session_events.specs.declared.event.Event.TheVariants.{Join};
+ghost use Rattle.session_events.specs.Meaning.{rules};
+ghost use Rattle.line_reading.specs.Hearing.{inlet_of};
+ghost use Rattle.session_lines.specs.Reading.{FaultIs};
+ghost use Rattle.session_lines.specs.Serving.{service, unseen};
+ghost use Rattle.session_lines.specs.Stops.{IsReady, Stays, Causes, StaysWhole};
+ghost use Rattle.link_lines.specs.Talking.{PlaysOver};
+
+use crate::talk::Talk;
+use client_links::Link;
+use key_names::Key;
+use line_gates::Gate;
+use line_reading::Came;
+use live_seats::LiveSeat;
+use session_lines::{InputEnd, Stop};
+use std::sync::Wait;
+
+/// Plays the lines of a link one after another as they come, a last part without a newline too where the other side has
+/// ended. Where none has come, the client is drawn what it has missed. The next line is heard where the client stays and
+/// nothing stopped.
+pub fn play_turns<R: Wait, S: LiveSeat, L: Link, G: Gate>(
+    rt: &R,
+    seat: &mut S,
+    link: &mut L,
+    gate: &mut G,
+    talk: &mut Talk,
+) -> Result<InputEnd, Stop>
+    requires ready { IsReady (S.seated seat.old) }
+    requires taken { talk.old.taken ≡ 0 }
+    requires pending { talk.old.pending ≡ [] }
+    ensures stays { Stays (S.seated seat.old) (S.seated seat.new) }
+    ensures kept { S.kept seat.new ≡ S.kept seat.old }
+    ensures whole { StaysWhole result (S.seated seat.old).mark (S.seated seat.new).mark }
+    ensures plays { (opens : List Key) → PlaysOver [] (service S.gives opens) (S.seated seat.old) (S.seated seat.new) (L.wire link.old) (L.wire link.new) result }
+    ensures fault { FaultIs result (inlet_of (L.wire link.old)) (inlet_of (L.wire link.new)) }
+    ensures cause { Causes result (S.seated seat.new) (L.wire link.old).outlet (L.wire link.new).outlet }
+    ensures no_more { TellsNoMore (L.wire link.old) (L.wire link.new) }
+{
+    for _ in rt.forever() {
+        match talk.hear(rt, link)? {
+            Came::Line => {
+                if talk.play_line(rt, seat, link, gate)? {
+                    return Ok(InputEnd::Left);
+                }
+            }
+            Came::Last => {
+                let leaving = talk.play_line(rt, seat, link, gate)?;
+                if leaving {
+                    return Ok(InputEnd::Left);
+                }
+                return Ok(InputEnd::Ended);
+            }
+            Came::Ended => return Ok(InputEnd::Ended),
+            Came::Idle => talk.draw_missed(rt, seat, link)?,
+            Came::ReadFault => return Ok(InputEnd::ReadFault),
+            Came::Full => return Ok(InputEnd::Full),
+        }
+    }
+    unreachable!()
+}
+
+/// Plays a connection whose client has joined and done nothing else: keys are struck, it is drawn, and its link is heard and
+/// played line by line. Where the keys let it go, nothing is heard. It doesn't leave yet.
+pub fn play_link<R: Wait, S: LiveSeat, L: Link, G: Gate>(
+    rt: &R,
+    seat: &mut S,
+    link: &mut L,
+    gate: &mut G,
+    talk: &mut Talk,
+    keys: &[Key],
+) -> Result<InputEnd, Stop>
+    requires ready { IsReady (S.seated seat.old) }
+    requires new { own (rules S.gives) (S.seated seat.old).number (S.seated seat.old).seen ≡ Join ∷ [] }
+    requires taken { talk.old.taken ≡ 0 }
+    requires pending { talk.old.pending ≡ [] }
+    ensures stays { Stays (S.seated seat.old) (S.seated seat.new) }
+    ensures kept { S.kept seat.new ≡ S.kept seat.old }
+    ensures whole { StaysWhole result (S.seated seat.old).mark (S.seated seat.new).mark }
+    ensures plays { PlaysOver (Opening ∷ []) (service S.gives keys.now) (unseen (S.seated seat.old)) (S.seated seat.new) (L.wire link.old) (L.wire link.new) result }
+    ensures fault { FaultIs result (inlet_of (L.wire link.old)) (inlet_of (L.wire link.new)) }
+    ensures cause { Causes result (S.seated seat.new) (L.wire link.old).outlet (L.wire link.new).outlet }
+    ensures no_more { TellsNoMore (L.wire link.old) (L.wire link.new) }
+{
+    if talk.open(rt, seat, link, keys)? {
+        return Ok(InputEnd::Left);
+    }
+    play_turns(rt, seat, link, gate, talk)
+}

@@ -1,0 +1,151 @@
+//! What is kept of a connection from one line to the next.
+
+ghost use Rattle.std.specs.Prelude.{◌≡◌, ◌∷◌, [], List};
+ghost use Rattle.key_names.specs.declared.key.Key.{Key};
+ghost use Rattle.client_links.specs.Wires.{IsSameHearing, TellsNoMore};
+ghost use Rattle.session_turns.specs.Histories.{own};
+ghost use Rattle.session_turns.specs.Turns.{Opening};
+ghost use Rattle.session_events.specs.declared.event.Event.TheVariants.{Join};
+ghost use Rattle.session_events.specs.Meaning.{rules};
+ghost use Rattle.session_lines.specs.Serving.{service, Serves, how_of, line_phases, unseen};
+ghost use Rattle.session_lines.specs.Stops.{IsReady, Stays, Causes, StaysWhole};
+ghost use Rattle.line_reading.specs.Hearing.{HearsLine, ReadFaultIsTold};
+ghost use Rattle.link_lines.specs.Talking.{DrawsMissed};
+
+use crate::telling::tell;
+use client_links::Link;
+use key_names::Key;
+use line_gates::Gate;
+use line_reading::{Came, LineReader};
+use live_seats::{LiveSeat, Missed};
+use session_lines::{Stop, answer_idle, answer_line, answer_opening};
+use std::alloc::{AllocError, Global};
+use std::marker::Model;
+use std::sync::Wait;
+
+/// What is kept of a connection from one of its lines to the next. Contracts see what its reader is seen as.
+#[derive(Drop)]
+pub struct Talk {
+    alloc: Global,
+    // the client's number
+    who: u32,
+    reader: LineReader,
+    // how many lines were played
+    lines: u64,
+    // what is being sent
+    out: Vec<u8>,
+}
+
+impl Model for Talk {
+    ghost use Rattle.line_reading.specs.Reading.{Reading};
+
+    ghost Value = { Reading };
+
+    ghost view = { λ t. t.reader };
+}
+
+impl Talk {
+    /// That of a client whose link has said nothing yet.
+    pub fn new(alloc: Global, who: u32) -> Talk
+        ensures taken { result.taken ≡ 0 }
+        ensures pending { result.pending ≡ [] }
+    {
+        Talk {
+            alloc,
+            who,
+            reader: LineReader::new(alloc),
+            lines: 0,
+            out: Vec::new(alloc),
+        }
+    }
+
+    /// Hears the next line. Where memory is wanting, nothing that was received is lost.
+    pub fn hear<R: Wait, L: Link>(&mut self, rt: &R, link: &mut L) -> Result<Came, AllocError>
+        ensures hears { HearsLine result self.old self.new (L.wire link.old) (L.wire link.new) }
+        ensures fault { ReadFaultIsTold result (L.wire link.old) (L.wire link.new) }
+        ensures sent { (L.wire link.new).outlet ≡ (L.wire link.old).outlet }
+        ensures no_more { TellsNoMore (L.wire link.old) (L.wire link.new) }
+    {
+        self.reader.hear(rt, link)
+    }
+
+    /// Opens the connection of a client that has joined and done nothing else: keys are struck, and its first drawing is
+    /// sent. Tells whether the client may leave.
+    pub fn open<R: Wait, S: LiveSeat, L: Link>(
+        &mut self,
+        rt: &R,
+        seat: &mut S,
+        link: &mut L,
+        keys: &[Key],
+    ) -> Result<bool, Stop>
+        requires ready { IsReady (S.seated seat.old) }
+        requires new { own (rules S.gives) (S.seated seat.old).number (S.seated seat.old).seen ≡ Join ∷ [] }
+        ensures stays { Stays (S.seated seat.old) (S.seated seat.new) }
+        ensures kept { S.kept seat.new ≡ S.kept seat.old }
+        ensures whole { StaysWhole result (S.seated seat.old).mark (S.seated seat.new).mark }
+        ensures serves { Serves (service S.gives keys.now) (unseen (S.seated seat.old)) (S.seated seat.new) (L.wire link.old).outlet (L.wire link.new).outlet (how_of result) (Opening ∷ []) }
+        ensures cause { Causes result (S.seated seat.new) (L.wire link.old).outlet (L.wire link.new).outlet }
+        ensures heard { IsSameHearing (L.wire link.old) (L.wire link.new) }
+        ensures no_more { TellsNoMore (L.wire link.old) (L.wire link.new) }
+        ensures reading { self.new ≡ self.old }
+    {
+        let reply = answer_opening(self.alloc, seat, keys)?;
+        tell(rt, link, &mut self.out, &reply.telling)?;
+        Ok(reply.leaving)
+    }
+
+    /// Plays the line that came last, once the gate lets it run, and sends what it gives; then the gate is told. Tells
+    /// whether the client may leave.
+    pub fn play_line<R: Wait, S: LiveSeat, L: Link, G: Gate>(
+        &mut self,
+        rt: &R,
+        seat: &mut S,
+        link: &mut L,
+        gate: &mut G,
+    ) -> Result<bool, Stop>
+        requires { IsReady (S.seated seat.old) }
+        ensures stays { Stays (S.seated seat.old) (S.seated seat.new) }
+        ensures kept { S.kept seat.new ≡ S.kept seat.old }
+        ensures whole { StaysWhole result (S.seated seat.old).mark (S.seated seat.new).mark }
+        ensures serves { (opens : List Key) → Serves (service S.gives opens) (S.seated seat.old) (S.seated seat.new) (L.wire link.old).outlet (L.wire link.new).outlet (how_of result) (line_phases (self.old.line ∷ [])) }
+        ensures cause { Causes result (S.seated seat.new) (L.wire link.old).outlet (L.wire link.new).outlet }
+        ensures heard { IsSameHearing (L.wire link.old) (L.wire link.new) }
+        ensures no_more { TellsNoMore (L.wire link.old) (L.wire link.new) }
+        ensures reading { self.new ≡ self.old }
+    {
+        let number = self.lines;
+        gate.hold(rt, self.who, number);
+        let reply = answer_line(self.alloc, seat, self.reader.line())?;
+        tell(rt, link, &mut self.out, &reply.telling)?;
+        gate.passed(self.who, number);
+        self.lines = number.saturating_add(1);
+        Ok(reply.leaving)
+    }
+
+    /// Looks at the session, and draws the client where it has missed something.
+    pub fn draw_missed<R: Wait, S: LiveSeat, L: Link>(
+        &mut self,
+        rt: &R,
+        seat: &mut S,
+        link: &mut L,
+    ) -> Result<(), Stop>
+        requires { IsReady (S.seated seat.old) }
+        ensures stays { Stays (S.seated seat.old) (S.seated seat.new) }
+        ensures kept { S.kept seat.new ≡ S.kept seat.old }
+        ensures whole { StaysWhole result (S.seated seat.old).mark (S.seated seat.new).mark }
+        ensures draws { (opens : List Key) → DrawsMissed (service S.gives opens) (S.seated seat.old) (S.seated seat.new) (L.wire link.old).outlet (L.wire link.new).outlet result }
+        ensures cause { Causes result (S.seated seat.new) (L.wire link.old).outlet (L.wire link.new).outlet }
+        ensures heard { IsSameHearing (L.wire link.old) (L.wire link.new) }
+        ensures no_more { TellsNoMore (L.wire link.old) (L.wire link.new) }
+        ensures reading { self.new ≡ self.old }
+    {
+        match seat.look() {
+            Missed::Nothing => Ok(()),
+            Missed::Something => {
+                let reply = answer_idle(self.alloc, seat)?;
+                tell(rt, link, &mut self.out, &reply.telling)
+            }
+            Missed::Broken(at) => Err(Stop::Broken(at)),
+        }
+    }
+}
