@@ -4,3 +4,4 @@ pub mod HeardLemmas
 pub mod ComingLemmas
 pub mod EndLemmas
 pub mod LaterLemmas
+pub mod DrawingLemmas

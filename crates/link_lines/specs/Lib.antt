@@ -1,2 +1,4 @@
 pub mod Talking
 pub mod Endings
+pub mod Drawings
+pub mod Examples

@@ -4,6 +4,7 @@
 #![tactic(auto)]
 
 pub mod ended;
+pub mod examples;
 pub mod laws;
 pub mod link_playing;
 pub mod link_serving;

@@ -12,6 +12,7 @@ ghost use Rattle.session_lines.specs.Reading.{FaultIs};
 ghost use Rattle.session_lines.specs.Serving.{service, unseen};
 ghost use Rattle.session_lines.specs.Stops.{IsReady, Stays, Causes, StaysWhole};
 ghost use Rattle.link_lines.specs.Talking.{PlaysOver};
+ghost use Rattle.link_lines.specs.Drawings.{DrawsOnlyMissed};
 
 use crate::talk::Talk;
 use client_links::Link;
@@ -42,6 +43,7 @@ pub fn play_turns<R: Wait, S: LiveSeat, L: Link, G: Gate>(
     ensures fault { FaultIs result (inlet_of (L.wire link.old)) (inlet_of (L.wire link.new)) }
     ensures cause { Causes result (S.seated seat.new) (L.wire link.old).outlet (L.wire link.new).outlet }
     ensures no_more { TellsNoMore (L.wire link.old) (L.wire link.new) }
+    ensures drawn { DrawsOnlyMissed (S.seated seat.old).number (S.seated seat.old).seen → DrawsOnlyMissed (S.seated seat.old).number (S.seated seat.new).seen }
 {
     for _ in rt.forever() {
         match talk.hear(rt, link)? {
@@ -87,6 +89,7 @@ pub fn play_link<R: Wait, S: LiveSeat, L: Link, G: Gate>(
     ensures fault { FaultIs result (inlet_of (L.wire link.old)) (inlet_of (L.wire link.new)) }
     ensures cause { Causes result (S.seated seat.new) (L.wire link.old).outlet (L.wire link.new).outlet }
     ensures no_more { TellsNoMore (L.wire link.old) (L.wire link.new) }
+    ensures drawn { DrawsOnlyMissed (S.seated seat.old).number (S.seated seat.new).seen }
 {
     if talk.open(rt, seat, link, keys)? {
         return Ok(InputEnd::Left);

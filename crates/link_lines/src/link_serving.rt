@@ -8,6 +8,7 @@ ghost use Rattle.session_events.specs.Meaning.{rules};
 ghost use Rattle.session_events.specs.Seats.{IsSameSeat, IsLegalSeat};
 ghost use Rattle.session_lines.specs.Serving.{service};
 ghost use Rattle.session_lines.specs.Stops.{IsReady};
+ghost use Rattle.link_lines.specs.Drawings.{DrawsOnlyMissed};
 ghost use Rattle.link_lines.specs.Endings.{WasServedOver, EndsFor, HasLeftAt, IsUnbroken, JoinsNot, NeverCame};
 
 use crate::ended::{Ended, ended_of};
@@ -66,6 +67,7 @@ pub fn serve_over<R: Wait, S: LiveSeat, L: Link, G: Gate>(
     ensures unbroken { IsUnbroken result (S.seated seat.new) }
     ensures served { WasServedOver (service S.gives keys.now) who (S.seated seat.new).seen (L.wire link.old) (L.wire link.new) result }
     ensures left { HasLeftAt S.gives result who (S.seated seat.new).seen }
+    ensures drawn { DrawsOnlyMissed who (S.seated seat.new).seen }
     ensures cause { EndsFor S.gives result (S.seated seat.new) (L.wire link.old) (L.wire link.new) }
     ensures no_more { TellsNoMore (L.wire link.old) (L.wire link.new) }
 {

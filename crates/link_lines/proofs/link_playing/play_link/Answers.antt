@@ -1,5 +1,7 @@
+use Rattle.std.proofs.Common.{sym}
 use Rattle.std.proofs.lemmas.Result.{err_from_is_err_and}
 use Rattle.session_lines.proofs.StayingLemmas.{unseen-same}
+use Rattle.link_lines.proofs.DrawingLemmas.{opening-draws, draws-as}
 use Rattle.link_lines.proofs.HeardLemmas.{opening-over-stopped, opening-over-left, opened-over}
 use Rattle.link_lines.proofs.link_playing.play_link.Goals as goal
 
@@ -13,3 +15,14 @@ returns-then-branch-clause-plays g c = opening-over-left _ _ _ _ _ _ c.if-branch
 
 pub returns-clause-plays : goal.returns-clause-plays
 returns-clause-plays g c = opened-over c.play_turns.result _ _ _ _ _ _ _ _ c.if-branch.false (unseen-same c.open.ensures.stays.same) c.open.ensures.heard c.in_ok-open.ensures.serves (c.play_turns.ensures.plays c.args.keys.now)
+
+pub returns-in_err-open-clause-drawn : goal.returns-in_err-open-clause-drawn
+returns-in_err-open-clause-drawn g c = opening-draws _ (g.S.Seat.seated c.args.seat.now) _ _ _ _ c.in_err-open.ensures.serves
+
+pub returns-then-branch-clause-drawn : goal.returns-then-branch-clause-drawn
+returns-then-branch-clause-drawn g c = opening-draws _ (g.S.Seat.seated c.args.seat.now) _ _ _ _ c.in_ok-open.ensures.serves
+
+pub returns-clause-drawn : goal.returns-clause-drawn
+returns-clause-drawn g c =
+    let same = c.open.ensures.stays.same.number in
+    draws-as _ _ _ same (c.play_turns.ensures.drawn (draws-as _ _ _ (sym same) (opening-draws _ (g.S.Seat.seated c.args.seat.now) _ _ _ _ c.in_ok-open.ensures.serves)))

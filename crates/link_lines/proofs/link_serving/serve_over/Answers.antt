@@ -1,6 +1,7 @@
 use Rattle.std.proofs.Common.{refl, ◌∙◌}
 use Rattle.session_lines.proofs.StayingLemmas.{unseen-same}
 use Rattle.link_lines.proofs.ComingLemmas.{refused-over}
+use Rattle.link_lines.proofs.DrawingLemmas.{sees-draws, gone-draws, refused-draws, draws-as}
 use Rattle.link_lines.proofs.EndLemmas.{as-who, left-over, lost-over}
 use Rattle.link_lines.proofs.link_serving.serve_over.Goals as goal
 
@@ -17,3 +18,16 @@ returns-in-Err-Broken-clause-served g c =
     let l = rw c.in-Err-Broken.field-0-is at c.in-Err-Broken.ensures.leaves in
     rw c.in-Err-Broken.field-0-is (as-who _ _ _ _ _ _ _ (c.come.ensures.same.number ∙ c.requires.number)
     (lost-over c.play_link-played.result _ _ _ _ _ _ _ refl (unseen-same c.play_link-played.ensures.stays.same) c.play_link-played.ensures.plays l))
+
+pub returns-in-Err-clause-drawn : goal.returns-in-Err-clause-drawn
+returns-in-Err-clause-drawn g c = refused-draws g.S.Seat.gives _ _ _ (c.come.ensures.same.number ∙ c.requires.number) c.in-Err.ensures.refused
+
+pub returns-in-Ok-clause-drawn : goal.returns-in-Ok-clause-drawn
+returns-in-Ok-clause-drawn g c =
+    let number = c.come.ensures.same.number ∙ c.requires.number in
+    gone-draws _ _ _ _ (c.play_link-played.ensures.stays.same.number ∙ number) c.in-Ok.ensures.leaves (draws-as _ _ _ number c.play_link-played.ensures.drawn)
+
+pub returns-in-Err-Broken-clause-drawn : goal.returns-in-Err-Broken-clause-drawn
+returns-in-Err-Broken-clause-drawn g c =
+    let number = c.come.ensures.same.number ∙ c.requires.number in
+    sees-draws _ _ _ _ (c.play_link-played.ensures.stays.same.number ∙ number) c.in-Err-Broken.ensures.leaves.0 (draws-as _ _ _ number c.play_link-played.ensures.drawn)

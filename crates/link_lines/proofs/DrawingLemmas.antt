@@ -1,0 +1,206 @@
+-- Drawings for which a client didn't ask, over phases one after another.
+use Rattle.std.proofs.Common.{◌≡◌, ℕ, inl, inr, Bool, true, false, List, [], ◌∷◌, ◌++◌, take, drop, Ok, Err, refl, sym, ap, ◌∙◌, subst, append_assoc, append-nil}
+use Rattle.std.specs.Prelude.{if◌then◌else◌, ◌&&◌, ◌==◌}
+use Rattle.std.specs.List.{AllByRecursion, flat_map}
+use Rattle.std.specs.declared.result.Result.{Result}
+use Rattle.kak_ports.specs.Ports.{Outlet}
+use Rattle.key_names.specs.declared.key.Key.{Key}
+use Rattle.json_ui.specs.declared.request.Request.{Request}
+use Rattle.json_ui.specs.declared.request.Request.TheVariants.{Nothing, Keys}
+use Rattle.json_ui.specs.Requests.{read_request}
+use Rattle.json_writing.specs.declared.refusal.Refusal.{Refusal}
+use Rattle.session_turns.specs.Histories.{Answer, own, events_of, is_leaving}
+use Rattle.session_turns.specs.Turns.{Phase, Opening, During, Line, Idle, plays, size, due}
+use Rattle.session_turns.specs.Growth.{Begins, How, Whole, Over, Short, Unsent, Lost, Fits}
+use Rattle.session_events.specs.declared.event.Event.{Event}
+use Rattle.session_events.specs.declared.event.Event.TheVariants.{Refresh, Leave}
+use Rattle.session_events.specs.declared.event.Entry.{Entry}
+use Rattle.session_events.specs.Entries.{entry_with}
+use Rattle.session_events.specs.Legal.{Presence, Away, is_here, moved_by, presence_from}
+use Rattle.session_events.specs.Meaning.{Gives, rules}
+use Rattle.session_events.specs.Seats.{Seated, Sees}
+use Rattle.session_events.proofs.LegalLemmas.{presence-append}
+use Rattle.live_seats.specs.Missing.{is_drawing, has_news, has_missed}
+use Rattle.live_seats.proofs.MissingLemmas.{news-new, news-other}
+use Rattle.session_lines.specs.declared.playing.Stop.{Stop}
+use Rattle.session_lines.specs.declared.playing.Stop.TheVariants as stop
+use Rattle.session_lines.specs.Session.{protocol, keys_played, played_by}
+use Rattle.session_lines.specs.Serving.{Service, Serves, HasGone, how_of, line_phases, unseen}
+use Rattle.link_lines.specs.declared.ended.Ended.{Ended}
+use Rattle.link_lines.specs.declared.ended.Ended.TheVariants.{Left, Closed, LinkRead, LinkWrite, InputFull, HistoryFull, Full, Broken, NoMemory}
+use Rattle.link_lines.specs.Endings.{JoinsNot}
+use Rattle.link_lines.specs.Talking.{IsDrawn, DrawsMissed}
+use Rattle.link_lines.specs.Drawings.{is_unasked, DrawsMissedBehind, DrawsOnlyMissed}
+use Rattle.link_lines.proofs.LostLemmas.{unsent-lost}
+
+-- no event is a drawing for which the client didn't ask
+abbrev AreAsked : List Event → Type 0
+AreAsked events = AllByRecursion (λ event. is_unasked event ≡ false) events
+
+asked-front : (whole front : List Event) → AreAsked whole → Begins whole front → AreAsked front
+asked-front whole [] a b = tt
+asked-front [] (e ∷ front) a b = cc
+asked-front (x ∷ whole) (e ∷ front) a b = (subst (λ q. is_unasked q ≡ false) (ap (λ q. head q x) b.1) a.0, asked-front whole front a.1 (b.0, ap (λ q. drop 1 q) b.1))
+  where
+    head : List Event → Event → Event
+    head [] d = d
+    head (e ∷ es) d = e
+
+-- entries put together
+behind-append : (k : ℕ) (b xs ys : List Entry) → DrawsMissedBehind k b xs → DrawsMissedBehind k (b ++ xs) ys → DrawsMissedBehind k b (xs ++ ys)
+behind-append k b [] ys d e = subst (λ q. DrawsMissedBehind k q ys) (append-nil b) e
+behind-append k b (x ∷ xs) ys d e = (d.0, behind-append k (b ++ x ∷ []) xs ys d.1 (subst (λ q. DrawsMissedBehind k q ys) (sym (append_assoc b (x ∷ []) xs)) e))
+
+-- entries of which none of the client's own is such a drawing
+asked-step : (t : Bool) (e : Event) (es : List Event) (m : Type 0) → AreAsked (if t then e ∷ es else es) → ((t && is_unasked e) ≡ true → m) × AreAsked es
+asked-step true e es m a = (λ u. absurd (differ (is_unasked e) a.0 u), a.1)
+  where
+    differ : (b : Bool) → b ≡ false → b ≡ true → ⊥
+    differ true f u = cc
+    differ false f u = cc
+asked-step false e es m a = (λ u. cc, a)
+
+all-asked : (g : Gives) (k : ℕ) (b h : List Entry) → AreAsked (own (rules g) k h) → DrawsMissedBehind k b h
+all-asked g k b [] a = tt
+all-asked g k b (n ∷ h) a =
+    let s = asked-step (n.who == k) n.event (own (rules g) k h) (has_missed k b ≡ true) a in
+    (s.0, all-asked g k (b ++ n ∷ []) h s.1)
+
+none-asked : (es : List Event) → es ≡ [] → AreAsked es
+none-asked [] e = tt
+none-asked (x ∷ es) e = cc
+
+-- what was missed is missed behind an entry of another
+missed-foreign : (k : ℕ) (b : List Entry) (n : Entry) → (n.who == k) ≡ false → has_missed k b ≡ true → has_missed k (b ++ n ∷ []) ≡ true
+missed-foreign k b n other m =
+    both (is_here (presence_from k Away b)) (has_news k b) (is_here (presence_from k Away (b ++ n ∷ []))) (has_news k (b ++ n ∷ [])) (ap is_here (presence-append k Away b (n ∷ []) ∙ away (n.who == k) (presence_from k Away b) other))
+    (by (is_drawing n.event) refl) m
+  where
+    away : (t : Bool) (p : Presence) → t ≡ false → (if t then moved_by n.event p else p) ≡ p
+    away true p e = cc
+    away false p e = refl
+
+    by : (t : Bool) → is_drawing n.event ≡ t → has_news k b ≡ true → has_news k (b ++ n ∷ []) ≡ true
+    by true d h = news-other k b n d other ∙ h
+    by false d h = news-new k b n d
+
+    both : (x y z w : Bool) → z ≡ x → (y ≡ true → w ≡ true) → (x && y) ≡ true → (z && w) ≡ true
+    both true y z w e f m = rw e (f m)
+    both false y z w e f m = cc
+
+no-more : (es rest : List Event) → [] ≡ es ++ rest → es ≡ []
+no-more [] rest e = refl
+no-more (x ∷ es) rest e = cc
+
+-- the client was drawn once where it had missed something, or not yet
+drawn-once : (g : Gives) (k : ℕ) (b more : List Entry) (rest : List Event) → has_missed k b ≡ true → Refresh false ∷ [] ≡ own (rules g) k more ++ rest → DrawsMissedBehind k b more
+drawn-once g k b [] rest m e = tt
+drawn-once g k b (n ∷ more) rest m e = by (n.who == k) refl (λ missed f. drawn-once g k (b ++ n ∷ []) more rest missed f) e
+  where
+    by : (t : Bool) → (n.who == k) ≡ t → (has_missed k (b ++ n ∷ []) ≡ true → Refresh false ∷ [] ≡ own (rules g) k more ++ rest → DrawsMissedBehind k (b ++ n ∷ []) more) → Refresh false ∷ [] ≡ (if t then n.event ∷ own (rules g) k more else own (rules g) k more) ++ rest → DrawsMissedBehind k b (n ∷ more)
+    by true mine behind f = (λ u. m, all-asked g k (b ++ n ∷ []) more (none-asked (own (rules g) k more) (no-more (own (rules g) k more) rest (ap (λ q. drop 1 q) f))))
+    by false other behind f = (λ u. m, behind (missed-foreign k b n other m) f)
+
+-- what phases play of which there is one, or a beginning of it
+due-one : (opens : List Key) (phase : Phase) (got : List (Answer Event)) → due (protocol opens) (phase ∷ []) got ≡ plays (protocol opens) phase
+due-one opens phase got = none-behind (is_leaving (take (size (protocol opens) phase) got)) (plays (protocol opens) phase) ∙ append-nil (plays (protocol opens) phase)
+  where
+    none-behind : (t : Bool) (es : List Event) → es ++ flat_map (plays (protocol opens)) (if t then [] else []) ≡ es ++ []
+    none-behind true es = refl
+    none-behind false es = refl
+
+begins-by : (whole due front : List Event) → due ≡ whole → Begins due front → Begins whole front
+begins-by whole due front e b = (b.0, sym e ∙ b.1)
+
+plays-begin : (opens : List Key) (how : How) (phase : Phase) (got : List (Answer Event)) (out : List ℕ) → Fits (protocol opens) how (phase ∷ []) got out → Begins (plays (protocol opens) phase) (events_of got)
+plays-begin opens Whole phase got out f = ([], sym (append-nil (plays (protocol opens) phase)) ∙ sym f.events ∙ sym (append-nil (events_of got)))
+plays-begin opens Over phase got out f = ([], sym (due-one opens phase got) ∙ f.events [] ∙ sym (append-nil (events_of got)))
+plays-begin opens Short phase got out f = let h = f.events [] in (h.0 ∷ h.1, sym (due-one opens phase got) ∙ h.2)
+plays-begin opens Unsent phase got out f = begins-by _ _ _ (due-one opens phase got) ((unsent-lost (protocol opens) (phase ∷ []) got out f).events [])
+plays-begin opens Lost phase got out f = begins-by _ _ _ (due-one opens phase got) (f.events [])
+
+-- a growth of the history, in which the client's own events are these
+grown : (g : Gives) (k n : ℕ) (old new more : List Entry) → n ≡ k → new ≡ old ++ more → AreAsked (own (rules g) n more) → DrawsOnlyMissed k old → DrawsOnlyMissed k new
+grown g k n old new more e grows a d =
+    subst (λ h. DrawsOnlyMissed k h) (sym grows) (behind-append k [] old more d (all-asked g k old more (subst (λ m. AreAsked (own (rules g) m more)) e a)))
+
+-- keys, and the drawing that was asked for
+keys-asked : (keys : List Key) → AreAsked (keys_played keys)
+keys-asked [] = (refl, tt)
+keys-asked (key ∷ keys) = (refl, keys-asked keys)
+
+line-asked : (read : Result Request Refusal) → AreAsked (played_by read)
+line-asked (Ok Nothing) = tt
+line-asked (Ok (Keys keys)) = keys-asked keys
+line-asked (Err refusal) = tt
+
+-- a line was played, or a part of it
+pub line-draws : (g : Service) (x y : Seated) (a b : Outlet) (how : How) (line : List ℕ) (k : ℕ) → x.number ≡ k → Serves g x y a b how (line_phases (line ∷ [])) → DrawsOnlyMissed k x.seen → DrawsOnlyMissed k y.seen
+line-draws g x y a b how line k e s d =
+    grown g.gives k x.number x.seen y.seen s.adds.more e s.adds.grows
+    (subst AreAsked (sym s.adds.events) (asked-front _ _ (line-asked (read_request line)) (plays-begin g.opens how (During (Line line)) s.got s.out s.fits))) d
+
+-- a connection was opened, or a part of it
+pub opening-draws : (g : Service) (x y : Seated) (a b : Outlet) (how : How) → Serves g (unseen x) y a b how (Opening ∷ []) → DrawsOnlyMissed x.number y.seen
+opening-draws g x y a b how s =
+    grown g.gives x.number x.number [] y.seen s.adds.more refl s.adds.grows
+    (subst AreAsked (sym s.adds.events) (asked-front _ _ (refl, keys-asked g.opens) (plays-begin g.opens how Opening s.got s.out s.fits))) tt
+
+-- entries of others came
+pub sees-draws : (g : Gives) (x y : Seated) (k : ℕ) → x.number ≡ k → Sees g x y → DrawsOnlyMissed k x.seen → DrawsOnlyMissed k y.seen
+sees-draws g x y k e s d = grown g k x.number x.seen y.seen s.between e s.stands (none-asked _ s.foreign) d
+
+-- and the client was drawn what it had missed
+drawn-draws : (g : Service) (x y : Seated) (a b : Outlet) (how : How) (k : ℕ) → x.number ≡ k → IsDrawn g x y a b how → DrawsOnlyMissed k x.seen → DrawsOnlyMissed k y.seen
+drawn-draws g x y a b how k e w d =
+    let n : w.looked.number ≡ k = w.same.number ∙ e in
+    let s = w.serves in
+    let begins = plays-begin g.opens how (During Idle) s.got s.out s.fits in
+    subst (λ h. DrawsOnlyMissed k h) (sym s.adds.grows)
+    (behind-append k [] w.looked.seen s.adds.more (sees-draws g.gives x w.looked k e w.sees d)
+    (drawn-once g.gives k w.looked.seen s.adds.more begins.0 (subst (λ m. has_missed m w.looked.seen ≡ true) n w.missed)
+    (begins.1 ∙ ap (λ q. q ++ begins.0) (sym s.adds.events ∙ ap (λ m. own (rules g.gives) m s.adds.more) n))))
+
+pub missed-draws : {A : Type 0} (r : Result A Stop) (g : Service) (x y : Seated) (a b : Outlet) (k : ℕ) → x.number ≡ k → DrawsMissed g x y a b r → DrawsOnlyMissed k x.seen → DrawsOnlyMissed k y.seen
+missed-draws (Ok done) g x y a b k e (inl m) d = sees-draws g.gives x y k e m.sees d
+missed-draws (Ok done) g x y a b k e (inr w) d = drawn-draws g x y a b Whole k e w d
+missed-draws (Err (stop.Broken at)) g x y a b k e (inl m) d = sees-draws g.gives x y k e m.sees d
+missed-draws (Err (stop.Broken at)) g x y a b k e (inr w) d = drawn-draws g x y a b (how_of (Err (stop.Broken at))) k e w d
+missed-draws (Err stop.HistoryFull) g x y a b k e w d = drawn-draws g x y a b (how_of (Err stop.HistoryFull)) k e w d
+missed-draws (Err stop.NoMemory) g x y a b k e w d = drawn-draws g x y a b (how_of (Err stop.NoMemory)) k e w d
+missed-draws (Err stop.WriteFault) g x y a b k e w d = drawn-draws g x y a b (how_of (Err stop.WriteFault)) k e w d
+
+-- the client left
+pub gone-draws : (g : Gives) (x y : Seated) (k : ℕ) → x.number ≡ k → HasGone g x y → DrawsOnlyMissed k x.seen → DrawsOnlyMissed k y.seen
+gone-draws g x y k e w d =
+    subst (λ h. DrawsOnlyMissed k h) (sym w.stands)
+    (behind-append k [] (x.seen ++ w.between) (entry_with x.number Leave w.answers ∷ [])
+    (behind-append k [] x.seen w.between d (all-asked g k x.seen w.between (subst (λ m. AreAsked (own (rules g) m w.between)) e (none-asked _ w.foreign))))
+    (leaving (x.number == k), tt))
+  where
+    leaving : (t : Bool) → (t && false) ≡ true → has_missed k (x.seen ++ w.between) ≡ true
+    leaving true u = cc
+    leaving false u = cc
+
+-- a client of which there is no entry
+never-draws : (g : Gives) (k n : ℕ) (h : List Entry) → n ≡ k → own (rules g) n h ≡ [] → DrawsOnlyMissed k h
+never-draws g k n h e none = all-asked g k [] h (subst (λ m. AreAsked (own (rules g) m h)) e (none-asked _ none))
+
+pub refused-draws : (g : Gives) (e : Ended) (seat : Seated) (k : ℕ) → seat.number ≡ k → JoinsNot g e seat → DrawsOnlyMissed k seat.seen
+refused-draws g HistoryFull seat k n j = never-draws g k seat.number seat.seen n j.0
+refused-draws g Full seat k n j = never-draws g k seat.number seat.seen n j
+refused-draws g (Broken at) seat k n j = never-draws g k seat.number seat.seen n j.0
+refused-draws g NoMemory seat k n j = never-draws g k seat.number seat.seen n j
+refused-draws g Left seat k n j = absurd j
+refused-draws g Closed seat k n j = absurd j
+refused-draws g LinkRead seat k n j = absurd j
+refused-draws g LinkWrite seat k n j = absurd j
+refused-draws g InputFull seat k n j = absurd j
+
+-- the client by its number
+pub draws-as : (n k : ℕ) (h : List Entry) → n ≡ k → DrawsOnlyMissed n h → DrawsOnlyMissed k h
+draws-as n k h e d = subst (λ m. DrawsOnlyMissed m h) e d
+
+-- and so it stays while others go on
+pub others-draw : (g : Gives) (k : ℕ) (h more : List Entry) → own (rules g) k more ≡ [] → DrawsOnlyMissed k h → DrawsOnlyMissed k (h ++ more)
+others-draw g k h more none d = grown g k k h (h ++ more) more refl refl (none-asked _ none) d
