@@ -140,11 +140,11 @@ impl Talk {
         ensures reading { self.new ≡ self.old }
     {
         match seat.look() {
-            Missed::Nothing => Ok(()),
             Missed::Something => {
                 let reply = answer_idle(self.alloc, seat)?;
                 tell(rt, link, &mut self.out, &reply.telling)
             }
+            Missed::Nothing => Ok(()),
             Missed::Broken(at) => Err(Stop::Broken(at)),
         }
     }
