@@ -67,11 +67,11 @@ def usage(program, report):
         report.check_run(f"the words {words}", 1, b"", run_whole(program, words, keys_line("ihi<esc>")))
 
 
-def status_of(program, given, output):
+def status_of(program, given, output, words=("-ui", "json")):
     """The status of a run with that standard input and output, and what it wrote to standard error."""
     with tempfile.TemporaryDirectory() as folder:
         try:
-            done = subprocess.run([program, "-ui", "json"], stdin=given, stdout=output, stderr=subprocess.PIPE, cwd=folder, timeout=SECONDS)
+            done = subprocess.run([program, *words], stdin=given, stdout=output, stderr=subprocess.PIPE, cwd=folder, timeout=SECONDS)
         except subprocess.TimeoutExpired as late:
             return "timeout", late.stderr or b""
     return done.returncode, done.stderr

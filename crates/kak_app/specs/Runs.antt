@@ -20,7 +20,7 @@ use Rattle.kak_engine.specs.Steps.{given_by, exchanges, answers_in, AllAsked}
 use Rattle.kak_engine.specs.Honesty.{Outside, outside_of, Stays, IsHonest}
 use Rattle.kak_app.specs.declared.program.TheConstants.{MAX_ENTRIES}
 use Rattle.kak_app.specs.declared.program.Status.{Status}
-use Rattle.kak_app.specs.declared.program.Status.TheVariants.{Done, Usage, ReadFault, WriteFault, NoMemory, HistoryFull, InputFull}
+use Rattle.kak_app.specs.declared.program.Status.TheVariants.{Done, Usage, ReadFault, WriteFault, NoMemory, HistoryFull, InputFull, BadClient}
 
 -- the status with which the process ends
 abbrev pub code_of : Status → ℕ
@@ -31,6 +31,7 @@ code_of WriteFault = 3
 code_of NoMemory = 4
 code_of HistoryFull = 5
 code_of InputFull = 6
+code_of BadClient = 7
 
 -- the words of a client that speaks JSON
 abbrev pub is_ui_json : List ℕ → List ℕ → Bool
@@ -112,3 +113,4 @@ Answers keys WriteFault old new = Ran keys (Err stop.WriteFault) old new
 Answers keys NoMemory old new = Ran keys (Err stop.NoMemory) old new
 Answers keys HistoryFull old new = Ran keys (Err stop.HistoryFull) old new
 Answers keys InputFull old new = Ran keys (Ok ending.Full) old new
+Answers keys BadClient old new = ⊥

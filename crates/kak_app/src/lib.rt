@@ -3,8 +3,10 @@
 
 pub mod limits;
 pub mod program;
+pub mod replaying;
 
 pub use program::{MAX_ENTRIES, Status, run};
+pub use replaying::{MAX_UIS, replay};
 
 #[cfg(test)]
 mod line_tests;

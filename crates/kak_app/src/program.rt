@@ -40,6 +40,8 @@ pub enum Status {
     HistoryFull,
     /// The input has more bytes than are taken. What was read before is answered.
     InputFull,
+    /// A line of a replay is no client's. What was read before is answered.
+    BadClient,
 }
 
 impl Status {
@@ -55,6 +57,7 @@ impl Status {
             Status::NoMemory => 4,
             Status::HistoryFull => 5,
             Status::InputFull => 6,
+            Status::BadClient => 7,
         }
     }
 }

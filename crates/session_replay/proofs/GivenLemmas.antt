@@ -5,15 +5,47 @@ use Rattle.std.specs.declared.result.Result.{Result}
 use Rattle.std.specs.Io.KnownBytes.{Consumes}
 use Rattle.std.proofs.KnownBytes.{Consumes-nil, Consumes-trans}
 use Rattle.kak_ports.specs.Ports.{Inlet}
-use Rattle.line_reading.specs.declared.limits.TheConstants.{MAX_INPUT}
+use Rattle.line_reading.specs.declared.limits.TheConstants.{MAX_INPUT, MAX_PIECE}
 use Rattle.line_reading.specs.declared.reader.Next.{Next}
 use Rattle.line_reading.specs.declared.reader.Next.TheVariants as next
-use Rattle.line_reading.specs.Reading.{Reading, IsAll, Reads}
-use Rattle.line_reading.proofs.CutLemmas.{given-pushed, none-pushed}
+use Rattle.line_reading.specs.Reading.{Reading, IsNeeded, IsAll, Reads}
+use Rattle.line_reading.proofs.CutLemmas.{no-lines, lines-given, given-pushed, none-pushed}
 use Rattle.session_turns.specs.Lines.{whole_lines, lines_of_input, with_newlines, HasNoNewline}
-use Rattle.session_lines.proofs.ReadingLemmas.{LastPiece, last-more, all-behind, lines-behind, lines-all, lines-at, last-lines, input-lines}
+use Rattle.session_lines.proofs.ReadingLemmas.{all-behind, lines-behind, lines-all, lines-at, last-lines, input-lines}
 use Rattle.session_replay.specs.Replays.{AreFirst, IsNeededFor}
 use Rattle.session_replay.specs.Phases.{HasGiven, HasFirst, HasAllLines, HasWholeLines}
+
+-- of the bytes all but a last piece completed no line that wasn't given out
+pub record LastPiece (left : Inlet) (bytes : List ℕ) (given : List (List ℕ)) : Type 0 where
+  pub before : List ℕ
+  pub piece : List ℕ
+  pub later : List (List ℕ)
+  pub cut : bytes ≡ before ++ piece
+  pub one : length piece ≤ MAX_PIECE
+  pub most : length piece ≤ left.most
+  pub lines : given ≡ whole_lines [] before ++ later
+
+-- before the last piece no line was completed that wasn't given out
+last-more : (left rest : Inlet) (bytes more pending : List ℕ) (given : List (List ℕ)) → rest.most ≡ left.most → bytes ≡ with_newlines given ++ pending → AllByRecursion HasNoNewline given → IsNeeded pending rest more → LastPiece left bytes given → LastPiece left (bytes ++ more) given
+last-more left rest bytes more pending given m e none (inl h) l = record {
+  before = l.before;
+  piece = l.piece;
+  later = l.later;
+  cut = ap (λ q. bytes ++ q) h ∙ append-nil bytes ∙ l.cut;
+  one = l.one;
+  most = l.most;
+  lines = l.lines;
+}
+last-more left rest bytes more pending given m e none (inr p) l = record {
+  before = bytes ++ p.before;
+  piece = p.piece;
+  later = [];
+  cut = ap (λ q. bytes ++ q) p.cut ∙ sym (append_assoc bytes p.before p.piece);
+  one = p.one;
+  most = omega (arith, p.most, m);
+  lines = sym (append-nil (whole_lines [] (bytes ++ p.before)) ∙ ap (λ q. whole_lines [] (q ++ p.before)) e ∙ ap (whole_lines []) (append_assoc (with_newlines given) pending p.before)
+      ∙ lines-given given (pending ++ p.before) none ∙ ap (λ r. given ++ r) (no-lines (pending ++ p.before) p.none) ∙ append-nil given);
+}
 
 -- what was read so far: these lines were given out, and these bytes stand behind them
 pub record HasRead (left rest : Inlet) (taken : ℕ) (behind : List ℕ) (given : List (List ℕ)) : Type 0 where

@@ -48,6 +48,10 @@ impl JsonUi {
 impl Ui for JsonUi {
     ghost shown = { λ u. record { kind = Json; told = u } };
 
+    fn is_new(&self) -> bool {
+        self.notes.is_empty()
+    }
+
     fn show(&mut self, _alloc: Global, drawing: &Drawing) -> Result<(), AllocError> {
         add_drawing(&mut self.notes, &mut self.lines, drawing)?;
         Ok(())

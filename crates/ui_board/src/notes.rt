@@ -1,6 +1,6 @@
 //! What a box was told, in order. A note of a drawing takes a few bytes: the drawing itself is known to contracts alone.
 
-ghost use Rattle.std.specs.Prelude.{◌≡◌, [], ◌∷◌, ◌++◌, OnOk, OnErr};
+ghost use Rattle.std.specs.Prelude.{◌≡◌, ◌==◌, [], ◌∷◌, ◌++◌, length, OnOk, OnErr};
 ghost use Rattle.ui_board.specs.Notes.{told_of};
 
 use json_writing::{Drawing, Refusal};
@@ -42,6 +42,13 @@ impl Notes {
         Notes {
             items: Vec::new(alloc),
         }
+    }
+
+    /// Whether there is no note.
+    pub fn is_empty(&self) -> bool
+        ensures { result ≡ (length self.now == 0) }
+    {
+        self.items.is_empty()
     }
 
     /// Adds a note at the end. After an error the notes are as they were.

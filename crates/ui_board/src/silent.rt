@@ -39,6 +39,10 @@ impl SilentUi {
 impl Ui for SilentUi {
     ghost shown = { λ u. record { kind = Silent; told = u } };
 
+    fn is_new(&self) -> bool {
+        self.notes.is_empty()
+    }
+
     fn show(&mut self, _alloc: Global, drawing: &Drawing) -> Result<(), AllocError> {
         self.notes.push(Note::OfDrawing(Snapshot::of(drawing)))
     }

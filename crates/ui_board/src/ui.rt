@@ -1,6 +1,6 @@
 //! What a user interface is told, and what it reports.
 
-ghost use Rattle.std.specs.Prelude.{◌≡◌, IfOk, OnOk, OnErr};
+ghost use Rattle.std.specs.Prelude.{◌≡◌, ◌==◌, length, IfOk, OnOk, OnErr};
 ghost use Rattle.ui_board.specs.Told.{Shown, Drawn, Refused, telling, report_of};
 
 use json_writing::{Drawing, Refusal};
@@ -10,6 +10,10 @@ use std::alloc::{AllocError, Global};
 pub trait Ui: Drop {
     // Its kind, and all that it was told, in order.
     ghost shown: { Self → Shown };
+
+    /// Whether it was told nothing yet.
+    fn is_new(&self) -> bool
+        ensures { result ≡ (length (shown self.now).told == 0) };
 
     /// Shows a drawing. An error is want of memory; then nothing was shown.
     fn show(&mut self, alloc: Global, drawing: &Drawing) -> Result<(), AllocError>
@@ -29,6 +33,10 @@ pub trait Ui: Drop {
 /// A box is the user interface in it.
 impl Ui for Box<dyn Ui> {
     ghost shown = { λ ui. (Ui-box ui).shown ui.value };
+
+    fn is_new(&self) -> bool {
+        (**self).is_new()
+    }
 
     fn show(&mut self, alloc: Global, drawing: &Drawing) -> Result<(), AllocError> {
         (**self).show(alloc, drawing)
