@@ -34,17 +34,26 @@ use Rattle.kak_engine.proofs.HonestLemmas.{honest-none, stays-still}
 use Rattle.kak_app.specs.declared.program.TheConstants.{MAX_ENTRIES}
 use Rattle.kak_app.specs.Runs.{Around, WasHonestBefore, OutsideIs, Ran, IsFull, ReadsAre, WritesAre}
 
+-- without an entry a history is one that there can be
+pub nothing-legal : (limit : ℕ) → IsLegal limit []
+nothing-legal limit = record { lives = λ who. refl; within = none limit }
+  where
+    none : (n : ℕ) → AreLeavings (drop n [])
+    none zero = tt
+    none (suc n) = tt
+
 -- nothing was played
 pub nothing-ran : (keys : List Key) (a : Around) → Ran keys (Err stop.NoMemory) a a
 nothing-ran keys a = record {
   history = [];
   alone = tt;
-  legal = record { lives = λ who. refl; within = none MAX_ENTRIES };
+  legal = nothing-legal MAX_ENTRIES;
   served = record {
     bytes = [];
     takes = Consumes-nil a.inlet.left;
     few = omega arith;
-    lines = [];
+    turns = [];
+    asked = λ e. refl;
     out = [];
     sends = Appends-nil a.outlet.told;
     served = record {
@@ -59,10 +68,6 @@ nothing-ran keys a = record {
   reads = inl refl;
   writes = refl;
 }
-  where
-    none : (n : ℕ) → AreLeavings (drop n [])
-    none zero = tt
-    none (suc n) = tt
 
 -- a full history has its limit of entries, and the leaving
 full-length : (r : Result InputEnd Stop) (z : Seated) (before now : Outlet) → z.limit ≡ MAX_ENTRIES → AreOf 0 z.seen → IsLegal z.limit z.seen → EndCauses r z before now → IsFull r z.seen
@@ -104,12 +109,13 @@ own-came g x y output none same s =
     mine false e = cc
 
 -- or didn't come
-pub nothing-served : (g : Gives) (keys : List Key) (x y : Seated) (left : Inlet) (before : Outlet) → x.seen ≡ [] → Sees g x y → WasServed (service g keys) x.number y.seen before before left left (Err stop.NoMemory)
+pub nothing-served : (g : Gives) (keys : List Key) (x y : Seated) (left : Inlet) (before : Outlet) → x.seen ≡ [] → Sees g x y → WasServed false (service g keys) x.number y.seen before before left left (Err stop.NoMemory)
 nothing-served g keys x y left before none s = record {
   bytes = [];
   takes = Consumes-nil left.left;
   few = omega arith;
-  lines = [];
+  turns = [];
+  asked = λ e. refl;
   out = [];
   sends = Appends-nil before.told;
   served = record {
@@ -140,10 +146,10 @@ nobody-else x z a b same none = ap told (sym b ∙ same.others ∙ a ∙ ap (λ 
     told None = []
 
 -- how the outside was left, by how playing ended
-before : (history : List Entry) (mark : Option ℕ) (first last : Outside) → WasHonest history mark first last → WasHonestBefore history first last
+pub before : (history : List Entry) (mark : Option ℕ) (first last : Outside) → WasHonest history mark first last → WasHonestBefore history first last
 before history mark first last w = record { behind = w.behind; honest = w.honest; stays = w.stays }
 
-whole : (history : List Entry) (mark : Option ℕ) (first last : Outside) → WasHonest history mark first last → mark ≡ None → IsHonest (answers_in history) (exchanges history) first last
+pub whole : (history : List Entry) (mark : Option ℕ) (first last : Outside) → WasHonest history mark first last → mark ≡ None → IsHonest (answers_in history) (exchanges history) first last
 whole history mark first last w none = subst (λ (o : Outside). IsHonest (answers_in history) (exchanges history) first o) (sym (w.alone none)) w.honest
 
 outside-is : (r : Result InputEnd Stop) (x z : Seated) (first last : Outside) → x.mark ≡ None → StaysWhole r x.mark z.mark → WasHonest z.seen z.mark first last → OutsideIs r z.seen first last
@@ -155,12 +161,12 @@ outside-is (Err stop.WriteFault) x z first last none s w = whole z.seen z.mark f
 
 -- client 0 was served
 pub served-ran : (keys : List Key) (r : Result InputEnd Stop) (x z : Seated) (a b : Around) → x.number ≡ 0 → x.limit ≡ MAX_ENTRIES → x.mark ≡ None → IsSameSeat x z → others_of z.number z.seen ≡ [] → IsLegal z.limit z.seen
-    → WasServed (service given_by keys) x.number z.seen a.outlet b.outlet a.inlet b.inlet r → FaultIs r a.inlet b.inlet → EndCauses r z a.outlet b.outlet → StaysWhole r x.mark z.mark → AllAsked z.seen → WasHonest z.seen z.mark a.outside b.outside → Ran keys r a b
+    → WasServed false (service given_by keys) x.number z.seen a.outlet b.outlet a.inlet b.inlet r → FaultIs r a.inlet b.inlet → EndCauses r z a.outlet b.outlet → StaysWhole r x.mark z.mark → AllAsked z.seen → WasHonest z.seen z.mark a.outside b.outside → Ran keys r a b
 served-ran keys r x z a b first most none same o l s f c w asked honest = record {
   history = z.seen;
   alone = mine;
   legal = subst (λ n. IsLegal n z.seen) (same.limit ∙ most) l;
-  served = subst (λ n. WasServed (service given_by keys) n z.seen a.outlet b.outlet a.inlet b.inlet r) first s;
+  served = subst (λ n. WasServed false (service given_by keys) n z.seen a.outlet b.outlet a.inlet b.inlet r) first s;
   asked = asked;
   honest = outside-is r x z a.outside b.outside none w honest;
   full = full-length r z a.outlet b.outlet (same.limit ∙ most) mine l c;
@@ -177,7 +183,7 @@ broken-ran keys at a b r = record {
   history = r.history;
   alone = r.alone;
   legal = r.legal;
-  served = record { bytes = r.served.bytes; takes = r.served.takes; few = r.served.few; lines = r.served.lines; out = r.served.out; sends = r.served.sends; served = r.served.served; end_is = tt };
+  served = record { bytes = r.served.bytes; takes = r.served.takes; few = r.served.few; turns = r.served.turns; asked = r.served.asked; out = r.served.out; sends = r.served.sends; served = r.served.served; end_is = tt };
   asked = r.asked;
   honest = r.honest;
   full = tt;

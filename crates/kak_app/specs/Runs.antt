@@ -96,7 +96,7 @@ pub record Ran (keys : List Key) (result : Result InputEnd Stop) (old new : Arou
   pub history : List Entry
   pub alone : AreOf 0 history
   pub legal : IsLegal MAX_ENTRIES history
-  pub served : WasServed (service given_by keys) 0 history old.outlet new.outlet old.inlet new.inlet result
+  pub served : WasServed false (service given_by keys) 0 history old.outlet new.outlet old.inlet new.inlet result
   pub asked : AllAsked history
   pub honest : OutsideIs result history old.outside new.outside
   pub full : IsFull result history

@@ -105,7 +105,7 @@ pub(crate) fn attend<S: Seat, I: Source, K: Sink>(
     ensures kept { S.kept seat.new ≡ S.kept seat.old }
     ensures whole { StaysWhole result (S.seated seat.old).mark (S.seated seat.new).mark }
     ensures legal { IsLegalSeat (S.seated seat.new) }
-    ensures served { WasServed (service S.gives keys.now) (S.seated seat.old).number (S.seated seat.new).seen (K.outlet output.old) (K.outlet output.new) (I.inlet input.old) (I.inlet input.new) result }
+    ensures served { WasServed false (service S.gives keys.now) (S.seated seat.old).number (S.seated seat.new).seen (K.outlet output.old) (K.outlet output.new) (I.inlet input.old) (I.inlet input.new) result }
     ensures fault { FaultIs result (I.inlet input.old) (I.inlet input.new) }
     ensures cause { EndCauses result (S.seated seat.new) (K.outlet output.old) (K.outlet output.new) }
 {
