@@ -1,0 +1,5 @@
+pub mod CountingLemmas
+pub mod WorldLemmas
+pub mod PlayLemmas
+pub mod SeatLemmas
+pub mod RefusalLemmas

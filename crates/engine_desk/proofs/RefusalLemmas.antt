@@ -1,0 +1,121 @@
+-- What a refusal at a desk is to the seat of its client.
+use Rattle.std.proofs.Common.{◌≡◌, ⊎_elim, inl, inr, ℕ, Bool, true, false, List, length, refl, sym, ap, ◌∙◌, subst, Err}
+use Rattle.std.specs.Prelude.{if◌then◌else◌, ◌&&◌, not, nat_le, IfSome, Some, None, ⊤}
+use Rattle.std.specs.declared.option.Option.{Option}
+use Rattle.std.proofs.lemmas.Bool.{leb-true}
+use Rattle.session_desk.specs.Histories.{Met}
+use Rattle.session_desk.specs.Tokens.{Home, PassView, Refuses as PassRefuses}
+use Rattle.session_desk.proofs.HistoryLemmas.{met_through}
+use Rattle.session_events.specs.declared.event.Event.{Event}
+use Rattle.session_events.specs.declared.event.Entry.{Entry}
+use Rattle.session_events.specs.declared.event.Output.{Output}
+use Rattle.session_events.specs.declared.fault.StepFault.{StepFault}
+use Rattle.session_events.specs.declared.fault.StepFault.TheVariants.{Broken, NoClient, Joined, HistoryFull, Full, NoMemory}
+use Rattle.session_events.specs.Entries.{is_join, is_leave, has_joined}
+use Rattle.session_events.specs.Legal.{Away, is_here, presence_from}
+use Rattle.session_events.specs.Seats.{Refuses as SeatRefuses, IsWhole}
+use Rattle.kak_engine.specs.Held.{refused_at, refused_by}
+use Rattle.kak_engine.specs.Steps.{run, is_full}
+use Rattle.engine_desk.specs.Sharing.{Frame, Answers, marked_behind}
+use Rattle.engine_desk.specs.Sitting.{told_behind}
+use Rattle.engine_desk.proofs.SeatLemmas.{whose}
+
+-- a refusal for a reason that the history gives
+abbrev IsPlain : StepFault → Type 0
+IsPlain (Broken at) = ⊥
+IsPlain NoMemory = ⊥
+IsPlain _ = ⊤
+
+-- the first reason that holds has what is shown of each
+chain : (P : StepFault → Type 0) (who : ℕ) (a b c d : Bool) (fault : StepFault) → (a ≡ true → P (NoClient who)) → (b ≡ true → P (Joined who)) → (c ≡ true → P HistoryFull) → (d ≡ true → P Full)
+    → (if a then Some (NoClient who) else (if b then Some (Joined who) else (if c then Some HistoryFull else (if d then Some Full else None)))) ≡ Some fault → P fault
+chain P who true b c d fault f g h k e = subst P (let s : NoClient who ≡ fault = cc in s) (f refl)
+chain P who false true c d fault f g h k e = subst P (let s : Joined who ≡ fault = cc in s) (g refl)
+chain P who false false true d fault f g h k e = subst P (let s : HistoryFull ≡ fault = cc in s) (h refl)
+chain P who false false false true fault f g h k e = subst P (let s : Full ≡ fault = cc in s) (k refl)
+chain P who false false false false fault f g h k e = cc
+
+both-not : (a b : Bool) → (not a && not b) ≡ true → (a ≡ false) × (b ≡ false)
+both-not true b e = cc
+both-not false true e = cc
+both-not false false e = (refl, refl)
+
+both : (a b : Bool) → (a && b) ≡ true → (a ≡ true) × (b ≡ true)
+both true b e = (refl, e)
+both false b e = cc
+
+not-and : (a b : Bool) → (not a && b) ≡ true → (a ≡ false) × (b ≡ true)
+not-and true b e = cc
+not-and false b e = (refl, e)
+
+plain-reason : (limit : ℕ) (h : List Entry) (who : ℕ) (event : Event) (fault : StepFault) (mark : Option ℕ) (others : Option (List Entry)) → refused_by h limit who event ≡ Some fault
+    → IsPlain fault × SeatRefuses fault (record { number = who; limit = limit; mark = mark; seen = h; others = others }) event
+plain-reason limit h who event fault mark others e =
+    chain (λ f. IsPlain f × SeatRefuses f (record { number = who; limit = limit; mark = mark; seen = h; others = others }) event) who
+    (not (is_join event) && not (is_here (presence_from who Away h))) (is_join event && has_joined who h) (not (is_leave event) && nat_le limit (length h)) (is_join event && is_full (run h)) fault
+    (λ a. let s = both-not (is_join event) (is_here (presence_from who Away h)) a in (tt, (refl, s.0, s.1)))
+    (λ b. let s = both (is_join event) (has_joined who h) b in (tt, (refl, s.0, s.1)))
+    (λ c. let s = not-and (is_leave event) (nat_le limit (length h)) c in (tt, (s.0, leb-true limit (length h) s.1)))
+    (λ d. let s = both (is_join event) (is_full (run h)) d in (tt, s.0)) e
+
+-- What a refusal is to the client.
+pub record IsRefusal (limit : ℕ) (h : List Entry) (who : ℕ) (event : Event) (fault : StepFault) (told told' mark' : Option ℕ) : Type 0 where
+  pub why : SeatRefuses fault (record { number = who; limit = limit; mark = told'; seen = h; others = None }) event
+  pub met : Met told' mark'
+  pub whole : IsWhole {A = Output} (Err fault) (record { number = who; limit = limit; mark = told'; seen = h; others = None })
+  pub marked : IfSome told (λ at. told' ≡ Some at)
+  pub broken : IfSome told (λ at. fault ≡ Broken at)
+
+module _ (limit : ℕ) (h : List Entry) (who : ℕ) (event : Event) where
+  abbrev Behind : StepFault → Option ℕ → Option ℕ → Type 0
+  Behind fault told mark' = IsRefusal limit h who event fault told (told_behind fault told (length h)) mark'
+
+  -- a session that was broken
+  behind-broken : (at : ℕ) (told mark' : Option ℕ) → Met told (Some at) → mark' ≡ Some at → Behind (Broken at) told mark'
+  behind-broken at told mark' met m = record { why = refl; met = inr (sym m); whole = tt; marked = by told met; broken = same told met }
+    where
+      by : (told : Option ℕ) → Met told (Some at) → IfSome told (λ k. Some at ≡ Some k)
+      by None met = tt
+      by (Some k) met = ⊎_elim (λ (e : Some k ≡ None). cc) (λ (e : Some k ≡ Some at). sym e) met
+
+      same : (told : Option ℕ) → Met told (Some at) → IfSome told (λ k. Broken at ≡ Broken k)
+      same None met = tt
+      same (Some k) met = ⊎_elim (λ (e : Some k ≡ None). cc) (λ (e : Some k ≡ Some at). let s : k ≡ at = cc in ap Broken (sym s)) met
+
+  -- one that broke
+  behind-wanting : (told mark' : Option ℕ) → told ≡ None → is_leave event ≡ false → mark' ≡ Some (length h) → Behind NoMemory told mark'
+  behind-wanting None mark' e l m = record { why = (l, (length h, refl)); met = inr (sym m); whole = tt; marked = tt; broken = tt }
+  behind-wanting (Some k) mark' e l m = cc
+
+  -- one that is whole
+  behind-plain : (fault : StepFault) (told mark' : Option ℕ) → told ≡ None → IsPlain fault × SeatRefuses fault (record { number = who; limit = limit; mark = None; seen = h; others = None }) event → Behind fault told mark'
+  behind-plain (NoClient k) None mark' e p = record { why = p.1; met = inl refl; whole = refl; marked = tt; broken = tt }
+  behind-plain (Joined k) None mark' e p = record { why = p.1; met = inl refl; whole = refl; marked = tt; broken = tt }
+  behind-plain HistoryFull None mark' e p = record { why = p.1; met = inl refl; whole = refl; marked = tt; broken = tt }
+  behind-plain Full None mark' e p = record { why = p.1; met = inl refl; whole = refl; marked = tt; broken = tt }
+  behind-plain (Broken at) None mark' e p = absurd p.0
+  behind-plain NoMemory None mark' e p = absurd p.0
+  behind-plain fault (Some k) mark' e p = cc
+
+  none-met : (told : Option ℕ) → Met told None → told ≡ None
+  none-met told met = ⊎_elim (λ (e : told ≡ None). e) (λ (e : told ≡ None). e) met
+
+  whole-refusal : (refusal : Option StepFault) → refused_by h limit who event ≡ refusal → (fault : StepFault) (told mark' : Option ℕ) → told ≡ None → IfSome refusal (λ due. fault ≡ due) → (refusal ≡ None → (fault ≡ NoMemory) × (is_leave event ≡ false))
+      → mark' ≡ marked_behind fault None (length h) → Behind fault told mark'
+  whole-refusal (Some due) r fault told mark' e why wanting m = behind-plain fault told mark' e (plain-reason limit h who event fault None None (r ∙ ap Some (sym why)))
+  whole-refusal None r fault told mark' e why wanting m =
+      let w = wanting refl in subst (λ (f : StepFault). Behind f told mark') (sym w.0) (behind-wanting told mark' e w.1 (m ∙ ap (λ (f : StepFault). marked_behind f None (length h)) w.0))
+
+  -- every refusal, by the mark that the engine had
+  any-refusal : (mark : Option ℕ) (fault : StepFault) (told mark' : Option ℕ) → Met told mark → IfSome (refused_at mark h limit who event) (λ due. fault ≡ due) → (refused_at mark h limit who event ≡ None → (fault ≡ NoMemory) × (is_leave event ≡ false))
+      → mark' ≡ marked_behind fault mark (length h) → Behind fault told mark'
+  any-refusal (Some at) fault told mark' met why wanting m =
+      subst (λ (f : StepFault). Behind f told mark') (sym why) (behind-broken at told mark' met (m ∙ ap (λ (f : StepFault). marked_behind f (Some at) (length h)) why))
+  any-refusal None fault told mark' met why wanting m = whole-refusal (refused_by h limit who event) refl fault told mark' (none-met told met) why wanting m
+
+-- what a refusal at a desk is to the client, which had met no mark but the desk's
+pub seat-refused : (home : Home Frame) (b a : PassView Entry Frame) (event : Event) (fault : StepFault) (told told' : Option ℕ) (count : ℕ) → PassRefuses whose (Answers home.frame) b a event fault → Met told b.mark
+    → count ≡ length a.seen → told' ≡ told_behind fault told count → IsRefusal home.frame.limit a.seen b.number event fault told told' a.mark
+seat-refused home b a event fault told told' count s met c t =
+    subst (λ (o : Option ℕ). IsRefusal home.frame.limit a.seen b.number event fault told o a.mark) (sym (t ∙ ap (told_behind fault told) c))
+    (any-refusal home.frame.limit a.seen b.number event s.marked fault told a.mark (met_through told b.mark s.marked met s.met) s.answer.why s.answer.wanting s.answer.mark_is)
