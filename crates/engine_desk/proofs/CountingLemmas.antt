@@ -26,9 +26,6 @@ comings-more history who event answers = sum_by-append (λ (e : Entry). if is_jo
     nothing : (a b : ℕ) → a + (0 + b) ≡ a + b
     nothing a b = omega arith
 
-pub comings-few : (history : List Entry) → comings history ≤ length history
-comings-few history = count_by-le-length (λ e. is_join e.event) history
-
 -- a filtered list is no longer
 filtered-few : (p : ℕ → Bool) (xs : List ℕ) → length (filter p xs) ≤ length xs
 filtered-few p xs = omega (arith, length-filter p xs, count_by-le-length p xs)

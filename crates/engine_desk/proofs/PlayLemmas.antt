@@ -13,9 +13,6 @@ use Rattle.engine_desk.specs.Sharing.{marked_behind}
 abbrev taken : Output → Result Output StepFault
 taken output = Ok output
 
-abbrev faulty : StepFault → Result Output StepFault
-faulty fault = Err fault
-
 module _ (who : ℕ) (event : Event) (x y : Held) where
   -- nothing refuses an event that was taken
   none-refuses : (output : Output) (refusal : Option StepFault) → IfSome refusal (λ fault. (taken output ≡ Err fault) × (y.outside ≡ x.outside)) → refusal ≡ None

@@ -1,9 +1,9 @@
 -- What the steps and the looks of a pass are to the seat of its client.
-use Rattle.std.proofs.Common.{◌≡◌, ⊎_elim, inl, ℕ, ◌+◌, Bool, true, false, List, [], ◌∷◌, ◌++◌, length, refl, sym, ap, ◌∙◌, subst, arith, append-nil, length-append}
+use Rattle.std.proofs.Common.{◌≡◌, ⊎_elim, inl, ℕ, Bool, true, false, List, [], ◌∷◌, ◌++◌, refl, sym, ap, ◌∙◌, subst}
 use Rattle.std.specs.Prelude.{if◌then◌else◌, ◌==◌, ◌&&◌, not, Some, None}
 use Rattle.std.specs.declared.option.Option.{Option}
 use Rattle.std.proofs.lemmas.Bool.{eq-eqb}
-use Rattle.session_desk.specs.Histories.{StartsWith, own as own_entries}
+use Rattle.session_desk.specs.Histories.{own as own_entries}
 use Rattle.session_desk.specs.Tokens.{Home, Place, IsOf, PassView, IsSamePass, Adds, Refuses as PassRefuses, SeesMore}
 use Rattle.session_desk.proofs.HistoryLemmas.{starts_through, none_between, met_through}
 use Rattle.session_turns.specs.Histories.{own}
@@ -87,17 +87,6 @@ sees-twice a b c same first second = record {
   own_entries = subst (λ (n : ℕ). own_entries whose n c.seen ≡ own_entries whose n b.seen) (sym same) second.own_entries ∙ first.own_entries;
   mark = met_through a.mark b.mark c.mark first.mark second.mark;
 }
-
--- where as much is seen as before, nothing came
-pub same-seen : {E : Type 0} (now seen : List E) → StartsWith now seen → length now ≡ length seen → now ≡ seen
-same-seen {E} now seen s e = s.1 ∙ nothing s.0 (none (length-append seen s.0) (ap length s.1) e)
-  where
-    none : {n : ℕ} → n ≡ length seen + length s.0 → length now ≡ n → length now ≡ length seen → length s.0 ≡ 0
-    none p q r = omega (arith, p, q, r)
-
-    nothing : (rest : List E) → length rest ≡ 0 → seen ++ rest ≡ seen
-    nothing [] z = append-nil seen
-    nothing (x ∷ rest) z = absurd (let no : length (x ∷ rest) ≡ 0 = z in omega arith)
 
 -- what the client has missed behind its own event
 pub missed-own : (limit : ℕ) (before : List Entry) (mark : Option ℕ) (who : ℕ) (event : Event) (output : Output) (after : List Entry) (marked : Option ℕ) → Takes limit before mark who event output after marked → missed_behind event ≡ has_missed who after
