@@ -1,0 +1,14 @@
+//! Links and an acceptor over a Unix socket, which stands in the current folder as `<session>.kak`: the edge of what is
+//! proved. They count their faults, and tell nothing of the bytes.
+#![tactic(auto)]
+
+pub mod acceptor;
+mod door;
+pub mod link;
+mod paths;
+
+pub use acceptor::UnixAcceptor;
+pub use link::{ClosedLink, UnixLink};
+
+#[cfg(test)]
+mod tests;
