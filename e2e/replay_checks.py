@@ -97,6 +97,9 @@ NOTES = {"notes.txt": OLD.encode()}
 # what the window shows at the end of that: each selection where it has typed, and what stood there while it was typing
 CHANGED = "".join(f"new< >{k}\n" for k in range(1977, 2000)) + "new< >2000!\n"
 CHANGING = "".join(f"ne {k}\n" for k in range(1977, 2000)) + "ne 2000!<\n>"
+# and what it shows when the last letters were typed behind all of them
+STAYING = "".join(f"new {k}\n" for k in range(1977, 2000)) + "new 2000!?<\n>"
+ABC = (0, "iabcdef<esc>gg")
 
 # the files that there are, the lines of two clients, what each is drawn last (a marked text, mode line and status), and the
 # files that are there then, with what is as before left out
@@ -117,6 +120,24 @@ BOTH = {
                                           ("A<o>ne\ntwo\n", "notes 1:2 normal 1/1", ""), ("A<o>ne\ntwo\n", "notes 1:2 normal 1/1", ""), {"notes": b"Aone\ntwo\n"}),
     "2,000 selections, while another types": (NOTES, [(0, ":edit notes.txt<ret>"), (1, ":edit notes.txt<ret>"), (0, "%s\\bold\\b<ret>c"), (0, "n"), (1, "gei!"), (0, "e"), (1, "<esc>"), (0, "w"), (0, "<esc>:write<ret>")],
                                               (CHANGED, "notes.txt 2000:4 normal 2000/2000", ""), (CHANGING, "notes.txt 2000:9 normal 1/1", ""), {"notes.txt": NEW.encode()}),
+    "texts are put in before another's cursor": ({}, [ABC, (1, "l"), (0, ":set-register dquote '' XY<ret>"), (0, ":select 1.1,1.2 1.3,1.4<ret>"), (0, "R"), (1, "")],
+                                                 ("(X)<Ye>f\n", "*scratch* 1:3 normal 2/2", ""), ("XY<e>f\n", "*scratch* 1:3 normal 1/1", ""), {}),
+    "a line is taken out beside another's cursor": ({}, [(0, "ia<ret>b<esc>gg"), (1, "jl"), (0, "jxd"), (1, "")],
+                                                    ("a<\n>", "*scratch* 1:2 normal 1/1", ""), ("a<\n>", "*scratch* 1:2 normal 1/1", ""), {}),
+    "and one is opened there": ({}, [(0, "ia<ret>b<esc>gg"), (1, "jl"), (0, "jxd"), (0, "oc"), (1, "")],
+                                ("a\nc<\n>", "*scratch* 2:2 insert 1/1", ""), ("a<\n>c\n", "*scratch* 1:2 normal 1/1", ""), {}),
+    "what another takes out merges selections": ({}, [(0, "iabcdefgh<esc>gg"), (1, ":select 1.3,1.2 1.6,1.7<ret>"), (0, ":select 1.3,1.5<ret>d"), (1, "")],
+                                                 ("ab<f>gh\n", "*scratch* 1:3 normal 1/1", ""), ("a<b>[fg]h\n", "*scratch* 1:2 normal 1/1", ""), {}),
+    "and cuts the merged one": ({}, [(0, "iabcdefgh<esc>gg"), (1, ":select 1.3,1.2 1.6,1.7<ret>"), (0, ":select 1.3,1.5<ret>d"), (0, ":select 1.2,1.2<ret>d"), (1, "")],
+                                ("a<f>gh\n", "*scratch* 1:2 normal 1/1", ""), ("a<f>[g]h\n", "*scratch* 1:2 normal 1/1", ""), {}),
+    "letters of two clients in turn": ({}, [(0, "iab<esc>gg"), (1, "l"), (0, "i"), (1, "i"), (0, "x"), (1, "y"), (0, "z"), (1, "")],
+                                       ("xz<a>yb\n", "*scratch* 1:3 insert 1/1", ""), ("xzay<b>\n", "*scratch* 1:5 insert 1/1", ""), {}),
+    "and one is taken back": ({}, [(0, "iab<esc>gg"), (1, "l"), (0, "i"), (1, "i"), (0, "x"), (1, "y"), (0, "z"), (0, "<esc>"), (1, "<esc>"), (0, "u"), (1, "")],
+                              ("x<a>yb\n", "*scratch* 1:2 normal 1/1", ""), ("xay<b>\n", "*scratch* 1:4 normal 1/1", ""), {}),
+    "what another is typing is written, and is a change of its own": (TEXT, [(0, ":edit notes<ret>"), (1, ":edit notes<ret>"), (0, "iX"), (1, ":write<ret>"), (0, "Y<esc>u"), (1, "")],
+                                                                     ("X<o>ne\ntwo\n", "notes 1:2 normal 1/1", ""), ("X<o>ne\ntwo\n", "notes 1:2 normal 1/1", ""), {"notes": b"Xone\ntwo\n"}),
+    "the last client stays with what it changed": (NOTES, [(0, ":edit notes.txt<ret>"), (1, ":edit notes.txt<ret>"), (0, "%s\\bold\\b<ret>c"), (0, "new"), (1, "gei!<esc>"), (0, "<esc>:write<ret>"), (0, QUIT), (1, "i?<esc>" + QUIT)],
+                                                   (CHANGED, "notes.txt 2000:4 normal 2000/2000", ""), (STAYING, "notes.txt 2000:11 normal 1/1", "modified buffers remain: notes.txt"), {"notes.txt": NEW.encode()}),
 }
 
 
