@@ -1,0 +1,59 @@
+//! The job of a connection.
+
+use crate::serving::serve_link;
+use client_links::Link;
+use engine_desk::SharedEngine;
+use jobs::Job;
+use kak_files::Files;
+use line_gates::Gate;
+use link_lines::Ended;
+use regex_ports::PatternMaker;
+use session_desk::{Desk, Pass};
+use std::alloc::Global;
+use std::sync::{Arc, Wait};
+
+/// A link that has just come, to be served under a pass that has no entry yet, and to be closed then.
+#[derive(Drop)]
+pub struct LinkJob<L: Link, F: Files + Drop, M: PatternMaker + Drop, G: Gate> {
+    pub alloc: Global,
+    pub desk: Arc<Desk<SharedEngine<F, M>>, Global>,
+    pub pass: Pass<SharedEngine<F, M>>,
+    /// The file that its client opens first, if one is named.
+    pub file: Option<String>,
+    pub link: L,
+    pub gate: G,
+}
+
+impl<L: Link, F: Files + Drop, M: PatternMaker + Drop, G: Gate> Job for LinkJob<L, F, M, G> {
+    ghost use Rattle.std.specs.Arc.{arc_value};
+    ghost use Rattle.std.specs.Prelude.{option_map, string_bytes};
+    ghost use Rattle.link_serving.specs.Rows.{IsReady, Serves};
+
+    /// How the link was served, the pass, and what is left of the link.
+    type Gives = (Ended, Pass<SharedEngine<F, M>>, L::Spent);
+
+    ghost ready = { λ j. IsReady (arc_value j.desk) j.pass (L.wire j.link) };
+
+    ghost gives = { λ j given. Serves (arc_value j.desk).frame.limit (option_map (λ name. string_bytes name) j.file) j.pass given.0 given.1 (L.spent given.2) };
+
+    fn run<R: Wait>(self, rt: &R) -> (Ended, Pass<SharedEngine<F, M>>, L::Spent) {
+        let LinkJob {
+            alloc,
+            desk,
+            pass,
+            file,
+            mut link,
+            mut gate,
+        } = self;
+        let (ended, pass) = serve_link(
+            rt,
+            alloc,
+            &desk,
+            pass,
+            file.as_deref(),
+            &mut link,
+            &mut gate,
+        );
+        (ended, pass, link.finish())
+    }
+}

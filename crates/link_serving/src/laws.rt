@@ -1,0 +1,18 @@
+//! A law of the rows of served links.
+
+ghost use Rattle.std.specs.Prelude.{◌≡◌, ◌++◌, ℕ, List, [], Option};
+ghost use Rattle.client_links.specs.Wires.{Wire};
+ghost use Rattle.session_desk.specs.Histories.{Met};
+ghost use Rattle.session_turns.specs.Histories.{own};
+ghost use Rattle.session_events.specs.declared.event.Entry.{Entry};
+ghost use Rattle.session_events.specs.Meaning.{rules};
+ghost use Rattle.link_lines.specs.declared.ended.Ended.{Ended};
+ghost use Rattle.kak_engine.specs.Steps.{given_by};
+ghost use Rattle.link_serving.specs.Rows.{Row};
+
+/// The row of a link goes on to hold while others go on: by each later history, in which only others have further entries,
+/// and by each later mark.
+pub fn rows_stay()
+    ensures { (limit : ℕ) (file : Option (List ℕ)) (who : ℕ) (history more : List Entry) (mark later : Option ℕ) (ended : Ended) (closed : Wire) →
+        own (rules given_by) who more ≡ [] → Met mark later → Row limit file who history mark ended closed → Row limit file who (history ++ more) later ended closed }
+{}
