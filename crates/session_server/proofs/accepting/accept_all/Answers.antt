@@ -1,0 +1,43 @@
+use Rattle.std.proofs.Common.{◌≡◌, ◌+◌, ◌≤◌, ◌<◌, ℕ, List, [], ◌∷◌, ◌++◌, length, Option, Some, IfSome, option_map, string_bytes, refl, sym, ap, ◌∙◌, subst, arith, length-append}
+use Rattle.std.specs.Arc.{arc_value}
+use Rattle.client_links.specs.Doors.{counted_on}
+use Rattle.session_desk.specs.Tokens.{PassView}
+use Rattle.session_events.specs.declared.event.Entry.{Entry}
+use Rattle.kak_engine.specs.Steps.{given_by}
+use Rattle.engine_desk.specs.Sharing.{Frame}
+use Rattle.link_serving.specs.declared.job.LinkJob.{LinkJob}
+use Rattle.session_server.specs.Hosting.{JobView, job_view, Admitted}
+use Rattle.session_server.proofs.SessionLemmas.{IsUnused, never-own, left-behind, counted-one, admitted-one, file_left, as-admitted}
+use Rattle.session_server.proofs.accepting.accept_all.Goals as goal
+
+pub returns-in-Err-start-clause-back : goal.returns-in-Err-start-clause-back
+returns-in-Err-start-clause-back g c =
+    let i = c.loop.invariant in let e = c.in-Err-start.ensures.err in let o = c.in-Ok.ensures.ok in
+    let pass_is = ap (λ (j : JobView). j.pass) o.job_is in
+    subst (λ (back : Option (PassView Entry Frame)). IfSome back (IsUnused c.args.host.now.keeper.place (length (g.P.Spawner.started c.start.new.spawner)))) (sym e.1)
+    (ap (λ (p : PassView Entry Frame). p.place) pass_is ∙ i.place,
+     ap (λ (p : PassView Entry Frame). p.number) pass_is ∙ i.made ∙ ap length (sym e.0),
+     never-own given_by c.in-Ok.job.pass.number c.in-Ok.job.pass.seen c.in-Ok.ensures.ready.new)
+
+pub loop-preserved-in_default : goal.loop-preserved-in_default
+loop-preserved-in_default g c =
+    let i = c.loop.invariant in let ok = c.in_default.ensures.ok in let o = c.in-Ok.ensures.ok in let job = c.in-Ok.job in
+    let before = g.P.Spawner.started c.loop.spawner in
+    let longer : length (g.P.Spawner.started c.start.new.spawner) ≡ length before + 1 = ap length ok.0 ∙ length-append before (job ∷ []) in
+    let made = ap (λ k. k.made) o.keeper in
+    record {
+      fit = c.start.ensures.fit;
+      home = o.home ∙ i.home;
+      place = ap (λ k. k.place) o.keeper ∙ i.place;
+      given = ap (λ k. k.given) o.keeper ∙ i.given;
+      made = made ∙ ap (λ n. n + 1) i.made ∙ sym longer;
+      most = omega (arith, longer, o.room, i.made);
+      jobs = subst (λ (js : List (LinkJob g.row.A-Link.Denot g.row.F.Denot g.row.M.Denot g.row.G.Denot g.row.A-Link-Spent.Denot g.row.M-P.Denot)). Admitted (λ j. job_view (arc_value j.desk) j.pass (option_map (λ name. string_bytes name) j.file)) c.args.host.now.home c.args.host.now.keeper.place 0 c.args.host.now.file js) (sym ok.0)
+          (admitted-one (λ j. job_view (arc_value j.desk) j.pass (option_map (λ name. string_bytes name) j.file)) c.args.host.now.home c.args.host.now.keeper.place 0 c.args.host.now.file before job i.jobs
+          (as-admitted c.args.host.now.home c.args.host.now.keeper.place c.args.host.now.file before _ _ _ o i.home i.place i.made i.file));
+      file = o.file ∙ sym (ap (λ js. file_left c.args.host.now.file js) ok.0 ∙ left-behind c.args.host.now.file before job);
+      listens = c.in-Came.ensures.comes.1 ∙ i.listens;
+      came = c.in-Came.ensures.comes.2 ∙ counted-one _ _ _ i.came ∙ ap (λ n. counted_on (g.A.Acceptor.door c.args.acceptor.now).came n) (sym longer);
+      accepts = c.in-Came.ensures.counted ∙ i.accepts;
+      spawns = ok.1 ∙ i.spawns;
+    }

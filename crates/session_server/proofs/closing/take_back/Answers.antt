@@ -1,0 +1,33 @@
+use Rattle.std.proofs.Common.{◌≡◌, [], refl, sym, ◌∙◌, subst, append-nil}
+use Rattle.std.proofs.lemmas.List.Elements.{All-rest, All-same}
+use Rattle.jobs.proofs.MeetLemmas.{grows}
+use Rattle.session_desk.specs.Tokens.{Place, IsOf, PassView}
+use Rattle.session_desk.proofs.HistoryLemmas.{starts_itself, starts_through}
+use Rattle.session_events.specs.declared.event.Entry.{Entry}
+use Rattle.link_lines.specs.declared.ended.Ended.{Ended}
+use Rattle.engine_desk.specs.Sharing.{Frame}
+use Rattle.session_server.specs.Hosting.{noted, end_of}
+use Rattle.session_server.proofs.SessionLemmas.{keeps-itself, keeps-first, noted-one, of-next}
+use Rattle.session_server.proofs.closing.take_back.Goals as goal
+
+pub loop-ended-init : goal.loop-ended-init
+loop-ended-init g c = record { place = refl; made = refl; begins = starts_itself _; mark = keeps-itself _; results = refl; given = sym (append-nil _); ends = c.new-ends.ensures.items; places = All-same (λ r. r.1.place ≡ c.args.keeper.now.place) _ _ c.into_iter-ended-iterator.ensures.into_iter_gives.0 c.requires.places }
+
+pub leave-requires-clause-pass : goal.leave-requires-clause-pass
+leave-requires-clause-pass g c =
+    let same = of-next (λ r. r.1.place ≡ c.args.keeper.now.place) _ _ _ c.in-Some.ensures.steps.0 c.loop-ended.invariant.places in
+    subst (λ (p : Place Frame). IsOf p c.args.desk.now) (sym same) c.requires.own
+
+pub loop-ended-preserved : goal.loop-ended-preserved
+loop-ended-preserved g c =
+    let i = c.loop-ended.invariant in let e = c.leave.ensures in let step = c.in-Some.ensures.steps.0 in
+    let one : Ended × PassView Entry Frame × g.row.S.Denot = (c.in-Some.ended, c.in-Some.pass, c.in-Some.closed) in record {
+      place = e.place ∙ i.place;
+      made = e.made ∙ i.made;
+      begins = starts_through _ _ _ e.begins i.begins;
+      mark = keeps-first _ _ _ _ i.mark e.mark;
+      results = grows _ _ _ _ one i.results step;
+      given = noted-one (noted {S = g.row.S.Denot}) _ _ _ c.loop-ended.yielded one e.given i.given;
+      ends = noted-one (end_of {S = g.row.S.Denot}) _ _ [] c.loop-ended.yielded one c.in_ok-push.ensures.items i.ends;
+      places = All-rest (λ r. r.1.place ≡ c.args.keeper.now.place) one _ _ step i.places;
+    }

@@ -1,0 +1,18 @@
+use Rattle.std.proofs.Common.{◌≡◌, ◌++◌, map, All}
+use Rattle.std.specs.Vec.Iter.{into_iter_items}
+use Rattle.session_desk.specs.Histories.{StartsWith}
+use Rattle.session_server.specs.Hosting.{noted, end_of, KeepsMark}
+use Rattle.session_server.proofs.closing.take_back.Given as goal
+
+-- the passes so far were given back
+abbrev pub invariant-loop-ended : goal.invariant-loop-ended
+invariant-loop-ended g l = record {
+  place : l.keeper.place ≡ l.fn.keeper.place;
+  made : l.keeper.made ≡ l.fn.keeper.made;
+  begins : StartsWith l.keeper.seen l.fn.keeper.seen;
+  mark : KeepsMark l.fn.keeper.mark l.keeper.mark;
+  results : into_iter_items l.initial.ended-iterator ≡ l.yielded ++ into_iter_items l.ended-iterator;
+  given : l.keeper.given ≡ l.fn.keeper.given ++ map noted l.yielded;
+  ends : l.ends.items ≡ map end_of l.yielded;
+  places : All (λ r. r.1.place ≡ l.fn.keeper.place) (into_iter_items l.ended-iterator);
+}

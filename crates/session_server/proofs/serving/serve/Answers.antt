@@ -1,0 +1,64 @@
+use Rattle.std.proofs.Common.{◌≡◌, ◌+◌, ◌≤◌, ◌<◌, ℕ, List, [], ◌++◌, length, map, All, Option, Some, None, option_map, string_bytes, refl, sym, ap, ◌∙◌, subst, arith, length-append}
+use Rattle.std.specs.Arc.{arc_value}
+use Rattle.client_links.specs.Doors.{counted_on}
+use Rattle.session_desk.specs.Histories.{Given}
+use Rattle.session_desk.specs.Tokens.{Home, Place, PassView, KeeperView}
+use Rattle.session_events.specs.declared.event.Entry.{Entry}
+use Rattle.engine_desk.specs.Sharing.{Frame, frame_of}
+use Rattle.link_lines.specs.declared.ended.Ended.{Ended}
+use Rattle.session_server.specs.Sessions.{Stands, IfServed, lost}
+use Rattle.session_server.specs.Hosting.{StopsFor, job_view, noted, passes_back}
+use Rattle.session_server.proofs.SessionLemmas.{places-back, session-stands, ends-count, caused-by, given-all, none-out}
+use Rattle.session_server.proofs.serving.serve.Goals as goal
+
+pub take_back-requires-clause-places : goal.take_back-requires-clause-places
+take_back-requires-clause-places g c =
+    let a = c.accept_all-stopped.ensures in let home = c.in-Ok.host.home in let place = c.in-Ok.host.keeper.place in
+    let here = places-back (λ j. job_view (arc_value j.desk) j.pass (option_map (λ name. string_bytes name) j.file)) g.A.Link.Link.spent home place 0 c.in-Ok.host.file (g.P.Spawner.started c.accept_all-stopped.new.spawner) c.in-Ok-gather.results.items c.in-Ok-gather.ensures.meet a.jobs in
+    let same = ap (λ (k : KeeperView Entry Frame). k.place) c.into_parts-desk.ensures.keeper ∙ a.place in
+    subst (λ (p : Place Frame). All (λ r. r.1.place ≡ p) c.in-Ok-gather.results.items) (sym same) here
+
+pub returns-clause-stands : goal.returns-clause-stands
+returns-clause-stands g c =
+    let a = c.accept_all-stopped.ensures in let home = c.in-Ok.host.home in let place = c.in-Ok.host.keeper.place in let new = c.in-Ok.ensures in let parts = c.into_parts-desk.ensures in
+    let jobs = g.P.Spawner.started c.accept_all-stopped.new.spawner in let back = c.accept_all-stopped.result.back in
+    let none = ap (λ (k : KeeperView Entry Frame). k.given) parts.keeper ∙ a.given ∙ new.given in
+    let given = given-all _ _ _ (map noted c.in-Ok-gather.results.items) (passes_back back) c.take_rest.ensures.given c.in-Ok-take_back.ensures.given none in
+    let made = c.take_rest.ensures.made ∙ c.in-Ok-take_back.ensures.made ∙ ap (λ (k : KeeperView Entry Frame). k.made) parts.keeper ∙ a.made in
+    let frames = c.in-Ok-close.ensures.frame ∙ ap (λ (h : Home Frame). h.frame) (c.deref-3.ensures ∙ parts.desk ∙ a.home) ∙ new.frame_is in
+    let stands = session-stands (λ j. job_view (arc_value j.desk) j.pass (option_map (λ name. string_bytes name) j.file)) g.A.Link.Link.spent home place c.in-Ok.host.file jobs c.in-Ok-gather.results.items back c.take_rest.new.keeper c.in-Ok-take_back.ends.items c.in-Ok-close.engine (frame_of c.args.engine)
+      frames new.frame_is c.in-Ok-gather.ensures.meet a.jobs given made a.back c.in-Ok-close.ensures.history c.in-Ok-take_back.ensures.ends in
+    subst (λ (name : Option (List ℕ)). Stands g.A.Link.Link.spent (frame_of c.args.engine) name c.in-Ok-take_back.ends.items c.in-Ok-close.engine) new.file_is stands
+
+pub returns-clause-cause : goal.returns-clause-cause
+returns-clause-cause g c =
+    let a = c.accept_all-stopped.ensures in let home = c.in-Ok.host.home in let place = c.in-Ok.host.keeper.place in let parts = c.into_parts-desk.ensures in
+    let jobs = g.P.Spawner.started c.accept_all-stopped.new.spawner in
+    let count = ends-count (λ j. job_view (arc_value j.desk) j.pass (option_map (λ name. string_bytes name) j.file)) g.A.Link.Link.spent home place jobs c.in-Ok-gather.results.items c.in-Ok-take_back.ends.items c.in-Ok-gather.ensures.meet c.in-Ok-take_back.ensures.ends in
+    let stops = subst (λ (k : KeeperView Entry Frame). StopsFor c.accept_all-stopped.result.why k.seen k.mark (length jobs)) (sym parts.keeper) a.why in
+    caused-by c.accept_all-stopped.result.why c.in-Ok-close.engine _ _ _ _ _ _ (length jobs) (length c.in-Ok-take_back.ends.items)
+      stops c.in-Ok-take_back.ensures.begins c.take_rest.ensures.begins c.in-Ok-close.ensures.history.begins c.in-Ok-take_back.ensures.mark c.take_rest.ensures.mark c.in-Ok-close.ensures.history.mark count
+
+pub returns-clause-most : goal.returns-clause-most
+returns-clause-most g c =
+    let a = c.accept_all-stopped.ensures in let home = c.in-Ok.host.home in let place = c.in-Ok.host.keeper.place in
+    let jobs = g.P.Spawner.started c.accept_all-stopped.new.spawner in
+    let count = ends-count (λ j. job_view (arc_value j.desk) j.pass (option_map (λ name. string_bytes name) j.file)) g.A.Link.Link.spent home place jobs c.in-Ok-gather.results.items c.in-Ok-take_back.ends.items c.in-Ok-gather.ensures.meet c.in-Ok-take_back.ensures.ends in
+    subst (λ n. n ≤ 1000000) (sym count) a.most
+
+pub returns-clause-came : goal.returns-clause-came
+returns-clause-came g c =
+    let a = c.accept_all-stopped.ensures in let home = c.in-Ok.host.home in let place = c.in-Ok.host.keeper.place in
+    let jobs = g.P.Spawner.started c.accept_all-stopped.new.spawner in
+    let count = ends-count (λ j. job_view (arc_value j.desk) j.pass (option_map (λ name. string_bytes name) j.file)) g.A.Link.Link.spent home place jobs c.in-Ok-gather.results.items c.in-Ok-take_back.ends.items c.in-Ok-gather.ensures.meet c.in-Ok-take_back.ensures.ends in
+    subst (λ n. IfServed c.accept_all-stopped.result.why ((g.A.Acceptor.door c.accept_all-stopped.new.acceptor).came ≡ counted_on (g.A.Acceptor.door c.args.acceptor.now).came (n + lost c.accept_all-stopped.result.why))) (sym count) a.came
+
+pub unreachable-requires : goal.unreachable-requires
+unreachable-requires g c =
+    let a = c.accept_all-stopped.ensures in let home = c.in-Ok.host.home in let place = c.in-Ok.host.keeper.place in let parts = c.into_parts-desk.ensures in
+    let jobs = g.P.Spawner.started c.accept_all-stopped.new.spawner in
+    let none = ap (λ (k : KeeperView Entry Frame). k.given) parts.keeper ∙ a.given ∙ c.in-Ok.ensures.given in
+    let given = given-all _ _ _ (map noted c.in-Ok-gather.results.items) (passes_back c.accept_all-stopped.result.back) c.take_rest.ensures.given c.in-Ok-take_back.ensures.given none in
+    let made = c.take_rest.ensures.made ∙ c.in-Ok-take_back.ensures.made ∙ ap (λ (k : KeeperView Entry Frame). k.made) parts.keeper ∙ a.made in
+    none-out (λ j. job_view (arc_value j.desk) j.pass (option_map (λ name. string_bytes name) j.file)) g.A.Link.Link.spent home place jobs c.in-Ok-gather.results.items (passes_back c.accept_all-stopped.result.back) c.take_rest.new.keeper.given c.take_rest.new.keeper.made _
+      c.in-Ok-gather.ensures.meet given made c.in_default-close.ensures.out.1 c.in_default-close.ensures.out.2

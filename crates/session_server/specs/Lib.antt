@@ -1,0 +1,4 @@
+pub mod Sessions
+pub mod Hosting
+pub mod Running
+pub mod Examples

@@ -1,0 +1,106 @@
+//! The links of a session, received one after another.
+
+ghost use Rattle.std.specs.Arc.{arc_value};
+ghost use Rattle.std.specs.Prelude.{◌≡◌, ◌+◌, ◌≤◌, ◌++◌, [], ◌∷◌, length, OnOk, IfErr, IfSome, option_map, string_bytes, Some, None};
+ghost use Rattle.client_links.specs.Doors.{counted_on};
+ghost use Rattle.session_desk.specs.Histories.{own};
+ghost use Rattle.link_serving.specs.Rows.{IsReady};
+ghost use Rattle.session_server.specs.Hosting.{Admitted, job_view, passes_back, IsHandedBack, StopsFor};
+ghost use Rattle.session_server.specs.Sessions.{IfServed, lost, AcceptsFor, SpawnsFor};
+
+use crate::host::Host;
+use crate::session::Served;
+use client_links::{Acceptor, Link, Next};
+use engine_desk::SharedEngine;
+use jobs::{Spawner, Started};
+use kak_files::Files;
+use line_gates::Gate;
+use link_serving::LinkJob;
+use regex_ports::PatternMaker;
+use session_desk::Pass;
+use std::sync::Wait;
+
+/// Why no further link is received, and the pass of a link that had come and isn't served.
+#[derive(Drop)]
+pub(crate) struct Stopped<F: Files + Drop, M: PatternMaker + Drop> {
+    pub why: Served,
+    pub back: Option<Pass<SharedEngine<F, M>>>,
+}
+
+// No further link is received, and all that were let in are served.
+fn stopped_by<F: Files + Drop, M: PatternMaker + Drop>(why: Served) -> Stopped<F, M>
+    ensures why { result.why ≡ why }
+    ensures back { result.back ≡ None }
+{
+    Stopped { why, back: None }
+}
+
+// Starts the serving of a link. An `Err` has the pass of one that isn't served.
+fn start<L: Link, F: Files + Drop, M: PatternMaker + Drop, G: Gate, P: Spawner<LinkJob<L, F, M, G>>>(
+    spawner: &mut P,
+    job: LinkJob<L, F, M, G>,
+) -> Result<(), Stopped<F, M>>
+    requires ready { IsReady (arc_value job.desk) job.pass (L.wire job.link) }
+    requires fit { P.fit spawner.old }
+    ensures fit { P.fit spawner.new }
+    ensures ok { OnOk result ((P.started spawner.new ≡ P.started spawner.old ++ job ∷ []) × (P.faults spawner.new ≡ P.faults spawner.old)) }
+    ensures err { IfErr result (λ stopped. (P.started spawner.new ≡ P.started spawner.old) × (stopped.back ≡ Some job.pass) × IsHandedBack stopped.why × SpawnsFor stopped.why (P.faults spawner.old) (P.faults spawner.new)) }
+{
+    match spawner.start(job) {
+        Started::Runs => Ok(()),
+        Started::Back(job) => Err(Stopped {
+            why: Served::SpawnFault,
+            back: Some(job.pass),
+        }),
+        Started::NoMemory(job) => Err(Stopped {
+            why: Served::NoMemory,
+            back: Some(job.pass),
+        }),
+    }
+}
+
+/// Receives links and starts the serving of each, until there is a reason to stop. Where none comes, it looks whether the
+/// session is over.
+pub(crate) fn accept_all<R: Wait, A: Acceptor, F: Files + Drop, M: PatternMaker + Drop, G: Gate + Clone, P: Spawner<LinkJob<A::Link, F, M, G>>>(
+    rt: &R,
+    host: &mut Host<F, M, G>,
+    acceptor: &mut A,
+    spawner: &mut P,
+) -> Stopped<F, M>
+    requires none { host.old.keeper.made ≡ 0 }
+    requires idle { P.started spawner.old ≡ [] }
+    requires fit { P.fit spawner.old }
+    ensures fit { P.fit spawner.new }
+    ensures home { host.new.home ≡ host.old.home }
+    ensures place { host.new.keeper.place ≡ host.old.keeper.place }
+    ensures given { host.new.keeper.given ≡ host.old.keeper.given }
+    ensures jobs { Admitted (λ job. job_view (arc_value job.desk) job.pass (option_map (λ name. string_bytes name) job.file)) host.old.home host.old.keeper.place 0 host.old.file (P.started spawner.new) }
+    ensures made { host.new.keeper.made ≡ length (P.started spawner.new) + length (passes_back result.back) }
+    ensures back { IfSome result.back (λ pass. (pass.place ≡ host.old.keeper.place) × (pass.number ≡ length (P.started spawner.new)) × (own (λ entry. entry.who) pass.number pass.seen ≡ [])) }
+    ensures most { length (P.started spawner.new) ≤ 1000000 }
+    ensures why { StopsFor result.why host.new.keeper.seen host.new.keeper.mark (length (P.started spawner.new)) }
+    ensures listens { (A.door acceptor.new).listens ≡ (A.door acceptor.old).listens }
+    ensures came { IfServed result.why ((A.door acceptor.new).came ≡ counted_on (A.door acceptor.old).came (length (P.started spawner.new) + lost result.why)) }
+    ensures accept_faults { AcceptsFor result.why (A.door acceptor.old).faults (A.door acceptor.new).faults }
+    ensures spawn_faults { SpawnsFor result.why (P.faults spawner.old) (P.faults spawner.new) }
+{
+    for _ in rt.forever() {
+        match acceptor.next(rt) {
+            Next::Came(link) => match host.admit(link) {
+                Ok(job) => {
+                    if let Err(stopped) = start(spawner, job) {
+                        return stopped;
+                    }
+                }
+                Err(why) => return stopped_by(why),
+            },
+            Next::Idle => {
+                if let Err(why) = host.look_in(rt) {
+                    return stopped_by(why);
+                }
+            }
+            Next::Failed => return stopped_by(Served::AcceptFault),
+        }
+    }
+    unreachable!()
+}

@@ -1,0 +1,56 @@
+//! The passes of a session, given back to the keeper of its desk once they aren't used any more.
+
+ghost use Rattle.std.specs.Prelude.{◌≡◌, ◌++◌, map, All, OnOk, IfOk, IfSome};
+ghost use Rattle.session_desk.specs.Histories.{StartsWith};
+ghost use Rattle.session_desk.specs.Tokens.{IsOf};
+ghost use Rattle.session_server.specs.Hosting.{noted, end_of, passes_back, KeepsMark};
+
+use engine_desk::SharedEngine;
+use kak_files::Files;
+use link_lines::Ended;
+use regex_ports::PatternMaker;
+use session_desk::{Desk, Keeper, Pass};
+use std::alloc::{AllocError, Global};
+
+/// Gives the passes of links that were served back to the keeper. What is left are the ends of the links, in the same order.
+pub(crate) fn take_back<F: Files + Drop, M: PatternMaker + Drop, S: Drop>(
+    alloc: Global,
+    desk: &Desk<SharedEngine<F, M>>,
+    keeper: &mut Keeper<SharedEngine<F, M>>,
+    results: Vec<(Ended, Pass<SharedEngine<F, M>>, S)>,
+) -> Result<Vec<(Ended, S)>, AllocError>
+    requires own { IsOf keeper.old.place desk.now }
+    requires places { All (λ result. result.1.place ≡ keeper.old.place) results.items }
+    ensures place { keeper.new.place ≡ keeper.old.place }
+    ensures made { keeper.new.made ≡ keeper.old.made }
+    ensures begins { OnOk result (StartsWith keeper.new.seen keeper.old.seen) }
+    ensures mark { OnOk result (KeepsMark keeper.old.mark keeper.new.mark) }
+    ensures given { OnOk result (keeper.new.given ≡ keeper.old.given ++ map noted results.items) }
+    ensures ends { IfOk result (λ ends. ends.items ≡ map end_of results.items) }
+{
+    let mut ends = Vec::new(alloc);
+    for (ended, pass, closed) in results {
+        desk.leave(keeper, pass);
+        ends.push((ended, closed))?;
+    }
+    Ok(ends)
+}
+
+/// Gives the pass of a link that isn't served back to the keeper, if there is one.
+pub(crate) fn take_rest<F: Files + Drop, M: PatternMaker + Drop>(
+    desk: &Desk<SharedEngine<F, M>>,
+    keeper: &mut Keeper<SharedEngine<F, M>>,
+    back: Option<Pass<SharedEngine<F, M>>>,
+)
+    requires own { IsOf keeper.old.place desk.now }
+    requires back { IfSome back (λ pass. pass.place ≡ keeper.old.place) }
+    ensures place { keeper.new.place ≡ keeper.old.place }
+    ensures made { keeper.new.made ≡ keeper.old.made }
+    ensures begins { StartsWith keeper.new.seen keeper.old.seen }
+    ensures mark { KeepsMark keeper.old.mark keeper.new.mark }
+    ensures given { keeper.new.given ≡ keeper.old.given ++ passes_back back }
+{
+    if let Some(pass) = back {
+        desk.leave(keeper, pass);
+    }
+}

@@ -1,0 +1,85 @@
+//! A session, served to its end.
+
+ghost use Rattle.std.specs.Prelude.{◌≡◌, ◌+◌, ◌≤◌, [], length, IsSome, IfSome, None, option_map, string_bytes};
+ghost use Rattle.client_links.specs.Doors.{counted_on};
+ghost use Rattle.engine_desk.specs.Sharing.{frame_of};
+ghost use Rattle.session_server.specs.Sessions.{IfServed, lost, AcceptsFor, SpawnsFor, Stands, CausedBy};
+
+use crate::accepting::accept_all;
+use crate::closing::{take_back, take_rest};
+use crate::host::Host;
+use crate::session::{Served, Session};
+use client_links::{Acceptor, Link};
+use engine_desk::SharedEngine;
+use jobs::Spawner;
+use kak_files::Files;
+use line_gates::Gate;
+use link_serving::LinkJob;
+use regex_ports::PatternMaker;
+use std::alloc::Global;
+use std::sync::Wait;
+
+// What is left where memory ran out.
+fn out_of_memory<F: Files + Drop, M: PatternMaker + Drop, T: Drop>(
+    alloc: Global,
+) -> (Served, Session<F, M, T>)
+    ensures why { result.0 ≡ Served.NoMemory }
+    ensures engine { result.1.engine ≡ None }
+    ensures ends { result.1.ends.items ≡ [] }
+{
+    let session = Session {
+        engine: None,
+        ends: Vec::new(alloc),
+    };
+    (Served::NoMemory, session)
+}
+
+/// Serves a session in which nothing has happened yet: each link that comes is served under a pass of its own, as the spawner
+/// runs it, and the first client opens the file, if one is named. It waits until all have ended, and gives what is left. By
+/// the history of the engine that it gives, the row of each link holds; what else holds of a history, and of the files, the
+/// engine says itself (`history`, `into_outside`).
+pub fn serve<R: Wait, A: Acceptor, F: Files + Drop, M: PatternMaker + Drop, G: Gate + Clone, P: Spawner<LinkJob<A::Link, F, M, G>>>(
+    rt: &R,
+    alloc: Global,
+    engine: SharedEngine<F, M>,
+    file: Option<String>,
+    acceptor: &mut A,
+    spawner: &mut P,
+    gate: G,
+) -> (Served, Session<F, M, <A::Link as Link>::Spent>)
+    requires entries { engine.engine.history ≡ [] }
+    requires mark { engine.engine.mark ≡ None }
+    requires idle { P.started spawner.old ≡ [] }
+    requires fit { P.fit spawner.old }
+    ensures fit { P.fit spawner.new }
+    ensures gathered { P.started spawner.new ≡ [] }
+    ensures engine { IfServed result.0 (IsSome result.1.engine) }
+    ensures stands { IfSome result.1.engine (Stands A.Link.spent (frame_of engine) (option_map (λ name. string_bytes name) file) result.1.ends.items) }
+    ensures cause { IfSome result.1.engine (CausedBy result.0 (length result.1.ends.items)) }
+    ensures most { length result.1.ends.items ≤ 1000000 }
+    ensures came { IfServed result.0 ((A.door acceptor.new).came ≡ counted_on (A.door acceptor.old).came (length result.1.ends.items + lost result.0)) }
+    ensures listens { (A.door acceptor.new).listens ≡ (A.door acceptor.old).listens }
+    ensures accept_faults { AcceptsFor result.0 (A.door acceptor.old).faults (A.door acceptor.new).faults }
+    ensures spawn_faults { SpawnsFor result.0 (P.faults spawner.old) (P.faults spawner.new) }
+{
+    let Ok(mut host) = Host::new(alloc, engine, file, gate) else {
+        return out_of_memory(alloc);
+    };
+    let stopped = accept_all(rt, &mut host, acceptor, spawner);
+    let (desk, mut keeper) = host.into_parts();
+    let Ok(results) = spawner.gather(rt) else {
+        return out_of_memory(alloc);
+    };
+    let Ok(ends) = take_back(alloc, &desk, &mut keeper, results) else {
+        return out_of_memory(alloc);
+    };
+    take_rest(&desk, &mut keeper, stopped.back);
+    let Ok(engine) = desk.close(keeper) else {
+        unreachable!()
+    };
+    let session = Session {
+        engine: Some(engine),
+        ends,
+    };
+    (stopped.why, session)
+}
