@@ -147,7 +147,7 @@ module _ {J S : Type 0} (view : J → JobView) (closed : S → Wire) (home : Hom
       subst (λ (h : Home Frame). Row h.frame.limit file who history mark r.0 (closed r.2)) one.home_is by_file
 
   rows-of : (history : List Entry) (mark : Option ℕ) (who : ℕ) (file : Option (List ℕ)) (jobs : List J) (results : List (Ended × PassView Entry Frame × S)) → Meet GivesOf jobs results → Admitted view home place who file jobs → All (HasGiven whose history) (map noted results) → All (HasMet mark) (map noted results)
-    → RowsFrom closed home.frame.limit history mark who file (map end_of results)
+      → RowsFrom closed home.frame.limit history mark who file (map end_of results)
   rows-of history mark who file [] [] met all given marks = tt
   rows-of history mark who file (j ∷ jobs) (r ∷ results) met all given marks = (
     row-of history mark who file j r met.0 all.0 (All-head (HasGiven whose history) (noted r) (map noted results) given) (All-head (HasMet mark) (noted r) (map noted results) marks),
@@ -172,9 +172,9 @@ numbers-below place history made count (Some pass) e unused given all =
 module _ {J S : Type 0} (view : J → JobView) (closed : S → Wire) (home : Home Frame) (place : Place Frame) where
   -- what stands of a session whose passes are all back
   pub session-stands : (file : Option (List ℕ)) (jobs : List J) (results : List (Ended × PassView Entry Frame × S)) (back : Option (PassView Entry Frame)) (keeper : KeeperView Entry Frame) (ends : List (Ended × S)) (shared : Shared) (frame : Frame)
-    → frame_of shared ≡ frame → home.frame ≡ frame → Meet (GivesOf view closed home place) jobs results → Admitted view home place 0 file jobs
-    → keeper.given ≡ map noted results ++ passes_back back → keeper.made ≡ length jobs + length (passes_back back) → IfSome back (IsUnused place (length jobs))
-    → Closes whose keeper shared.engine.history shared.engine.mark → ends ≡ map end_of results → Stands closed frame file ends shared
+      → frame_of shared ≡ frame → home.frame ≡ frame → Meet (GivesOf view closed home place) jobs results → Admitted view home place 0 file jobs
+      → keeper.given ≡ map noted results ++ passes_back back → keeper.made ≡ length jobs + length (passes_back back) → IfSome back (IsUnused place (length jobs))
+      → Closes whose keeper shared.engine.history shared.engine.mark → ends ≡ map end_of results → Stands closed frame file ends shared
   session-stands file jobs results back keeper ends shared frame frames at met all given made unused closes are =
       let history = shared.engine.history in
       let all_given = subst (λ (gs : List (Given Entry)). All (HasGiven whose history) gs) given closes.given in

@@ -1,1 +1,61 @@
--- placeholder
+-- What a run of a server did.
+use Rattle.std.specs.Prelude.{◌≡◌, ◌≤◌, ℕ, ◌+◌, List, length, ⊤, Option, IsSome, IfSome}
+use Rattle.kak_ports.specs.Ports.{Rose}
+use Rattle.kak_files.specs.Files.{Shelf}
+use Rattle.client_links.specs.Wires.{Wire}
+use Rattle.client_links.specs.Doors.{Door, NoneCame, counted_on}
+use Rattle.link_lines.specs.declared.ended.Ended.{Ended}
+use Rattle.kak_engine.specs.Honesty.{outside_of}
+use Rattle.engine_desk.specs.Sharing.{Frame, Shared}
+use Rattle.session_server.specs.declared.session.Served.{Served}
+use Rattle.session_server.specs.declared.session.Served.TheVariants as served
+use Rattle.session_server.specs.declared.run.ServerStatus.{ServerStatus}
+use Rattle.session_server.specs.declared.run.ServerStatus.TheVariants.{Ended as AllLeft, Usage, AcceptFault, SpawnFault, NoMemory, Broken, LinksFull, BindFault}
+use Rattle.session_server.specs.declared.run.TheConstants.{MAX_ENTRIES}
+use Rattle.session_server.specs.declared.host.TheConstants.{MAX_LINKS}
+use Rattle.session_server.specs.Sessions.{IfServed, lost, Stands, CausedBy, AcceptsFor, SpawnsFor}
+
+-- the status with which the process ends
+abbrev pub code_of : ServerStatus → ℕ
+code_of AllLeft = 0
+code_of Usage = 1
+code_of AcceptFault = 2
+code_of SpawnFault = 3
+code_of NoMemory = 4
+code_of Broken = 5
+code_of LinksFull = 6
+code_of BindFault = 7
+
+-- the status of a run, by why the serving of its session ended
+abbrev pub status_of : Served → ServerStatus
+status_of served.Ended = AllLeft
+status_of served.AcceptFault = AcceptFault
+status_of served.SpawnFault = SpawnFault
+status_of (served.Broken at) = Broken
+status_of served.LinksFull = LinksFull
+status_of served.NoMemory = NoMemory
+
+-- an engine of a server: so many entries there may be, and the outside is at first as it was handed in
+abbrev pub frame_at : Shelf → ℕ → Frame
+frame_at shelf refusals = record { limit = MAX_ENTRIES; first = outside_of shelf refusals }
+
+-- where there is no session: nothing was done, or it couldn't be listened for, which the acceptor counted; or memory was
+-- wanting. No job was started
+abbrev pub HasNone : ServerStatus → Door → Door → ℕ → ℕ → Type 0
+HasNone Usage old new before now = (new ≡ old) × (now ≡ before)
+HasNone BindFault old new before now = NoneCame old new × Rose old.faults new.faults × (now ≡ before)
+HasNone NoMemory old new before now = (new.came ≡ old.came) × (new.faults ≡ old.faults) × (now ≡ before)
+HasNone _ old new before now = ⊥
+
+-- A session was run with such an engine, whose first client opened the file, if one was named: why it ended, which the
+-- status tells, and what is left of it.
+pub record WasRun {S : Type 0} (closed : S → Wire) (frame : Frame) (file : Option (List ℕ)) (old new : Door) (before now : ℕ) (status : ServerStatus) (engine : Option Shared) (ends : List (Ended × S)) : Type 0 where
+  pub why : Served
+  pub status_is : status ≡ status_of why
+  pub given : IfServed why (IsSome engine)
+  pub stands : IfSome engine (Stands closed frame file ends)
+  pub cause : IfSome engine (CausedBy why (length ends))
+  pub most : length ends ≤ MAX_LINKS
+  pub came : IfServed why (new.came ≡ counted_on old.came (length ends + lost why))
+  pub accept_faults : AcceptsFor why old.faults new.faults
+  pub spawn_faults : SpawnsFor why before now

@@ -36,10 +36,13 @@ fn stopped_by<F: Files + Drop, M: PatternMaker + Drop>(why: Served) -> Stopped<F
 }
 
 // Starts the serving of a link. An `Err` has the pass of one that isn't served.
-fn start<L: Link, F: Files + Drop, M: PatternMaker + Drop, G: Gate, P: Spawner<LinkJob<L, F, M, G>>>(
-    spawner: &mut P,
-    job: LinkJob<L, F, M, G>,
-) -> Result<(), Stopped<F, M>>
+fn start<
+    L: Link,
+    F: Files + Drop,
+    M: PatternMaker + Drop,
+    G: Gate,
+    P: Spawner<LinkJob<L, F, M, G>>,
+>(spawner: &mut P, job: LinkJob<L, F, M, G>) -> Result<(), Stopped<F, M>>
     requires ready { IsReady (arc_value job.desk) job.pass (L.wire job.link) }
     requires fit { P.fit spawner.old }
     ensures fit { P.fit spawner.new }
@@ -61,12 +64,14 @@ fn start<L: Link, F: Files + Drop, M: PatternMaker + Drop, G: Gate, P: Spawner<L
 
 /// Receives links and starts the serving of each, until there is a reason to stop. Where none comes, it looks whether the
 /// session is over.
-pub(crate) fn accept_all<R: Wait, A: Acceptor, F: Files + Drop, M: PatternMaker + Drop, G: Gate + Clone, P: Spawner<LinkJob<A::Link, F, M, G>>>(
-    rt: &R,
-    host: &mut Host<F, M, G>,
-    acceptor: &mut A,
-    spawner: &mut P,
-) -> Stopped<F, M>
+pub(crate) fn accept_all<
+    R: Wait,
+    A: Acceptor,
+    F: Files + Drop,
+    M: PatternMaker + Drop,
+    G: Gate + Clone,
+    P: Spawner<LinkJob<A::Link, F, M, G>>,
+>(rt: &R, host: &mut Host<F, M, G>, acceptor: &mut A, spawner: &mut P) -> Stopped<F, M>
     requires none { host.old.keeper.made ≡ 0 }
     requires idle { P.started spawner.old ≡ [] }
     requires fit { P.fit spawner.old }

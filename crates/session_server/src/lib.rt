@@ -4,13 +4,13 @@
 
 mod accepting;
 mod closing;
-//pub mod examples;
+pub mod examples;
 mod host;
-//pub mod run;
+pub mod run;
 pub mod serving;
 pub mod session;
 
 pub use host::MAX_LINKS;
-//pub use run::{MAX_ENTRIES, ServerStatus, run_server};
+pub use run::{MAX_ENTRIES, ServerStatus, run_server};
 pub use serving::serve;
 pub use session::{Served, Session};

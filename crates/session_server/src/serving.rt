@@ -38,7 +38,14 @@ fn out_of_memory<F: Files + Drop, M: PatternMaker + Drop, T: Drop>(
 /// runs it, and the first client opens the file, if one is named. It waits until all have ended, and gives what is left. By
 /// the history of the engine that it gives, the row of each link holds; what else holds of a history, and of the files, the
 /// engine says itself (`history`, `into_outside`).
-pub fn serve<R: Wait, A: Acceptor, F: Files + Drop, M: PatternMaker + Drop, G: Gate + Clone, P: Spawner<LinkJob<A::Link, F, M, G>>>(
+pub fn serve<
+    R: Wait,
+    A: Acceptor,
+    F: Files + Drop,
+    M: PatternMaker + Drop,
+    G: Gate + Clone,
+    P: Spawner<LinkJob<A::Link, F, M, G>>,
+>(
     rt: &R,
     alloc: Global,
     engine: SharedEngine<F, M>,

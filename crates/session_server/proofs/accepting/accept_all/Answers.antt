@@ -14,10 +14,11 @@ pub returns-in-Err-start-clause-back : goal.returns-in-Err-start-clause-back
 returns-in-Err-start-clause-back g c =
     let i = c.loop.invariant in let e = c.in-Err-start.ensures.err in let o = c.in-Ok.ensures.ok in
     let pass_is = ap (λ (j : JobView). j.pass) o.job_is in
-    subst (λ (back : Option (PassView Entry Frame)). IfSome back (IsUnused c.args.host.now.keeper.place (length (g.P.Spawner.started c.start.new.spawner)))) (sym e.1)
-    (ap (λ (p : PassView Entry Frame). p.place) pass_is ∙ i.place,
-     ap (λ (p : PassView Entry Frame). p.number) pass_is ∙ i.made ∙ ap length (sym e.0),
-     never-own given_by c.in-Ok.job.pass.number c.in-Ok.job.pass.seen c.in-Ok.ensures.ready.new)
+    subst (λ (back : Option (PassView Entry Frame)). IfSome back (IsUnused c.args.host.now.keeper.place (length (g.P.Spawner.started c.start.new.spawner)))) (sym e.1) (
+      ap (λ (p : PassView Entry Frame). p.place) pass_is ∙ i.place,
+      ap (λ (p : PassView Entry Frame). p.number) pass_is ∙ i.made ∙ ap length (sym e.0),
+      never-own given_by c.in-Ok.job.pass.number c.in-Ok.job.pass.seen c.in-Ok.ensures.ready.new,
+    )
 
 pub loop-preserved-in_default : goal.loop-preserved-in_default
 loop-preserved-in_default g c =

@@ -27,7 +27,7 @@ returns-clause-stands g c =
     let made = c.take_rest.ensures.made ∙ c.in-Ok-take_back.ensures.made ∙ ap (λ (k : KeeperView Entry Frame). k.made) parts.keeper ∙ a.made in
     let frames = c.in-Ok-close.ensures.frame ∙ ap (λ (h : Home Frame). h.frame) (c.deref-3.ensures ∙ parts.desk ∙ a.home) ∙ new.frame_is in
     let stands = session-stands (λ j. job_view (arc_value j.desk) j.pass (option_map (λ name. string_bytes name) j.file)) g.A.Link.Link.spent home place c.in-Ok.host.file jobs c.in-Ok-gather.results.items back c.take_rest.new.keeper c.in-Ok-take_back.ends.items c.in-Ok-close.engine (frame_of c.args.engine)
-      frames new.frame_is c.in-Ok-gather.ensures.meet a.jobs given made a.back c.in-Ok-close.ensures.history c.in-Ok-take_back.ensures.ends in
+    frames new.frame_is c.in-Ok-gather.ensures.meet a.jobs given made a.back c.in-Ok-close.ensures.history c.in-Ok-take_back.ensures.ends in
     subst (λ (name : Option (List ℕ)). Stands g.A.Link.Link.spent (frame_of c.args.engine) name c.in-Ok-take_back.ends.items c.in-Ok-close.engine) new.file_is stands
 
 pub returns-clause-cause : goal.returns-clause-cause
@@ -37,7 +37,7 @@ returns-clause-cause g c =
     let count = ends-count (λ j. job_view (arc_value j.desk) j.pass (option_map (λ name. string_bytes name) j.file)) g.A.Link.Link.spent home place jobs c.in-Ok-gather.results.items c.in-Ok-take_back.ends.items c.in-Ok-gather.ensures.meet c.in-Ok-take_back.ensures.ends in
     let stops = subst (λ (k : KeeperView Entry Frame). StopsFor c.accept_all-stopped.result.why k.seen k.mark (length jobs)) (sym parts.keeper) a.why in
     caused-by c.accept_all-stopped.result.why c.in-Ok-close.engine _ _ _ _ _ _ (length jobs) (length c.in-Ok-take_back.ends.items)
-      stops c.in-Ok-take_back.ensures.begins c.take_rest.ensures.begins c.in-Ok-close.ensures.history.begins c.in-Ok-take_back.ensures.mark c.take_rest.ensures.mark c.in-Ok-close.ensures.history.mark count
+    stops c.in-Ok-take_back.ensures.begins c.take_rest.ensures.begins c.in-Ok-close.ensures.history.begins c.in-Ok-take_back.ensures.mark c.take_rest.ensures.mark c.in-Ok-close.ensures.history.mark count
 
 pub returns-clause-most : goal.returns-clause-most
 returns-clause-most g c =
@@ -61,4 +61,4 @@ unreachable-requires g c =
     let given = given-all _ _ _ (map noted c.in-Ok-gather.results.items) (passes_back c.accept_all-stopped.result.back) c.take_rest.ensures.given c.in-Ok-take_back.ensures.given none in
     let made = c.take_rest.ensures.made ∙ c.in-Ok-take_back.ensures.made ∙ ap (λ (k : KeeperView Entry Frame). k.made) parts.keeper ∙ a.made in
     none-out (λ j. job_view (arc_value j.desk) j.pass (option_map (λ name. string_bytes name) j.file)) g.A.Link.Link.spent home place jobs c.in-Ok-gather.results.items (passes_back c.accept_all-stopped.result.back) c.take_rest.new.keeper.given c.take_rest.new.keeper.made _
-      c.in-Ok-gather.ensures.meet given made c.in_default-close.ensures.out.1 c.in_default-close.ensures.out.2
+    c.in-Ok-gather.ensures.meet given made c.in_default-close.ensures.out.1 c.in_default-close.ensures.out.2

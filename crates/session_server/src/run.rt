@@ -1,0 +1,125 @@
+//! The whole of a server's program.
+
+ghost use Rattle.std.specs.Prelude.{◌≡◌, [], map, string_bytes, true, false, IfNone, IfSome, Some};
+ghost use Rattle.kak_engine.specs.Honesty.{IsUntouched};
+ghost use Rattle.server_words.specs.Words.{is_call, session_of, file_of};
+ghost use Rattle.session_server.specs.Running.{code_of, status_of, frame_at, HasNone, WasRun};
+
+use crate::serving::serve;
+use crate::session::{Served, Session};
+use client_links::{Acceptor, Bound, Link};
+use engine_desk::SharedEngine;
+use jobs::Spawner;
+use kak_files::Files;
+use line_gates::Gate;
+use link_serving::LinkJob;
+use regex_ports::PatternMaker;
+use server_words::{WordsError, read_words};
+use std::alloc::Global;
+use std::sync::Wait;
+
+/// How many entries the history may have, leavings aside: 4,000,000.
+pub const MAX_ENTRIES: u64 = 4_000_000;
+
+/// How a run of a server ended.
+#[derive(Clone, Copy, PartialEq, Eq, Debug)]
+pub enum ServerStatus {
+    /// A client had come, and none was here any more.
+    Ended,
+    /// The words aren't `-s` and a session's name, or these and a file's name. Nothing was done.
+    Usage,
+    /// Accepting failed.
+    AcceptFault,
+    /// Nobody could be made to serve a link that came.
+    SpawnFault,
+    /// Memory ran out.
+    NoMemory,
+    /// The session broke.
+    Broken,
+    /// As many links came as one session serves, and a further one.
+    LinksFull,
+    /// The session couldn't be listened for.
+    BindFault,
+}
+
+impl ServerStatus {
+    /// The status with which the process ends.
+    pub fn code(self) -> u8
+        ensures { result ≡ code_of self }
+    {
+        match self {
+            ServerStatus::Ended => 0,
+            ServerStatus::Usage => 1,
+            ServerStatus::AcceptFault => 2,
+            ServerStatus::SpawnFault => 3,
+            ServerStatus::NoMemory => 4,
+            ServerStatus::Broken => 5,
+            ServerStatus::LinksFull => 6,
+            ServerStatus::BindFault => 7,
+        }
+    }
+}
+
+// The status of a run, by why the serving of its session ended.
+fn status_of(served: Served) -> ServerStatus
+    ensures { result ≡ status_of served }
+{
+    match served {
+        Served::Ended => ServerStatus::Ended,
+        Served::AcceptFault => ServerStatus::AcceptFault,
+        Served::SpawnFault => ServerStatus::SpawnFault,
+        Served::Broken(_) => ServerStatus::Broken,
+        Served::LinksFull => ServerStatus::LinksFull,
+        Served::NoMemory => ServerStatus::NoMemory,
+    }
+}
+
+/// Runs a server: its words are to be `-s` and a session's name, with a file's name behind them where the first client is to
+/// open one. It listens for the session, and serves it to its end. The files hold what they held when they were made, where
+/// they tell it.
+pub fn run_server<
+    R: Wait,
+    A: Acceptor,
+    F: Files + Drop,
+    M: PatternMaker + Drop,
+    G: Gate + Clone,
+    P: Spawner<LinkJob<A::Link, F, M, G>>,
+>(
+    rt: &R,
+    alloc: Global,
+    words: &[String],
+    acceptor: &mut A,
+    spawner: &mut P,
+    gate: G,
+    files: F,
+    patterns: M,
+) -> (
+    ServerStatus,
+    Option<Session<F, M, <A::Link as Link>::Spent>>,
+)
+    requires untouched { IsUntouched (F.shelf files).told }
+    requires idle { P.started spawner.old ≡ [] }
+    requires fit { P.fit spawner.old }
+    ensures fit { P.fit spawner.new }
+    ensures gathered { P.started spawner.new ≡ [] }
+    ensures refused { is_call (map (λ word. string_bytes word) words.now) ≡ false → result.0 ≡ ServerStatus.Usage }
+    ensures taken { is_call (map (λ word. string_bytes word) words.now) ≡ true → result.0 ≡ ServerStatus.Usage → ⊥ }
+    ensures none { IfNone result.1 (HasNone result.0 (A.door acceptor.old) (A.door acceptor.new) (P.faults spawner.old) (P.faults spawner.new)) }
+    ensures listens { IfSome result.1 (λ session. (A.door acceptor.new).listens ≡ Some (session_of (map (λ word. string_bytes word) words.now))) }
+    ensures run { IfSome result.1 (λ session. WasRun A.Link.spent (frame_at (F.shelf files) (M.refusals patterns)) (file_of (map (λ word. string_bytes word) words.now)) (A.door acceptor.old) (A.door acceptor.new) (P.faults spawner.old) (P.faults spawner.new) result.0 session.engine session.ends.items) }
+{
+    let named = match read_words(alloc, words) {
+        Ok(named) => named,
+        Err(WordsError::Usage) => return (ServerStatus::Usage, None),
+        Err(WordsError::NoMemory) => return (ServerStatus::NoMemory, None),
+    };
+    match acceptor.bind(rt, named.session.as_str()) {
+        Bound::Up => {}
+        Bound::Failed => return (ServerStatus::BindFault, None),
+    }
+    let Ok(engine) = SharedEngine::new(alloc, files, patterns, MAX_ENTRIES) else {
+        return (ServerStatus::NoMemory, None);
+    };
+    let (served, session) = serve(rt, alloc, engine, named.file, acceptor, spawner, gate);
+    (status_of(served), Some(session))
+}
