@@ -106,11 +106,12 @@ def letters(who):
     return [chr(0x4E00 + 100 * who + number) for number in range(24)]
 
 
-def all_answered(report, name, clients):
+def type_letters(report, name, clients):
     """Each types its letters and waits for nobody; at last they see the same."""
     for who, client in enumerate(clients):
         client.send(b"".join(keys_line(key) for key in ["i", *letters(who), "<ret>", "<esc>"]))
-    report.check(f"server: {name}: all are answered", [True] * len(clients), [client.until(" normal ") != b"" for client in clients])
+    report.check(f"server: {name}: all type", set(), {client.until(" insert ") == b"" for client in clients} - {False})
+    report.check(f"server: {name}: all are answered", set(), {client.until(" normal ") == b"" for client in clients} - {False})
     settle(clients)
     for client in clients:
         client.send(keys_line("gg"))
@@ -123,7 +124,7 @@ def at_once(place, report, count):
     name = f"{count} at once"
     server = place.serve()
     clients = server.clients(count)
-    all_answered(report, name, clients)
+    type_letters(report, name, clients)
     clients[0].send(keys_line(":write all<ret>"))
     settle(clients)
     text = (place.folder / "all").read_text()

@@ -8,6 +8,7 @@ import termios
 import time
 
 from connections import REFRESH, SECONDS, Place, play, settle, text_of
+from document_checks import protocol_pages, shown_lines
 from drawings import CURSOR, CURSOR_ON_NEWLINE, DEFAULT, INVALID, METHOD, OPENING, PARAMS, PARSE, TOO_LONG, atom, drawing, key, keys_line, opening
 from edit_checks import last_drawing
 from file_checks import FOLDER as COMMANDS, files_of, words_of
@@ -99,13 +100,14 @@ def two_clients(place, report):
     report.check_output("server: the first is drawn its coming", at(0, HI, "1:3", (0, 2)), first.next())
     report.check("server: drawings of others are nothing to be drawn", (True, True), (first.is_quiet(), second.is_quiet()))
     report.check("server: what the second types", ("!<h>i\n", "*scratch* 1:2 normal 1/1 - client1", ""), last_drawing(second.play("i!<esc>")))
-    report.check("server: the first is drawn that, unasked", ("!hi<\n>", "*scratch* 1:4 normal 1/1 - client0", ""), first.sees("!hi\n"))
+    shown = b"".join(shown_lines(protocol_pages()[1]))
+    report.check_output("server: the first is drawn that, unasked, as docs/PROTOCOL.md shows it", shown, first.until('"!hi"'))
     settle([first])
     report.check("server: and types", ("!hi?<\n>", "*scratch* 1:5 normal 1/1 - client0", ""), last_drawing(first.play("i?<esc>")))
     report.check("server: which the second is drawn", ("!<h>i?\n", "*scratch* 1:2 normal 1/1 - client1", ""), second.sees("!hi?\n"))
     settle([second])
     first.close()
-    report.check_output("server: one hangs up", b"!", text_of(second.next()).encode()[:1])
+    report.check("server: one hangs up, and what it typed stays", "!hi?\n", text_of(second.next()))
     second.send(keys_line(QUIT) + keys_line("ilater<esc>"))
     report.check("server: one quits, and a line behind that isn't played", "!hi?\n", text_of(second.rest()))
     report.check("server: all have left", (0, b""), server.end())
@@ -180,7 +182,8 @@ def came_and_went(place, report):
     for _ in range(100):
         server.client().close()
     settle([other])
-    report.check("server: a hundred who came and went", "hi<\n>", last_drawing(other.play("ihi<esc>"))[0])
+    other.send(keys_line("ihi<esc>"))
+    report.check("server: a hundred who came and went", "hi<\n>", other.sees("hi\n")[0])
     report.check("server: nobody else is here", "client1", name_of(server.client().next()))
 
 
