@@ -16,10 +16,16 @@ def shown_lines(text):
             if line.startswith((b'{"jsonrpc"', b'{"error"')) and b'"method":"keys"' not in line]
 
 
+def protocol_pages():
+    """The page of the protocol: what it tells of one client over pipes, and of many over a socket."""
+    first, _, second = (TOP / "docs/PROTOCOL.md").read_text().partition("\n## Servers\n")
+    return first, second
+
+
 def run(program, report):
     ended = run_whole(program, ["-ui", "json"], b"".join(PROTOCOL_SESSION))
     written = set(ended.output.splitlines(True))
-    lines = shown_lines((TOP / "docs/PROTOCOL.md").read_text())
+    lines = shown_lines(protocol_pages()[0])
     report.check("docs/PROTOCOL.md shows lines", True, bool(lines))
     for line in lines:
         report.check(f"docs/PROTOCOL.md: the program writes the line {line!r}", True, line in written)
