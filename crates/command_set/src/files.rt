@@ -106,7 +106,7 @@ fn load(
         return Err(EditError::Command(CommandError::TooManyBuffers));
     }
     let Loaded { text, eol, bom } = loaded;
-    let n = open(alloc, world, name, Lines::of_text(alloc, &text)?)?;
+    let n = open(alloc, world, name, text)?;
     set_format(alloc, world, n, eol, bom)?;
     world.show(alloc, who, n)?;
     Ok(Ask::Nothing)

@@ -1,14 +1,13 @@
 -- Line ends, one character after another.
-use Rattle.std.proofs.Common.{◌≡◌, ◌≢◌, ℕ, suc, ◌+◌, ◌-◌, ◌<◌, ◌≤◌, Bool, true, false, cond, ◌&&◌, ◌||◌, ◌==◌, List, [], ◌∷◌, ◌++◌, length, take, min, ◌^◌, slice_index, refl, sym, ap, ◌∙◌, arith, true≢false}
+use Rattle.std.proofs.Common.{◌≡◌, ◌≢◌, ℕ, suc, ◌+◌, ◌-◌, ◌<◌, ◌≤◌, Bool, true, false, cond, ◌&&◌, ◌||◌, ◌==◌, List, [], ◌∷◌, ◌++◌, length, min, ◌^◌, slice_index, refl, sym, ap, ◌∙◌, arith, true≢false}
 use Rattle.std.proofs.lemmas.Bool.{eqb-true}
-use Rattle.std.proofs.lemmas.List.{length-append}
-use Rattle.std.proofs.Math.Seq.{take-append_seam}
+use Rattle.std.proofs.lemmas.List.{length-append, take_at}
 use Rattle.std.specs.Str.{chars, IsUtf8}
 use Rattle.std.proofs.lemmas.Str.{length-le-encodes, encodes-chars}
 use Rattle.std.proofs.lemmas.Bool.Decides.{nat_tests}
 use Rattle.text_coding.specs.declared.decoding.Survey.{Survey}
 use Rattle.text_model.specs.Texts.{ends_in_newline}
-use Rattle.text_model.specs.Changes.{ended}
+use Rattle.text_model.specs.Changes.{ended, front}
 use Rattle.text_model.proofs.ChangeLemmas.{ended-text, ended-other}
 use Rattle.text_coding.specs.declared.form.Eol.{Eol}
 use Rattle.text_coding.specs.declared.form.Eol.TheVariants.{Lf, Crlf}
@@ -30,6 +29,10 @@ and-true false = refl
 or-false : (x : Bool) → (x || false) ≡ x
 or-false true = refl
 or-false false = refl
+
+-- what stands before the last character
+pub front-push : (xs : List ℕ) (x : ℕ) → front (xs ++ x ∷ []) ≡ xs
+front-push xs x = take_at xs (x ∷ []) (length (xs ++ x ∷ []) - 1) (omega (arith, length-append xs (x ∷ [])))
 
 -- whether one character more keeps that each newline has a return
 abbrev pub is_returned : ℕ → ℕ → Bool
@@ -153,17 +156,11 @@ pushed-plain items new before cs other held last pushed =
     pushed ∙ ap (λ r. r ++ 10 ∷ []) held
     ∙ sym (without-push_plain 0 cs (ap (λ n. n == 13) (sym last) ∙ test-false before 13 other))
 
-all_but_last : (front : List ℕ) (x n : ℕ) → n ≡ length (front ++ x ∷ []) → take (n - 1) (front ++ x ∷ []) ≡ front
-all_but_last front x n count =
-    let one_less : n - 1 ≡ length front = omega (arith, count, length-append front (x ∷ [])) in
-    rw one_less (take-append_seam front (x ∷ []))
-
-pub pushed-joined : (items mid new : List ℕ) (n : ℕ) (cs : List ℕ) → items ≡ without_returns cs → 13 ≡ last_of 0 cs → n ≡ length items → mid ≡ take (n - 1) items → new ≡ mid ++ 10 ∷ [] → new ≡ without_returns (cs ++ 10 ∷ [])
-pushed-joined items mid new n cs held last count popped pushed =
+pub pushed-joined : (items new : List ℕ) (cs : List ℕ) → items ≡ without_returns cs → 13 ≡ last_of 0 cs → new ≡ front items ++ 10 ∷ [] → new ≡ without_returns (cs ++ 10 ∷ [])
+pushed-joined items new cs held last replaced =
     let j = without-push_last cs last in
-    let ends : items ≡ j.front ++ 13 ∷ [] = held ∙ j.before in
-    let front : mid ≡ j.front = popped ∙ ap (take (n - 1)) ends ∙ all_but_last j.front 13 n (count ∙ ap length ends) in
-    pushed ∙ ap (λ r. r ++ 10 ∷ []) front ∙ sym j.after
+    let rest : front items ≡ j.front = ap front (held ∙ j.before) ∙ front-push j.front 13 in
+    replaced ∙ ap (λ r. r ++ 10 ∷ []) rest ∙ sym j.after
 
 cond-le : (b : Bool) (x : ℕ) (cs : List ℕ) (n : ℕ) → length cs ≤ n → length (cond b cs (x ∷ cs)) ≤ suc n
 cond-le true x cs n le = omega (arith, le)

@@ -1,4 +1,5 @@
 pub mod FormLemmas
+pub mod FillLemmas
 pub mod LoadLemmas
 pub mod SaveLemmas
 pub mod InverseLemmas

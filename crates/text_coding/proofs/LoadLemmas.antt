@@ -1,21 +1,18 @@
 -- What bytes are loaded as, by what was found of them.
-use Rattle.std.proofs.Common.{◌≡◌, ℕ, ◌+◌, ◌<◌, ◌≤◌, Bool, true, false, cond, ◌==◌, List, [], ◌∷◌, ◌++◌, length, Result, Ok, Err, IsOk, nat_le, refl, sym, ap, ◌∙◌, subst, arith, IsUtf8, chars}
+use Rattle.std.proofs.Common.{◌≡◌, ℕ, ◌+◌, ◌<◌, ◌≤◌, Bool, true, false, cond, List, length, Result, Ok, Err, IsOk, nat_le, refl, sym, ap, ◌∙◌, subst, arith, IsUtf8, chars}
 use Rattle.std.specs.Str.{is_utf8}
 use Rattle.std.specs.Str.Lossy.{utf8_valid_len}
 use Rattle.std.proofs.lemmas.Str.{is_utf8-from_IsUtf8, IsUtf8-from_is_utf8}
 use Rattle.std.proofs.lemmas.Bool.{le-leb}
 use Rattle.std.proofs.lemmas.Bool.Decides.{nat_tests}
 use Rattle.text_model.specs.declared.TheConstants.{MAX_CHARS}
-use Rattle.text_model.specs.Texts.{IsText, IsStored, ends_in_newline}
 use Rattle.text_model.specs.Changes.{ended}
-use Rattle.text_model.proofs.ChangeLemmas.{ended-text, ended-other, ends_is_text}
 use Rattle.text_coding.specs.declared.form.Eol.{Eol}
 use Rattle.text_coding.specs.declared.form.Bom.{Bom}
 use Rattle.text_coding.specs.declared.form.Loaded.{Loaded}
 use Rattle.text_coding.specs.declared.form.DecodeError.{DecodeError}
 use Rattle.text_coding.specs.declared.form.DecodeError.TheVariants.{NotUtf8, TextFull}
 use Rattle.text_coding.specs.Coding.{mark_of, bom_of, body, eol_of, from_form, text_from, fitting, loaded, IsDecoded}
-use Rattle.text_coding.proofs.FormLemmas.{last-push, ends-last}
 
 fits : (text : List ℕ) → length text ≤ MAX_CHARS → nat_le (length text) MAX_CHARS ≡ true
 fits text le = le-leb (length text) MAX_CHARS le
@@ -35,17 +32,6 @@ fitting-some cs eol bom n form count few =
 
 pub fitting-ok : (cs : List ℕ) (eol : Eol) (bom : Bom) (n : ℕ) → eol ≡ eol_of cs → n ≡ length (ended (from_form eol cs)) → n ≤ MAX_CHARS → IsOk (fitting (text_from cs) (eol_of cs) bom)
 fitting-ok cs eol bom n form count few = let P : Result Loaded DecodeError → Type 0 = λ r. IsOk r in subst P (sym (fitting-some cs eol bom n form count few)) refl
-
--- characters with a newline at their end are a text
-ended-ends : (s : List ℕ) (b : Bool) → ends_in_newline s ≡ b → ends_in_newline (ended s) ≡ true
-ended-ends s true ends = ap ends_in_newline (ended-text s ends) ∙ ends
-ended-ends s false ends = ap ends_in_newline (ended-other s ends) ∙ ends-last (s ++ 10 ∷ []) ∙ ap (λ n. n == 10) (last-push 0 s 10)
-
-pub stored : (items s : List ℕ) (n : ℕ) → items ≡ ended s → n ≡ length (ended s) → n ≤ MAX_CHARS → IsStored items
-stored items s n made count few = record {
-  is_text = subst IsText (sym made) (ends_is_text (ended s) (ended-ends s (ends_in_newline s) refl));
-  small = omega (arith, ap length made, count, few);
-}
 
 -- what bytes are loaded as, where they are UTF-8 and where they aren't
 pub loaded-text : (bytes text : List ℕ) (bom : Bom) (r : Result Loaded DecodeError) → text ≡ body bytes → IsUtf8 text → bom ≡ bom_of bytes → IsDecoded r (fitting (text_from (chars text)) (eol_of (chars text)) bom) → IsDecoded r (loaded bytes)

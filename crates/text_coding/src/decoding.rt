@@ -1,14 +1,15 @@
 //! Texts from the bytes of files.
 
 ghost use Rattle.std.specs.Prelude.{◌≡◌, ◌+◌, ◌^◌, ◌<◌, ◌≤◌, ℕ, List, ◌++◌, ◌∷◌, [], length, chars, IfOk, OnOk};
-ghost use Rattle.text_model.specs.Texts.{ends_in_newline};
 ghost use Rattle.text_model.specs.Changes.{ended};
 ghost use Rattle.text_coding.specs.Coding.{mark_of, bom_of, body, eol_of, from_form, text_from, without_returns, fitting, loaded, IsDecoded};
 ghost use Rattle.text_coding.specs.Surveying.{IsSurvey, last_of};
 
+use crate::filling::Filling;
 use crate::form::{Bom, DecodeError, Eol, Loaded};
-use kak_text::{MAX_CHARS, Text};
-use std::alloc::{AllocError, Global};
+use kak_text::MAX_CHARS;
+use line_buffer::{Lines, LinesError};
+use std::alloc::Global;
 
 // The mark of the byte order in UTF-8.
 const UTF8_MARK: [u8; 3] = [0xEF, 0xBB, 0xBF];
@@ -75,45 +76,47 @@ fn survey_of(text: &str) -> Survey
     survey
 }
 
-// Adds a character behind those of which the last is `before`. A return before a newline is taken out again.
-fn push_joined(items: &mut Vec<char>, before: char, c: char) -> Result<(), AllocError>
-    ensures { OnOk result ((cs : List ℕ) → items.old.items ≡ without_returns cs → before ≡ last_of 0 cs → items.new.items ≡ without_returns (cs ++ c ∷ [])) }
+// Adds a character behind those of which the last is `before`. A newline takes the place of a return before it.
+fn push_joined(
+    alloc: Global,
+    filling: &mut Filling,
+    before: char,
+    c: char,
+) -> Result<(), LinesError>
+    ensures { OnOk result ((cs : List ℕ) → filling.old ≡ without_returns cs → before ≡ last_of 0 cs → filling.new ≡ without_returns (cs ++ c ∷ [])) }
 {
     if c != '\n' {
-        items.push(c)?;
-        return Ok(());
+        return filling.push(alloc, c);
     }
     if before != '\r' {
-        items.push(c)?;
-        return Ok(());
+        return filling.push(alloc, c);
     }
-    items.pop();
-    items.push(c)?;
+    filling.replace_last(c);
     Ok(())
 }
 
-// The characters of a file without the returns that stand before newlines, in room for so many.
-fn joined_chars(alloc: Global, text: &str, room: usize) -> Result<Vec<char>, AllocError>
-    ensures { IfOk result (λ v. v.items ≡ without_returns (chars text.now)) }
+// The characters of a file without the returns that stand before newlines.
+fn joined_chars(alloc: Global, text: &str) -> Result<Filling, LinesError>
+    ensures { IfOk result (λ filling. filling ≡ without_returns (chars text.now)) }
 {
-    let mut items = Vec::with_capacity(alloc, room)?;
+    let mut filling = Filling::new(alloc)?;
     let mut before = '\0';
     for c in text.chars() {
-        push_joined(&mut items, before, c)?;
+        push_joined(alloc, &mut filling, before, c)?;
         before = c;
     }
-    Ok(items)
+    Ok(filling)
 }
 
-// The characters of a file, in room for so many.
-fn plain_chars(alloc: Global, text: &str, room: usize) -> Result<Vec<char>, AllocError>
-    ensures { IfOk result (λ v. v.items ≡ chars text.now) }
+// The characters of a file.
+fn plain_chars(alloc: Global, text: &str) -> Result<Filling, LinesError>
+    ensures { IfOk result (λ filling. filling ≡ chars text.now) }
 {
-    let mut items = Vec::with_capacity(alloc, room)?;
+    let mut filling = Filling::new(alloc)?;
     for c in text.chars() {
-        items.push(c)?;
+        filling.push(alloc, c)?;
     }
-    Ok(items)
+    Ok(filling)
 }
 
 impl Survey {
@@ -149,26 +152,15 @@ impl Survey {
     }
 }
 
-// Puts a newline behind characters that lack one at their end.
-fn end_with_newline(items: &mut Vec<char>) -> Result<(), AllocError>
-    ensures { OnOk result (items.new.items ≡ ended items.old.items) }
+// The lines of the text of a file whose lines end so.
+fn text_lines(alloc: Global, text: &str, eol: Eol) -> Result<Lines, LinesError>
+    ensures { IfOk result (λ lines. lines ≡ ended (from_form eol (chars text.now))) }
 {
-    if items.as_slice().last() != Some(&'\n') {
-        items.push('\n')?;
-    }
-    Ok(())
-}
-
-// The characters of the text of a file whose lines end so, in room for so many.
-fn text_chars(alloc: Global, text: &str, eol: Eol, room: usize) -> Result<Vec<char>, AllocError>
-    ensures { IfOk result (λ v. v.items ≡ ended (from_form eol (chars text.now))) }
-{
-    let mut items = match eol {
-        Eol::Lf => plain_chars(alloc, text, room)?,
-        Eol::Crlf => joined_chars(alloc, text, room)?,
+    let filling = match eol {
+        Eol::Lf => plain_chars(alloc, text)?,
+        Eol::Crlf => joined_chars(alloc, text)?,
     };
-    end_with_newline(&mut items)?;
-    Ok(items)
+    filling.finish(alloc)
 }
 
 // The mark that bytes begin with.
@@ -210,24 +202,19 @@ fn load_text(alloc: Global, text: &str, bom: Bom) -> Result<Loaded, DecodeError>
 {
     let survey = survey_of(text);
     let eol = survey.eol();
-    let room = survey.text_len(eol);
-    if room > MAX_CHARS {
+    if survey.text_len(eol) > MAX_CHARS {
         return Err(DecodeError::TextFull);
     }
-    match text_chars(alloc, text, eol, room) {
-        Ok(items) => Ok(Loaded {
-            text: Text::of_vec(items),
-            eol,
-            bom,
-        }),
+    match text_lines(alloc, text, eol) {
+        Ok(text) => Ok(Loaded { text, eol, bom }),
         Err(_) => Err(DecodeError::NoMemory),
     }
 }
 
 /// The text that the bytes of a file are, and its form. A mark of the byte order is no part of it. Where each newline has
 /// a carriage return before it, these belong to the line ends, and otherwise to the text. A text without a last newline
-/// gets one. Where the bytes aren't UTF-8 that is said first. The bytes are gone over three times, and not copied; the
-/// text takes the room that it needs and no more.
+/// gets one. Where the bytes aren't UTF-8 that is said first. The bytes are gone over three times; their characters go
+/// into the text's lines piece by piece, and are never held beside them as a whole.
 pub fn decode(alloc: Global, bytes: &[u8]) -> Result<Loaded, DecodeError>
     ensures { IsDecoded result (loaded bytes.now) }
 {

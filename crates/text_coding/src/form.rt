@@ -3,7 +3,7 @@
 ghost use Rattle.std.specs.Prelude.{◌≡◌};
 ghost use Rattle.text_coding.specs.declared.form.DecodeError.TheVariants.{NoMemory};
 
-use kak_text::Text;
+use line_buffer::Lines;
 use std::alloc::AllocError;
 
 /// How lines end in a file.
@@ -27,8 +27,8 @@ pub enum Bom {
 /// What the bytes of a file are loaded as.
 #[derive(Drop, Debug)]
 pub struct Loaded {
-    /// The text.
-    pub text: Text,
+    /// The text, in lines.
+    pub text: Lines,
     /// How its lines ended.
     pub eol: Eol,
     /// What stood before it.

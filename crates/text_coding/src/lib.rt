@@ -3,6 +3,7 @@
 
 pub mod decoding;
 pub mod encoding;
+mod filling;
 pub mod form;
 pub mod laws;
 

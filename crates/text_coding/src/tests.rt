@@ -1,26 +1,22 @@
 use crate::decoding::decode;
 use crate::encoding::encode;
 use crate::form::{Bom, DecodeError, Eol};
-use line_buffer::Lines;
 use std::alloc::Global;
 use std::test::Fail;
 
-// What bytes are loaded as, and whether the text takes the room that it needs and no more.
-fn load(
-    alloc: Global,
-    bytes: &[u8],
-) -> Result<Result<(String, Eol, Bom, bool), DecodeError>, Fail> {
+// What bytes are loaded as.
+fn load(alloc: Global, bytes: &[u8]) -> Result<Result<(String, Eol, Bom), DecodeError>, Fail> {
     let loaded = match decode(alloc, bytes) {
         Ok(loaded) => loaded,
         Err(error) => return Ok(Err(error)),
     };
-    let chars = loaded.text.into_vec();
     let mut text = String::new(alloc);
-    for c in chars.as_slice() {
-        text.push(*c)?;
+    for n in 0..loaded.text.line_count() {
+        for c in loaded.text.line(n) {
+            text.push(*c)?;
+        }
     }
-    let exact = chars.capacity() == chars.len();
-    Ok(Ok((text, loaded.eol, loaded.bom, exact)))
+    Ok(Ok((text, loaded.eol, loaded.bom)))
 }
 
 #[test]
@@ -48,7 +44,6 @@ fn bytes_are_loaded_by_their_form(rt: HostRuntime) -> Result<(), Fail> {
         assert_eq!(rt; loaded.0.as_bytes(), text);
         assert_eq!(rt; loaded.1, eol, "at {bytes:?}");
         assert_eq!(rt; loaded.2, bom, "at {bytes:?}");
-        assert!(rt; loaded.3, "at {bytes:?}");
     }
     Ok(())
 }
@@ -88,10 +83,41 @@ fn a_text_is_saved_in_its_form(rt: HostRuntime) -> Result<(), Fail> {
             assert!(rt; false);
             return Ok(());
         };
-        let lines = Lines::of_text(alloc, &loaded.text)?;
-        let saved = encode(alloc, &lines, loaded.eol, loaded.bom)?;
+        let saved = encode(alloc, &loaded.text, loaded.eol, loaded.bom)?;
         assert_eq!(rt; saved.as_slice(), bytes);
         assert_eq!(rt; saved.capacity(), saved.len());
+    }
+    Ok(())
+}
+
+// A file of so many copies of some bytes.
+fn copies(alloc: Global, count: usize, bytes: &[u8]) -> Result<Vec<u8>, Fail> {
+    let mut all = Vec::new(alloc);
+    for _ in 0..count {
+        all.extend_from_slice(bytes)?;
+    }
+    Ok(all)
+}
+
+#[test]
+fn a_long_text_comes_in_pieces(rt: HostRuntime) -> Result<(), Fail> {
+    let alloc = rt.alloc();
+    let rows: [(&[u8], usize, usize, bool); 2] = [
+        (b"abcde\r\n", 12_000, 12_000, true),
+        (b"a\rb", 24_000, 1, false),
+    ];
+    for (bytes, count, lines, ended) in rows {
+        let mut file = copies(alloc, count, bytes)?;
+        let Ok(loaded) = decode(alloc, file.as_slice()) else {
+            assert!(rt; false);
+            return Ok(());
+        };
+        if !ended {
+            file.push(b'\n')?;
+        }
+        assert_eq!(rt; loaded.text.line_count(), lines);
+        let saved = encode(alloc, &loaded.text, loaded.eol, loaded.bom)?;
+        assert!(rt; saved.as_slice() == file.as_slice());
     }
     Ok(())
 }
