@@ -1,2 +1,4 @@
 pub mod RegularLemmas
 pub mod SpanLemmas
+pub mod GroupLemmas
+pub mod SeriesLemmas

@@ -1,2 +1,6 @@
 pub mod Matching
+pub mod Grouping
+pub mod Series
 pub mod Making
+pub mod Laws
+pub mod Examples

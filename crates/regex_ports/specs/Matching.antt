@@ -1,5 +1,5 @@
 -- What a pattern finds in a text.
-use Rattle.std.specs.Prelude.{ℕ, true, List, [], map, Option, Some, None}
+use Rattle.std.specs.Prelude.{ℕ, Bool, true, false, List, [], ◌∷◌, map, Option, Some, None}
 use Rattle.std.specs.Str.{chars}
 use Rattle.regex.specs.Patterns.{Re, Config, default_config, find_all_str, span}
 use Rattle.regex_syntax.specs.Brackets.{Nested}
@@ -22,3 +22,12 @@ found_by (Some (re, names)) text = map span_of (map span (find_all_str re.value 
 -- the matches of the pattern that a text is
 abbrev pub matches_of : List ℕ → List ℕ → List Span
 matches_of source text = found_by (read options (chars source)) text
+
+-- whether there is a match among some
+abbrev pub is_some_span : List Span → Bool
+is_some_span [] = false
+is_some_span (s ∷ ss) = true
+
+-- whether the pattern that a text is has a match in another one, an empty match and one at its end too
+abbrev pub is_found_in : List ℕ → List ℕ → Bool
+is_found_in source text = is_some_span (matches_of source text)

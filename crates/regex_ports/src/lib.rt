@@ -2,15 +2,19 @@
 //! expressions, and a maker that refuses planned patterns.
 #![tactic(auto)]
 
+mod grouping;
+pub mod laws;
 pub mod maker;
 pub mod pattern;
 pub mod refusing;
 pub mod regular;
+pub mod texts;
 
 pub use maker::{Made, PatternMaker};
-pub use pattern::{Pattern, Span};
+pub use pattern::{Groups, Pattern, Span};
 pub use refusing::RefusingMaker;
 pub use regular::{RegexMaker, RegexPattern};
+pub use texts::Texts;
 
 #[cfg(test)]
 mod tests;

@@ -1,8 +1,10 @@
 //! What a pattern finds.
 
-ghost use Rattle.std.specs.Prelude.{◌≡◌, ℕ, List, IfOk};
-ghost use Rattle.regex_ports.specs.Matching.{matches_of};
+ghost use Rattle.std.specs.Prelude.{◌≡◌, ℕ, List, map, IfOk};
+ghost use Rattle.regex_ports.specs.Matching.{matches_of, is_found_in};
+ghost use Rattle.regex_ports.specs.Grouping.{groups_of, spans_of};
 
+use crate::texts::Texts;
 use std::alloc::{AllocError, Global};
 
 /// A range of a text, in bytes: its first, and the one behind its last.
@@ -10,6 +12,13 @@ use std::alloc::{AllocError, Global};
 pub struct Span {
     pub start: usize,
     pub end: usize,
+}
+
+/// The groups of a match.
+#[derive(Drop, Debug)]
+pub struct Groups {
+    /// At 0 the match itself, and at n its n-th group, if it took part.
+    pub spans: Vec<Option<Span>>,
 }
 
 /// A pattern, which was made of a text.
@@ -21,4 +30,13 @@ pub trait Pattern: Drop {
     /// `$` match at the ends of lines, and `.` matches a newline.
     fn matches(&self, alloc: Global, text: &str) -> Result<Vec<Span>, AllocError>
         ensures { IfOk result (λ spans. spans.items ≡ matches_of (source self.now) text.now) };
+
+    /// The groups of each of these matches, in their order.
+    fn groups(&self, alloc: Global, text: &str) -> Result<Vec<Groups>, AllocError>
+        ensures { IfOk result (λ list. map spans_of list.items ≡ groups_of (source self.now) text.now) };
+
+    /// Of each of some texts whether the pattern has a match in it, an empty one and one at its end too. Each is searched
+    /// by itself, up to its first match, and they are all searched with one matcher.
+    fn found_in<T: Texts>(&self, alloc: Global, texts: &mut T) -> Result<Vec<bool>, AllocError>
+        ensures { IfOk result (λ found. found.items ≡ map (is_found_in (source self.now)) (T.left texts.old)) };
 }

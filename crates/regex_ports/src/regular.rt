@@ -1,14 +1,18 @@
 //! Patterns over the kit's regular expressions.
 
-ghost use Rattle.std.specs.Prelude.{◌≡◌, ◌++◌, [], ◌∷◌, map, IfOk, IfErr};
-ghost use Rattle.regex.specs.Patterns.{find_all_str, span};
-ghost use Rattle.regex.specs.Strings.{regex_pattern, regex_source, regex_config, IsReadFromSource};
+ghost use Rattle.std.specs.Prelude.{◌≡◌, ◌++◌, [], ◌∷◌, map, IfOk, IfErr, is_some};
+ghost use Rattle.std.specs.List.{AllByRecursion};
+ghost use Rattle.regex.specs.Patterns.{find_all_str, find_str, span};
+ghost use Rattle.regex.specs.Strings.{regex_pattern, regex_source, regex_config, matcher_pattern, IsReadFromSource};
 ghost use Rattle.regex_ports.specs.Matching.{options, span_of};
 ghost use Rattle.regex_ports.specs.Making.{Rose};
+ghost use Rattle.regex_ports.specs.Series.{AreBytes};
 
+use crate::grouping::groups;
 use crate::maker::{Made, PatternMaker};
-use crate::pattern::{Pattern, Span};
-use regex::{Error, Regex, RegexBuilder};
+use crate::pattern::{Groups, Pattern, Span};
+use crate::texts::Texts;
+use regex::{Error, Matcher, Regex, RegexBuilder};
 use std::alloc::{AllocError, Global};
 use std::marker::Model;
 
@@ -45,11 +49,42 @@ fn spans(alloc: Global, regex: &Regex, text: &str) -> Result<Vec<Span>, AllocErr
     Ok(found)
 }
 
+// Whether a matcher finds a match in a text.
+fn is_found(matcher: &mut Matcher<'_>, text: &str) -> bool
+    ensures found { result ≡ is_some (find_str (matcher_pattern matcher.old) text.now 0) }
+    ensures same { matcher_pattern matcher.new ≡ matcher_pattern matcher.old }
+    ensures bytes { AreBytes text.now }
+{
+    matcher.is_match(text)
+}
+
+// Of each of some texts whether a regular expression has a match in it.
+fn found_in<T: Texts>(alloc: Global, regex: &Regex, texts: &mut T) -> Result<Vec<bool>, AllocError>
+    ensures found { IfOk result (λ v. v.items ≡ map (λ text. is_some (find_str (regex_pattern regex.now) text 0)) (T.left texts.old)) }
+    ensures bytes { IfOk result (λ v. AllByRecursion AreBytes (T.left texts.old)) }
+{
+    let mut matcher = regex.matcher(alloc)?;
+    let mut text = String::new(alloc);
+    let mut found = Vec::new(alloc);
+    while texts.next(&mut text)? {
+        found.push(is_found(&mut matcher, text.as_str()))?;
+    }
+    Ok(found)
+}
+
 impl Pattern for RegexPattern {
     ghost source = { λ p. p };
 
     fn matches(&self, alloc: Global, text: &str) -> Result<Vec<Span>, AllocError> {
         spans(alloc, &self.regex, text)
+    }
+
+    fn groups(&self, alloc: Global, text: &str) -> Result<Vec<Groups>, AllocError> {
+        groups(alloc, &self.regex, text)
+    }
+
+    fn found_in<T: Texts>(&self, alloc: Global, texts: &mut T) -> Result<Vec<bool>, AllocError> {
+        found_in(alloc, &self.regex, texts)
     }
 }
 

@@ -1,4 +1,4 @@
-pub mod MatchLemmas
+pub mod TextLemmas
 pub mod EachLemmas
 pub mod FlagLemmas
 pub mod WalkLemmas

@@ -3,10 +3,11 @@ use Rattle.std.specs.Prelude.{◌≡◌, ℕ, true, false, None, Some, List, [],
 use Rattle.list_model.specs.Ranges.{Range, Selected, only}
 use Rattle.list_model.specs.Settling.{each_settled}
 use Rattle.regex_ports.specs.declared.pattern.Span.{Span}
+use Rattle.regex_ports.specs.Matching.{is_some_span}
 use Rattle.regex_select.specs.declared.way.Way.{Way}
 use Rattle.regex_select.specs.declared.way.Way.TheVariants.{Forward, Backward}
 use Rattle.regex_select.specs.declared.way.Search.{Search}
-use Rattle.regex_select.specs.Rows.{chars_of, is_some_span, kept_each}
+use Rattle.regex_select.specs.Rows.{chars_of, kept_each}
 use Rattle.regex_select.specs.Selecting.{chars_before, selected_by, selected_by_all, parts_from, made_each}
 use Rattle.regex_select.specs.Searching.{sought, searched, main_settled, main_added}
 

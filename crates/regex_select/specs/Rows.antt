@@ -1,10 +1,12 @@
 -- What keeping by a pattern makes of the selections of a text. The pattern is given by the text that it was made of.
-use Rattle.std.specs.Prelude.{ℕ, ◌+◌, ◌-◌, Bool, true, false, not, if◌then◌else◌, List, [], ◌∷◌, length, take, filter, slice_range, encode_utf8_all}
+use Rattle.std.specs.Prelude.{ℕ, ◌+◌, ◌-◌, Bool, not, if◌then◌else◌, List, length, take, drop, map, filter, slice_range, encode_utf8_all}
 use Rattle.list_model.specs.Ranges.{Range, Selected}
 use Rattle.list_model.specs.Settling.{settled}
+use Rattle.selection_set.specs.declared.sel.Sel.{Sel}
 use Rattle.selection_set.specs.Held.{main_of}
+use Rattle.selection_set.specs.Listing.{ranges_of}
 use Rattle.regex_ports.specs.declared.pattern.Span.{Span}
-use Rattle.regex_ports.specs.Matching.{matches_of}
+use Rattle.regex_ports.specs.Matching.{matches_of, is_some_span}
 
 -- the characters of a selection, which are all that is searched for it
 abbrev pub chars_of : List ℕ → Range → List ℕ
@@ -14,10 +16,12 @@ chars_of text r = slice_range text r.low (r.high + 1)
 abbrev pub spans_in : List ℕ → List ℕ → List Span
 spans_in source chars = matches_of source (encode_utf8_all chars)
 
--- whether there is a match among some
-abbrev pub is_some_span : List Span → Bool
-is_some_span [] = false
-is_some_span (s ∷ ss) = true
+-- the bytes of a selection's characters, and those of the selections of a list from one of them on
+abbrev pub bytes_of : List ℕ → Range → List ℕ
+bytes_of text r = encode_utf8_all (chars_of text r)
+
+abbrev pub bytes_left : List ℕ → List Sel → ℕ → List (List ℕ)
+bytes_left text sels n = map (bytes_of text) (ranges_of text (drop n sels))
 
 -- whether a selection has a match, an empty one and one at its end too
 abbrev pub has_match : List ℕ → List ℕ → Range → Bool

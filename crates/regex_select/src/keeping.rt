@@ -8,7 +8,7 @@ ghost use Rattle.regex_select.specs.Flags.{flagged, count_set, place_set};
 ghost use Rattle.regex_select.specs.Causes.{IsForNone};
 
 use crate::error::SelectError;
-use crate::searching::is_match;
+use crate::series::SelTexts;
 use crate::settling::settled;
 use line_buffer::Lines;
 use regex_ports::Pattern;
@@ -23,6 +23,17 @@ fn is_wanted(found: bool, matching: bool) -> bool
     if matching { found } else { !found }
 }
 
+// Of each selection whether it is kept, by whether it has a match.
+fn wanted(alloc: Global, found: &[bool], matching: bool) -> Result<Vec<bool>, AllocError>
+    ensures { IfOk result (λ v. v.items ≡ map (λ has. if matching then has else not has) found.now) }
+{
+    let mut flags = Vec::new(alloc);
+    for has in found {
+        flags.push(is_wanted(*has, matching))?;
+    }
+    Ok(flags)
+}
+
 // Of each selection whether it is kept.
 fn flags<P: Pattern>(
     alloc: Global,
@@ -34,12 +45,9 @@ fn flags<P: Pattern>(
     requires { AreInside lines.now sels.now.list }
     ensures { IfOk result (λ v. v.items ≡ map (is_kept matching (P.source pattern.now) lines.now) (ranges_of lines.now sels.now.list)) }
 {
-    let mut flags = Vec::new(alloc);
-    for n in 0..sels.len() {
-        let found = is_match(alloc, lines, sels.at(n), pattern)?;
-        flags.push(is_wanted(found, matching))?;
-    }
-    Ok(flags)
+    let mut texts = SelTexts::new(lines, sels);
+    let found = pattern.found_in(alloc, &mut texts)?;
+    wanted(alloc, found.as_slice(), matching)
 }
 
 // How many of the first so many flags are set.
@@ -89,8 +97,8 @@ fn main_place(flags: &[bool], main: usize, set: usize) -> usize
 /// itself, and an empty match counts, and one at its end too. They stay as they are. The main one stays the main one;
 /// where it isn't kept, the last one is.
 ///
-/// `NoMatch` comes exactly where none is kept, but memory may run out before that is found; `TooMany` never comes. What
-/// is searched is searched once.
+/// `NoMatch` comes exactly where none is kept, but memory may run out before that is found; `TooMany` never comes. Each
+/// selection is searched up to its first match, and no memory is taken for it beyond the longest one's characters.
 pub fn keep<P: Pattern>(
     alloc: Global,
     lines: &Lines,

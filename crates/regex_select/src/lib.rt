@@ -8,12 +8,14 @@ pub mod keeping;
 pub mod laws;
 pub mod matching;
 mod searching;
+mod series;
 mod settling;
 mod stretching;
 mod taking;
 mod walking;
 pub mod way;
 mod whole;
+mod writing;
 
 pub use error::SelectError;
 pub use finding::{add_match, next_match, search, search_main};

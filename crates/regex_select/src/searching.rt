@@ -3,8 +3,9 @@
 ghost use Rattle.std.specs.Prelude.{◌≡◌, ◌+◌, IfOk};
 ghost use Rattle.text_model.specs.Texts.{IsPlace, IsPlaceOrEnd, offset};
 ghost use Rattle.selection_set.specs.Inside.{range_of, IsInside};
-ghost use Rattle.regex_select.specs.Rows.{chars_of, spans_in, has_match};
+ghost use Rattle.regex_select.specs.Rows.{chars_of, spans_in};
 
+use crate::writing::write;
 use kak_text::Coord;
 use line_buffer::Lines;
 use regex_ports::{Pattern, Span};
@@ -26,30 +27,18 @@ pub(crate) fn behind(lines: &Lines, at: Coord) -> Coord
     }
 }
 
-/// The matches of a pattern in a selection, which is searched by itself, in bytes of its characters.
+/// The matches of a pattern in a selection, which is searched by itself, in bytes of its characters. These are written to
+/// a string.
 pub(crate) fn spans<P: Pattern>(
     alloc: Global,
     lines: &Lines,
     sel: Sel,
     pattern: &P,
+    text: &mut String,
 ) -> Result<Vec<Span>, AllocError>
     requires { IsInside lines.now sel }
     ensures { IfOk result (λ v. v.items ≡ spans_in (P.source pattern.now) (chars_of lines.now (range_of lines.now sel))) }
 {
-    let text = lines.slice(alloc, sel.low, behind(lines, sel.high))?;
+    write(lines, sel, text)?;
     pattern.matches(alloc, text.as_str())
-}
-
-/// Whether a pattern has a match in a selection.
-pub(crate) fn is_match<P: Pattern>(
-    alloc: Global,
-    lines: &Lines,
-    sel: Sel,
-    pattern: &P,
-) -> Result<bool, AllocError>
-    requires { IsInside lines.now sel }
-    ensures { IfOk result (λ found. found ≡ has_match (P.source pattern.now) lines.now (range_of lines.now sel)) }
-{
-    let found = spans(alloc, lines, sel, pattern)?;
-    Ok(!found.is_empty())
 }

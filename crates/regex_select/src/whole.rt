@@ -40,6 +40,7 @@ pub(crate) fn all_matches<P: Pattern>(
     ensures ranges { IfOk result (λ v. ranges_of lines.now v.items ≡ all_matches (P.source pattern.now) lines.now) }
 {
     let sel = whole(lines);
-    let spans = spans(alloc, lines, sel, pattern)?;
+    let mut text = String::new(alloc);
+    let spans = spans(alloc, lines, sel, pattern, &mut text)?;
     selected(alloc, lines, sel, spans.as_slice())
 }

@@ -1,0 +1,10 @@
+use Rattle.std.proofs.Common.{◌≡◌, ◌-◌, ◌∷◌, ◌++◌, map, Some, option_map}
+use Rattle.std.specs.List.{range_with_len}
+use Rattle.regex.specs.Locations.{location, location_count}
+use Rattle.regex_ports.specs.Matching.{span_of}
+use Rattle.regex_ports.proofs.grouping.located.Given as goal
+
+abbrev pub invariant-loop-n : goal.invariant-loop-n
+invariant-loop-n l =
+    l.spans.items ++ map (λ n. option_map span_of (location l.locations n)) (range_with_len l.n (location_count l.locations - l.n))
+    ≡ Some l.fn.found ∷ map (λ n. option_map span_of (location l.locations n)) (range_with_len 1 (location_count l.locations - 1))
