@@ -7,7 +7,7 @@ import stat
 import subprocess
 import time
 
-from connections import SECONDS, play, settle, text_of
+from connections import SECONDS, Server, play, settle, text_of
 from drawings import OPENING, keys_line
 from edit_checks import last_drawing
 from processes import run_with_files
@@ -22,6 +22,8 @@ WRONG_WORDS = [
 # a session's name of all kinds of characters that it may have, and as many
 LONG_NAME = "Az_09-" + "z" * 58
 QUIT = ":quit<ret>"
+# so many servers are started at once
+STARTS = 8
 # so many descriptors are too few for so many clients
 DESCRIPTORS = 12
 
@@ -30,7 +32,7 @@ def run(program, report):
     for given in WRONG_WORDS:
         ended, there = run_with_files(program, given, b"", {})
         report.check(f"server: the words {given}", (1, b"", b"", {}), (ended.status, ended.output, ended.errors, there))
-    for checks in (ends, takes_over, leaves_alone, no_folder, two_sessions, no_descriptors):
+    for checks in (ends, takes_over, leaves_alone, half_made, many_starts, no_folder, two_sessions, no_descriptors):
         play(program, report, checks)
     play(program, report, file_word, files={"n": b"a\n"})
     play(program, report, no_file_word)
@@ -86,6 +88,41 @@ def leaves_alone(place, report):
     lock.write_bytes(b"text\n")
     report.check("server: a file of its lock's name that holds something", (7, b""), place.ends("-s", "s"))
     report.check("server: which is left alone too", {"s.kak.lock": b"text\n"}, place.files())
+    lock.unlink()
+    (place.folder / "s.kak.new").mkdir()
+    (place.folder / "s.kak.new" / "text").write_bytes(b"text\n")
+    report.check("server: a folder where its socket is made", (7, b""), place.ends("-s", "s"))
+    report.check("server: is left alone as well", {"s.kak.new/text": b"text\n"}, place.files())
+
+
+def half_made(place, report):
+    """What one left that was killed while it made its socket is in nobody's way."""
+    folder = place.folder / "s.kak.new"
+    folder.mkdir()
+    with socket.socket(socket.AF_UNIX) as dead:
+        dead.bind(str(folder / "socket"))
+    (place.folder / "s.kak.lock").touch()
+    server = place.serve()
+    report.check("server: a socket that is half made is cleared away", ["s.kak", "s.kak.lock"], place.names())
+    server.client().close()
+    report.check("server: half made: the end", (0, b""), server.end())
+    report.check("server: half made: nothing is left of it", [], place.names())
+
+
+def many_starts(place, report):
+    """Of servers that are started at once one serves, and the others end."""
+    servers = [Server(place.program, place.folder, "s", [], None) for _ in range(STARTS)]
+    place.servers += servers
+    end = time.monotonic() + SECONDS
+    while (sum(each.process.poll() is None for each in servers) > 1 or not servers[0].path.exists()) and time.monotonic() < end:
+        time.sleep(0.01)
+    ended = [each.process.poll() for each in servers]
+    report.check("server: many at once: all but one end", [7] * (STARTS - 1), [status for status in ended if status is not None])
+    client = servers[0].client()
+    report.check_output("server: many at once: one serves", OPENING, client.next())
+    client.close()
+    report.check("server: many at once: and ends", {(0, b""), (7, b"")}, {each.end() for each in servers})
+    report.check("server: many at once: nothing is left of them", [], place.names())
 
 
 def no_folder(place, report):

@@ -215,6 +215,12 @@ def last_lines(place, report):
         client.send(said)
         report.check_output(f"server: {name}, and the end", answer, client.finish())
     report.check("server: the other is drawn what that typed", "hi<\n>", other.sees("hi\n")[0])
+    settle([other])
+    client = server.clients(1)[0]
+    settle([other])
+    client.send(keys_line("iyo<esc>"))
+    client.close()
+    report.check("server: a line, and hung up", "yohi<\n>", other.sees("yohi\n")[0])
 
 
 def unread(client):
