@@ -1,5 +1,8 @@
 //! A gate that holds one line back.
 
+ghost use Rattle.std.specs.Prelude.{◌≡◌};
+ghost use Rattle.line_gates.specs.Awaiting.{is_met_by};
+
 use crate::gate::Gate;
 use std::alloc::{AllocError, Global};
 use std::sync::atomic::{AtomicBool, Ordering};
@@ -24,6 +27,18 @@ pub enum Awaited {
     Line(LineOf),
     /// Any line of the client with this number.
     AnyOf(u32),
+}
+
+impl Awaited {
+    /// Whether this is the line that is awaited, or one of those of which one is.
+    pub fn is_met_by(self, line: LineOf) -> bool
+        ensures { result ≡ is_met_by self line }
+    {
+        match self {
+            Awaited::Line(awaited) => awaited == line,
+            Awaited::AnyOf(client) => client == line.who,
+        }
+    }
 }
 
 // What the clones of a gate share.
@@ -103,11 +118,7 @@ impl Gate for HeldGate {
     }
 
     fn passed(&mut self, who: u32, line: u64) {
-        let is_awaited = match self.shared.awaited {
-            Awaited::Line(awaited) => awaited == (LineOf { who, line }),
-            Awaited::AnyOf(client) => client == who,
-        };
-        if is_awaited {
+        if self.shared.awaited.is_met_by(LineOf { who, line }) {
             self.shared.release();
         }
     }

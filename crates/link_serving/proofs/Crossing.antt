@@ -1,0 +1,55 @@
+-- What serves a link may cross threads: the tokens of a desk do where its object does, and an engine does where its files and
+-- its maker of patterns do. For a world this is found in parts, since a search through all of it at once ends too soon.
+use denote.RattleType.{RattleType}
+use denote.Param.Send.{IsSend, IsSync, sendable, part_keyless}
+use denote.Struct.Struct.{Struct}
+use denote.Struct.Owning.{shape}
+use Rattle.std.proofs.Crossing.{frees, crosses as std_crosses}
+use Rattle.std.specs.contracts.alloc.Global as Heap
+use Rattle.std.specs.contracts.impls.GlobalAllocator.TheImpl.{ghosts}
+use Rattle.atomic_table.specs.declared.shared.TableRule.{Ghosts}
+use Rattle.atomic_table.specs.contracts.shared.Seat as Seat
+use Rattle.atomic_table.specs.contracts.shared.Shared as Shared
+use Rattle.atomic_table.specs.contracts.send_lease.SendLease as SendLease
+use Rattle.atomic_table.proofs.Rights.{right_send}
+use Rattle.atomic_table.proofs.Sent.{seat_keyless, owns_keyless, shares_keyless}
+use Rattle.buffer_store.specs.contracts.buffer.Buffer as Store
+use Rattle.kak_world.specs.contracts.buffer.Buffer as Buffer
+use Rattle.kak_world.specs.contracts.clients.Clients as Clients
+use Rattle.kak_world.specs.contracts.world.World as World
+use Rattle.session_events.specs.contracts.event.Entry as Entry
+
+pub seat_send : (S V : RattleType) → IsSend S → IsSend (Seat.the_row S V)
+seat_send S V s = record { owned = λ d vs. ((λ vss. (tt, ((λ uss. (tt, tt)), tt))), seat_keyless S s V.coded.code d.table_id d.id d.me); leaving = λ k f vs. tt }
+
+module _ (S V K P : RattleType) (g : Ghosts P.Denot S.Denot V.Denot K.Denot) (s : IsSend S) where
+  pub shared_send : IsSend (Shared.the_row S V K P g)
+  shared_send = record { owned = λ d vs. ((λ vss. (tt, (tt, (tt, ((λ uss. (tt, tt)), tt))))), owns_keyless S s V.coded.code d.table_id (g.holds d.key) d.words d.slots); leaving = λ k f vs. tt }
+
+  pub shared_sync : IsSync (Shared.the_row S V K P g)
+  shared_sync = let fields : IsSync (Struct (shape (Shared.the_type S V K P g))) = search sendable depth 20 in
+      record { shared = λ d b o ν. (fields.shared (d.words, (d.slots, (tt, tt))) b o ν, shares_keyless S s V.coded.code d.table_id (g.holds d.key) d.words d.slots ν) }
+
+pub lease_send : (T : RattleType) → IsSend (SendLease.the_row T Heap.the_row ghosts)
+lease_send T = right_send T Heap.the_row ghosts frees
+
+pub lease_sync : (T : RattleType) → IsSync (SendLease.the_row T Heap.the_row ghosts)
+lease_sync T = record { shared = λ d b o ν q. part_keyless (SendLease.the_row T Heap.the_row ghosts) (lease_send T) q d b o }
+
+store_send : IsSend Store.the_row
+store_send = search (sendable, std_crosses) depth 60 fits 20000
+
+buffer_send : IsSend Buffer.the_row
+buffer_send = search (sendable, std_crosses, store_send) depth 60 fits 20000
+
+clients_send : IsSend Clients.the_row
+clients_send = search (sendable, std_crosses) depth 60 fits 20000
+
+pub world_send : IsSend World.the_row
+world_send = search (sendable, std_crosses, buffer_send, clients_send) depth 60 fits 20000
+
+pub entry_send : IsSend Entry.the_row
+entry_send = search (sendable, std_crosses) depth 60 fits 20000
+
+-- for the search at a spawner whose threads run such jobs, at a depth of 60 with 20,000 fits
+pub ruleset crosses = (sendable, std_crosses, seat_send, shared_send, shared_sync, lease_send, lease_sync, world_send, entry_send)
