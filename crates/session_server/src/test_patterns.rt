@@ -3,7 +3,7 @@
 ghost use Rattle.std.specs.Prelude.{◌≡◌};
 ghost use Rattle.regex_ports.specs.Making.{Rose};
 
-use regex_ports::{Made, Pattern, PatternMaker, Span};
+use regex_ports::{Groups, Made, Pattern, PatternMaker, Span, Texts};
 use std::alloc::{AllocError, Global};
 
 /// A pattern that no memory is ever found for. None is made.
@@ -16,6 +16,14 @@ impl Pattern for NoPattern {
     ghost source = { λ p. [] };
 
     fn matches(&self, alloc: Global, text: &str) -> Result<Vec<Span>, AllocError> {
+        Err(AllocError)
+    }
+
+    fn groups(&self, alloc: Global, text: &str) -> Result<Vec<Groups>, AllocError> {
+        Err(AllocError)
+    }
+
+    fn found_in<T: Texts>(&self, alloc: Global, texts: &mut T) -> Result<Vec<bool>, AllocError> {
         Err(AllocError)
     }
 }
