@@ -104,6 +104,7 @@ fn groups_take_part_or_not(rt: HostRuntime) -> Result<(), Fail> {
 }
 
 // One text, and no more.
+#[derive(Drop)]
 struct One<'a> {
     text: &'a str,
     told: bool,
