@@ -3,7 +3,7 @@ use Rattle.std.proofs.Common.{◌≡◌, ℕ, suc, ◌+◌, ◌-◌, ◌*◌, �
 use Rattle.std.proofs.lemmas.List.{length-map}
 use Rattle.std.specs.List.{AllByRecursion, range_with_len}
 use Rattle.std.specs.Str.{chars}
-use Rattle.regex.specs.Patterns.{Re, Match, Reads, find_str, find_all_str, span, slot_of}
+use Rattle.regex.specs.Patterns.{Re, Match, Reads, find_str, find_all_str, span}
 use Rattle.regex.specs.Names.{names_of}
 use Rattle.regex.specs.Strings.{regex_pattern, regex_source, regex_config, regex_names, group_count, IsReadFromSource}
 use Rattle.regex.specs.Writes.{both}

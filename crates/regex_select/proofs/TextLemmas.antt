@@ -1,5 +1,5 @@
 -- The characters of selections as texts of bytes.
-use Rattle.std.proofs.Common.{◌≡◌, ℕ, ◌+◌, ◌-◌, ◌<◌, ◌≤◌, Bool, List, [], ◌∷◌, ◌++◌, length, take, drop, get_or, map, slice_range, encode_utf8_all, encode_utf8, refl, sym, ap, ap₂, ◌∙◌, arith, append-nil, take_all}
+use Rattle.std.proofs.Common.{◌≡◌, ℕ, ◌+◌, ◌-◌, ◌<◌, ◌≤◌, Bool, List, [], ◌∷◌, ◌++◌, length, take, drop, get_or, map, slice_range, encode_utf8_all, encode_utf8, refl, sym, ap, ap₂, ◌∙◌, arith, append-nil}
 use Rattle.std.proofs.lemmas.List.{take_more, drop_more, drop_all}
 use Rattle.std.proofs.lemmas.Str.{encodes-append}
 use Rattle.std.specs.Prelude.{not, if◌then◌else◌}

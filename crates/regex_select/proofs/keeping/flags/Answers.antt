@@ -1,4 +1,4 @@
-use Rattle.std.proofs.Common.{◌≡◌, Bool, List, map, sym, ap, ◌∙◌}
+use Rattle.std.proofs.Common.{◌≡◌, Bool, map, ap, ◌∙◌}
 use Rattle.std.proofs.lemmas.Result.{IfOk-weaker}
 use Rattle.std.specs.Prelude.{not, if◌then◌else◌}
 use Rattle.selection_set.specs.Listing.{ranges_of}

@@ -1,4 +1,4 @@
-use Rattle.std.proofs.Common.{◌≡◌, ◌<◌, ◌≤◌, ◌+◌, ◌-◌, ◌++◌, length, get_or, take, drop, slice_range, [], string_bytes, encode_utf8_all, refl, sym, ap, ◌∙◌, arith, inl}
+use Rattle.std.proofs.Common.{◌≡◌, ◌<◌, ◌≤◌, ◌+◌, ◌++◌, length, get_or, slice_range, [], string_bytes, encode_utf8_all, refl, ap, ◌∙◌, arith, inl}
 use Rattle.std.proofs.lemmas.List.{take_rest}
 use Rattle.text_model.specs.Texts.{lines_of, offset, IsPlace}
 use Rattle.text_model.proofs.PlaceLemmas.{start-more}

@@ -1,4 +1,4 @@
-use Rattle.std.proofs.Common.{◌≡◌, ◌<◌, ◌+◌, ◌∷◌, length, sym, ap, ◌∙◌, arith}
+use Rattle.std.proofs.Common.{◌+◌, ◌∷◌, sym, ap, ◌∙◌, arith}
 use Rattle.selection_set.proofs.HeldLemmas.{zero_sel, nth-inside}
 use Rattle.regex_select.specs.Rows.{bytes_left}
 use Rattle.regex_select.proofs.TextLemmas.{left-first, left-none}
