@@ -7,7 +7,7 @@ import sys
 import termios
 import time
 
-from connections import REFRESH, SECONDS, Place, play, settle, text_of
+from connections import REFRESH, SECONDS, play, settle, text_of
 from document_checks import protocol_pages, shown_lines
 from drawings import CURSOR, CURSOR_ON_NEWLINE, DEFAULT, INVALID, METHOD, OPENING, PARAMS, PARSE, TOO_LONG, atom, drawing, key, keys_line, opening
 from edit_checks import last_drawing
