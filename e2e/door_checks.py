@@ -4,7 +4,6 @@ import resource
 import signal
 import socket
 import stat
-import subprocess
 import time
 
 from connections import SECONDS, Server, play, settle, text_of
