@@ -14,7 +14,7 @@ use std::sync::Wait;
 use std::time::Duration;
 
 /// How long a `recv` waits for bytes at most, in milliseconds.
-pub const HEARING_MILLIS: u64 = 10;
+pub const HEARING_MILLIS: u64 = 40;
 
 /// How long a `send` waits at once for the other side to read, in milliseconds.
 pub const PAUSE_MILLIS: u64 = 100;

@@ -1,0 +1,5 @@
+use Rattle.link_serving.proofs.Crossing.{crosses}
+use Rattle.kakd.proofs.fn.main.new.Goals as goal
+
+pub begin-requires-send-J : goal.begin-requires-send-J
+begin-requires-send-J c = λ _ κs. search crosses depth 60 fits 20000

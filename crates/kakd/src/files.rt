@@ -1,0 +1,32 @@
+//! The files of the disk, as a type without parameters: what the closure is handed that starts a thread has none.
+
+use kak_files::{DiskFiles, FileRead, Files};
+use kak_ports::Put;
+use std::alloc::{AllocError, Global};
+
+/// The files of the disk.
+#[derive(Drop)]
+pub struct ServerFiles {
+    disk: DiskFiles<HostRuntime>,
+}
+
+impl ServerFiles {
+    /// Files of which no read and no write has failed yet.
+    pub fn new(rt: HostRuntime, alloc: Global) -> ServerFiles {
+        ServerFiles {
+            disk: DiskFiles::new(rt, alloc),
+        }
+    }
+}
+
+impl Files for ServerFiles {
+    ghost shelf = { λ f. ⟦<DiskFiles<HostRuntime> as Files>⟧.shelf f.disk };
+
+    fn read(&mut self, alloc: Global, name: &str, max: usize) -> Result<FileRead, AllocError> {
+        self.disk.read(alloc, name, max)
+    }
+
+    fn write(&mut self, name: &str, bytes: &[u8]) -> Put {
+        self.disk.write(name, bytes)
+    }
+}
