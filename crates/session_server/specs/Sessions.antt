@@ -19,7 +19,7 @@ RowsFrom closed limit history mark who file (end ∷ ends) =
     Row limit file who history mark end.0 (closed end.1) × RowsFrom closed limit history mark (who + 1) None ends
 
 -- What stands of a session, by the engine that is left: it is the one that was served, each link has its row there, in the
--- order in which they came, and nobody else is in its history.
+-- order of their numbers, and nobody else is in its history.
 pub record Stands {S : Type 0} (closed : S → Wire) (frame : Frame) (file : Option (List ℕ)) (ends : List (Ended × S)) (shared : Shared) : Type 0 where
   pub frame_is : frame_of shared ≡ frame
   pub rows : RowsFrom closed frame.limit shared.engine.history shared.engine.mark 0 file ends
