@@ -1,5 +1,6 @@
 """Clients of `kakd`, over its socket: one alone, two beside each other, and such as hang up or fall silent."""
 import fcntl
+import pathlib
 import signal
 import struct
 import subprocess
@@ -187,8 +188,13 @@ def killed(place, report):
     report.check("server: its name is free", True, is_free(server, "client1"))
 
 
+def mappings(process):
+    """How many pieces of memory a process has."""
+    return len(pathlib.Path(f"/proc/{process.pid}/maps").read_text().splitlines())
+
+
 def came_and_went(place, report):
-    """Clients that hang up as soon as they have come."""
+    """Clients that hang up as soon as they have come. Nothing that they had for themselves is kept."""
     server = place.serve()
     other = server.client()
     other.next()
@@ -198,6 +204,12 @@ def came_and_went(place, report):
     other.send(keys_line("ihi<esc>"))
     report.check("server: a hundred who came and went", "hi<\n>", other.sees("hi\n")[0])
     report.check("server: nobody else is here", True, is_free(server, "client1"))
+    before = mappings(server.process)
+    for _ in range(300):
+        client = server.client()
+        client.next()
+        client.close()
+    report.check("server: who went has no memory any more", True, mappings(server.process) < before + 200)
 
 
 def halves(place, report):

@@ -1,8 +1,14 @@
 -- The promise that the result of a job keeps.
+use Rattle.std.specs.Prelude.{◌≡◌, Option, Some, None}
 use Rattle.jobs.specs.declared.running.Running.{Running}
 use Rattle.jobs.specs.declared.running.Running.TheVariants.{There, Here}
 
--- the promise that the result keeps
-abbrev pub promise_of : {T P : Type 0} → Running T P → P
-promise_of (There handle) = handle.promise
-promise_of (Here ran) = ran
+-- the result, from wherever it comes, keeps the promise
+abbrev pub Keeps : {T P : Type 0} → (P → T → Type 0) → Running T P → P → Type 0
+Keeps kept_by (There handle) promise = handle.promise ≡ promise
+Keeps kept_by (Here given) promise = kept_by promise given
+
+-- a result is to be had, which keeps the promise
+abbrev pub IsOwed : {T P : Type 0} → (P → T → Type 0) → Option (Running T P) → P → Type 0
+IsOwed kept_by (Some running) promise = Keeps kept_by running promise
+IsOwed kept_by None promise = ⊥

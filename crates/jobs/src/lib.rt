@@ -5,7 +5,6 @@ pub mod examples;
 pub mod in_turn;
 pub mod job;
 pub mod promise_of;
-pub mod ran_here;
 pub mod recall;
 pub mod running;
 pub mod spawner;

@@ -13,34 +13,34 @@ pub enum Outcome<J, G> {
     Recalled(J),
 }
 
-/// Whether a job was recalled. Copies stand for the same one.
+/// Whether a job is spent: it was run, or recalled before it was run. Copies stand for the same job.
 #[derive(Drop)]
-pub struct Recall {
-    called: Arc<AtomicBool, Global>,
+pub struct Spent {
+    spent: Arc<AtomicBool, Global>,
 }
 
-impl Recall {
-    /// The job isn't recalled yet.
-    pub fn new(alloc: Global) -> Result<Recall, AllocError> {
-        Ok(Recall {
-            called: Arc::new(alloc, AtomicBool::new(false))?,
+impl Spent {
+    /// The job isn't spent yet.
+    pub fn new(alloc: Global) -> Result<Spent, AllocError> {
+        Ok(Spent {
+            spent: Arc::new(alloc, AtomicBool::new(false))?,
         })
     }
 
     /// One more that stands for the same job.
-    pub fn share(&self) -> Result<Recall, AllocError> {
-        Ok(Recall {
-            called: Arc::try_clone(&self.called)?,
+    pub fn share(&self) -> Result<Spent, AllocError> {
+        Ok(Spent {
+            spent: Arc::try_clone(&self.spent)?,
         })
     }
 
-    /// Recalls the job.
-    pub fn call(&self) {
-        self.called.store(true, Ordering::SeqCst);
+    /// The job was run, or is recalled.
+    pub fn set(&self) {
+        self.spent.store(true, Ordering::SeqCst);
     }
 
-    /// Whether the job was recalled.
-    pub fn is_called(&self) -> bool {
-        self.called.load(Ordering::SeqCst)
+    /// Whether the job is spent.
+    pub fn is_set(&self) -> bool {
+        self.spent.load(Ordering::SeqCst)
     }
 }

@@ -1,13 +1,12 @@
 //! A job that is run by a thread of its own.
 
 ghost use Rattle.std.specs.Prelude.{◌≡◌};
-ghost use Rattle.jobs.specs.Running.{promise_of};
+ghost use Rattle.jobs.specs.Running.{Keeps};
 ghost use Rattle.jobs.specs.Threads.{Comes, Begins};
 
 use crate::job::Job;
 use crate::promise_of::PromiseOf;
-use crate::ran_here::RanHere;
-use crate::recall::{Outcome, Recall};
+use crate::recall::{Outcome, Spent};
 use crate::threads::{Begun, Handle};
 use std::alloc::Global;
 use std::marker::Model;
@@ -21,55 +20,84 @@ pub enum Running<T: Drop, P: Promise<T>> {
     /// From a thread.
     There(PromisedHandle<T, P>),
     /// It is here already.
-    Here(RanHere<T, P>),
+    Here(T),
 }
 
 // Waits for the result.
-fn result_of<R: Threads, T: Drop, P: Promise<T>>(rt: &R, running: Running<T, P>) -> T
-    ensures { P.kept_by (promise_of running) result }
+fn result_of<R: Threads, T: Drop, P: Promise<T>>(
+    rt: &R,
+    running: Running<T, P>,
+    promise: &Snapshot<P>,
+) -> T
+    requires { Keeps P.kept_by running promise.now.value }
+    ensures { P.kept_by promise.now.value result }
 {
+    let _ = promise;
     match running {
         Running::There(handle) => handle.join(rt),
-        Running::Here(ran) => ran.into_given(),
+        Running::Here(given) => given,
     }
 }
 
 /// A job that was begun in a thread of its own. Contracts see the job.
 #[derive(Drop)]
 pub struct Thread<J: Job> {
-    run: Running<Outcome<J, J::Gives>, PromiseOf<J>>,
+    // taken out while the thread is let go
+    run: Option<Running<Outcome<J, J::Gives>, PromiseOf<J>>>,
+    promise: Snapshot<PromiseOf<J>>,
+    spent: Spent,
 }
 
 impl<J: Job> Model for Thread<J> {
-    ghost use Rattle.jobs.specs.Running.{promise_of};
+    ghost use Rattle.jobs.specs.Running.{IsOwed};
+    ghost use Rattle.jobs.specs.Threads.{Comes};
 
     ghost Value = { J };
 
-    ghost view = { λ t. promise_of t.run };
+    ghost view = { λ t. t.promise.value };
+
+    ghost invariant = { λ t. IsOwed (Comes J.ready J.gives) t.run t.promise.value };
 }
 
 impl<J: Job> Handle<J> for Thread<J> {
     ghost job = { λ t. t };
 
+    fn settle<R: Threads>(&mut self, rt: &R) -> bool {
+        if !self.spent.is_set() {
+            return false;
+        }
+        let Some(run) = self.run.take() else {
+            unreachable!()
+        };
+        self.run = Some(Running::Here(result_of(rt, run, &self.promise)));
+        true
+    }
+
     fn end<R: Threads + Wait>(self, rt: &R) -> J::Gives {
-        let Thread { run } = self;
-        match result_of(rt, run) {
+        let Thread {
+            run,
+            promise,
+            spent: _,
+        } = self;
+        let Some(run) = run else { unreachable!() };
+        match result_of(rt, run, &promise) {
             Outcome::Ran(given) => given,
             Outcome::Recalled(job) => job.run(rt),
         }
     }
 }
 
-// Runs a job that wasn't recalled.
-pub(crate) fn attempt<R: Wait, J: Job>(job: J, recall: Recall, rt: &R) -> Outcome<J, J::Gives>
+// Runs a job that wasn't recalled, which then is spent.
+pub(crate) fn attempt<R: Wait, J: Job>(job: J, spent: Spent, rt: &R) -> Outcome<J, J::Gives>
     requires { J.ready job }
     ensures { Comes J.ready J.gives job result }
 {
-    if recall.is_called() {
-        Outcome::Recalled(job)
-    } else {
-        Outcome::Ran(job.run(rt))
+    if spent.is_set() {
+        return Outcome::Recalled(job);
     }
+    let given = job.run(rt);
+    spent.set();
+    Outcome::Ran(given)
 }
 
 // What came of a job that was recalled from its closure, since no thread could be made. Were it run for all that, its
@@ -77,6 +105,7 @@ pub(crate) fn attempt<R: Wait, J: Job>(job: J, recall: Recall, rt: &R) -> Outcom
 fn recalled<J: Job>(
     outcome: Outcome<J, J::Gives>,
     promise: Snapshot<PromiseOf<J>>,
+    spent: Spent,
 ) -> Begun<J, Thread<J>>
     requires { Comes J.ready J.gives promise.value outcome }
     ensures { Begins (λ t. t) promise.value result }
@@ -84,7 +113,9 @@ fn recalled<J: Job>(
     match outcome {
         Outcome::Recalled(job) => Begun::Back(job),
         ran => Begun::There(Thread {
-            run: Running::Here(RanHere::new(promise, ran)),
+            run: Some(Running::Here(ran)),
+            promise,
+            spent,
         }),
     }
 }
@@ -101,10 +132,10 @@ where
     requires { J.ready job }
     ensures { Begins (λ t. t) job result }
 {
-    let Ok(recall) = Recall::new(alloc) else {
+    let Ok(spent) = Spent::new(alloc) else {
         return Begun::NoMemory(job);
     };
-    let Ok(theirs) = recall.share() else {
+    let Ok(theirs) = spent.share() else {
         return Begun::NoMemory(job);
     };
     let promise = PromiseOf::new(&job);
@@ -115,11 +146,13 @@ where
     { attempt(job, theirs, &rt) };
     match maker.spawn_with(&rt, promise, run) {
         Ok(handle) => Begun::There(Thread {
-            run: Running::There(handle),
+            run: Some(Running::There(handle)),
+            promise: copy,
+            spent,
         }),
         Err(refused) => {
-            recall.call();
-            recalled((refused.value)(), copy)
+            spent.set();
+            recalled((refused.value)(), copy, spent)
         }
     }
 }

@@ -89,6 +89,23 @@ fn jobs_in_threads_run_at_the_same_time_and_give_their_results_in_order(
 }
 
 #[test]
+fn jobs_whose_threads_were_let_go_give_their_results_in_order_too(
+    rt: HostRuntime,
+) -> Result<(), Fail> {
+    let alloc = rt.alloc();
+    let mut spawner = ThreadSpawner::new(rt, alloc, move |job: Doubling| begin(rt, alloc, job));
+    for number in 0..300u64 {
+        assert!(rt; matches!(&spawner.start(Doubling { number }), Started::Runs));
+    }
+    let given = spawner.gather(&rt)?;
+    assert_eq!(rt; given.len(), 300);
+    for (number, given) in (0..300u64).zip(given) {
+        assert_eq!(rt; given, 2 * number);
+    }
+    Ok(())
+}
+
+#[test]
 fn a_job_for_which_no_thread_can_be_made_is_handed_back(rt: HostRuntime) -> Result<(), Fail> {
     let alloc = rt.alloc();
     let mut spawner = ThreadSpawner::new(

@@ -26,6 +26,10 @@ pub trait Handle<J: Job>: Drop {
     // The job.
     ghost job: { Self → J };
 
+    /// Tells whether the job has ended. Where it has, its thread is let go, and its result is kept.
+    fn settle<R: Threads>(&mut self, rt: &R) -> bool
+        ensures { job self.new ≡ job self.old };
+
     /// Waits for the result.
     fn end<R: Threads + Wait>(self, rt: &R) -> J::Gives
         ensures { J.gives (job self) result };
@@ -53,14 +57,40 @@ fn gather_all<R: Threads + Wait, J: Job, H: Handle<J>>(
     Ok(all)
 }
 
+// Lets go the thread of the job at a place, if it has ended. Tells whether nothing is left to be let go there.
+fn settle_one<R: Threads, J: Job, H: Handle<J>>(rt: &R, runs: &mut [H], place: usize) -> bool
+    ensures { map H.job runs.new ≡ map H.job runs.old }
+{
+    if runs.len() <= place {
+        return true;
+    }
+    runs[place].settle(rt)
+}
+
+// Lets go the threads of the jobs that have ended: these stand at some of the places, which then are the others.
+fn settle<R: Threads, J: Job, H: Handle<J>>(rt: &R, runs: &mut [H], places: &mut Vec<usize>)
+    ensures { map H.job runs.new ≡ map H.job runs.old }
+{
+    let mut next = 0;
+    while next < places.len() {
+        if settle_one(rt, runs, places[next]) {
+            places.swap_remove(next);
+        } else {
+            next += 1;
+        }
+    }
+}
+
 /// A spawner that runs each job in a thread of its own, at the same time as all others. Where no thread can be made, the
-/// job is handed back at once.
+/// job is handed back at once. A start lets go the threads of the jobs that have ended by then, and keeps their results.
 #[derive(Drop)]
 pub struct ThreadSpawner<R: Drop, H: Drop, F: Drop> {
     rt: R,
     alloc: Global,
     begin: F,
     runs: Vec<H>,
+    // the places of the runs whose threads weren't let go yet
+    unsettled: Vec<usize>,
     faults: u64,
 }
 
@@ -79,6 +109,7 @@ impl<R: Drop, H: Drop, F: Drop> ThreadSpawner<R, H, F> {
             alloc,
             begin,
             runs: Vec::new(alloc),
+            unsettled: Vec::new(alloc),
             faults: 0,
         }
     }
@@ -95,11 +126,18 @@ impl<R: Threads + Wait + Drop, J: Job, H: Handle<J>, F: Fn(J) -> Begun<J, H> + D
     ghost faults = { λ s. s.faults };
 
     fn start(&mut self, job: J) -> Started<J> {
+        settle(&self.rt, &mut self.runs, &mut self.unsettled);
         if self.runs.reserve(1).is_err() {
+            return Started::NoMemory(job);
+        }
+        if self.unsettled.reserve(1).is_err() {
             return Started::NoMemory(job);
         }
         match (self.begin)(job) {
             Begun::There(handle) => {
+                let Ok(()) = self.unsettled.push(self.runs.len()) else {
+                    unreachable!()
+                };
                 let Ok(()) = self.runs.push(handle) else {
                     unreachable!()
                 };
@@ -115,6 +153,7 @@ impl<R: Threads + Wait + Drop, J: Job, H: Handle<J>, F: Fn(J) -> Begun<J, H> + D
 
     fn gather<W: Wait>(&mut self, _rt: &W) -> Result<Vec<J::Gives>, AllocError> {
         let runs = std::mem::replace(&mut self.runs, Vec::new(self.alloc));
+        self.unsettled.clear();
         gather_all(&self.rt, self.alloc, runs)
     }
 }
