@@ -100,7 +100,7 @@ fn jobs_whose_threads_were_let_go_give_their_results_in_order_too(
     let given = spawner.gather(&rt)?;
     assert_eq!(rt; given.len(), 300);
     for (number, given) in (0..300u64).zip(given) {
-        assert_eq!(rt; given, 2 * number);
+        assert_eq!(rt; given, number.saturating_mul(2));
     }
     Ok(())
 }
