@@ -1,4 +1,6 @@
-//! The files of the disk, as a type without parameters: what the closure is handed that starts a thread has none.
+//! The files of the disk, as a type without parameters: a closure that starts a thread is handed none with parameters yet.
+
+ghost use Rattle.std.specs.Prelude.{◌≡◌};
 
 use kak_files::{DiskFiles, FileRead, Files};
 use kak_ports::Put;
@@ -12,7 +14,9 @@ pub struct ServerFiles {
 
 impl ServerFiles {
     /// Files of which no read and no write has failed yet.
-    pub fn new(rt: HostRuntime, alloc: Global) -> ServerFiles {
+    pub fn new(rt: HostRuntime, alloc: Global) -> ServerFiles
+        ensures { (⟦<ServerFiles as Files>⟧.shelf result).faults ≡ 0 }
+    {
         ServerFiles {
             disk: DiskFiles::new(rt, alloc),
         }
