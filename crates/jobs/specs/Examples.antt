@@ -1,7 +1,7 @@
 -- Worked examples: jobs are numbers, and what a job gives is its square.
 use Rattle.std.specs.Prelude.{◌≡◌, ℕ, ◌*◌, ◌^◌, ◌-◌, true, false, [], ◌∷◌}
 use Rattle.jobs.specs.declared.spawner.Started.TheVariants.{Runs, Back, NoMemory}
-use Rattle.jobs.specs.declared.recall.Outcome.TheVariants.{Ran, Recalled}
+use Rattle.jobs.specs.declared.spent.Outcome.TheVariants.{Ran, Recalled}
 use Rattle.jobs.specs.declared.threads.Begun.TheVariants as begun
 use Rattle.jobs.specs.Starts.{Starts, StartIsCounted}
 use Rattle.jobs.specs.Plans.{is_planned, next_number, IsAsPlanned}

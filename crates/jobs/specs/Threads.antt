@@ -1,7 +1,7 @@
 -- What becomes of a job for which a thread was to be made.
 use Rattle.std.specs.Prelude.{◌≡◌}
-use Rattle.jobs.specs.declared.recall.Outcome.{Outcome}
-use Rattle.jobs.specs.declared.recall.Outcome.TheVariants.{Ran, Recalled}
+use Rattle.jobs.specs.declared.spent.Outcome.{Outcome}
+use Rattle.jobs.specs.declared.spent.Outcome.TheVariants.{Ran, Recalled}
 use Rattle.jobs.specs.declared.threads.Begun.{Begun}
 use Rattle.jobs.specs.declared.threads.Begun.TheVariants as begun
 

@@ -5,9 +5,9 @@ pub mod examples;
 pub mod in_turn;
 pub mod job;
 pub mod promise_of;
-pub mod recall;
 pub mod running;
 pub mod spawner;
+pub mod spent;
 pub mod threads;
 
 pub use in_turn::{InTurn, StartPlan};

@@ -1,7 +1,7 @@
 //! The promise of a job, as a thread carries it.
 
 use crate::job::Job;
-use crate::recall::Outcome;
+use crate::spent::Outcome;
 use std::marker::Model;
 use std::snapshot::Snapshot;
 use std::thread::Promise;

@@ -6,7 +6,7 @@ ghost use Rattle.jobs.specs.Threads.{Comes, Begins};
 
 use crate::job::Job;
 use crate::promise_of::PromiseOf;
-use crate::recall::{Outcome, Spent};
+use crate::spent::{Outcome, Spent};
 use crate::threads::{Begun, Handle};
 use std::alloc::Global;
 use std::marker::Model;
