@@ -1,7 +1,8 @@
 -- What comes in at an acceptor, and when it may fail.
-use Rattle.std.specs.Prelude.{◌≡◌, ℕ, ◌+◌, List, IsSome, None, Some}
+use Rattle.std.specs.Prelude.{◌≡◌, ℕ, ◌+◌, List, [], ◌∷◌, IsSome, IfSome, None, Some}
 use Rattle.std.specs.declared.option.Option.{Option}
 use Rattle.kak_ports.specs.Ports.{Rose}
+use Rattle.client_links.specs.Wires.{Wire}
 use Rattle.client_links.specs.declared.acceptor.Bound.{Bound}
 use Rattle.client_links.specs.declared.acceptor.Bound.TheVariants.{Up, Failed as BindFailed}
 use Rattle.client_links.specs.declared.acceptor.Next.{Next}
@@ -13,6 +14,8 @@ pub record Door : Type 0 where
   pub listens : Option (List ℕ)
   -- how many links came so far, where this is told
   pub came : Option ℕ
+  -- the links that will still come, as they are before anything is received or sent, where this is told
+  pub to_come : Option (List Wire)
   -- how often a bind or a next failed
   pub faults : ℕ
 
@@ -40,6 +43,23 @@ abbrev pub Comes : {L : Type 0} → Next L → Door → Door → Type 0
 Comes (Came link) old new = IsSome old.listens × (new.listens ≡ old.listens) × (new.came ≡ counted_on old.came 1)
 Comes Idle old new = NoneCame old new
 Comes NextFailed old new = NoneCame old new
+
+-- a link is the first of those that were to come, and the others still are, where these are told
+abbrev pub IsNextOf : Wire → Option (List Wire) → Option (List Wire) → Type 0
+IsNextOf link None None = Unit {0}
+IsNextOf link (Some links) (Some rest) = links ≡ link ∷ rest
+IsNextOf link before now = ⊥
+
+-- no link is left that is to come, where these are told
+abbrev pub NoneIsToCome : Door → Type 0
+NoneIsToCome door = IfSome door.to_come (λ links. links ≡ [])
+
+-- The first of the links that were to come is the one that came. None has come yet only where none is left, or where no
+-- session is listened for.
+abbrev pub ComesInOrder : {L : Type 0} → (L → Wire) → Next L → Door → Door → Type 0
+ComesInOrder wire (Came link) old new = IsNextOf (wire link) old.to_come new.to_come
+ComesInOrder wire Idle old new = (IsSome old.listens → NoneIsToCome old) × (new.to_come ≡ old.to_come)
+ComesInOrder wire NextFailed old new = new.to_come ≡ old.to_come
 
 -- what holds of the link that came
 abbrev pub IfCame : {L : Type 0} → Next L → (L → Type 0) → Type 0

@@ -1,5 +1,5 @@
 -- What is heard and sent over a link, where it is told, and when the one or the other may fail.
-use Rattle.std.specs.Prelude.{◌≡◌, ℕ, ◌<◌, ◌≤◌, List, [], length, take, None, Some, IfSome}
+use Rattle.std.specs.Prelude.{◌≡◌, ℕ, ◌-◌, ◌<◌, ◌≤◌, List, [], length, take, None, Some, IfSome}
 use Rattle.std.specs.declared.option.Option.{Option}
 use Rattle.std.specs.Io.KnownBytes.{Appends, Consumes, IsAtEnd}
 use Rattle.kak_ports.specs.Ports.{Outlet, Rose}
@@ -12,6 +12,8 @@ pub record Wire : Type 0 where
   pub received : Option (List ℕ)
   -- the bytes that will still come, where they are told
   pub left : Option (List ℕ)
+  -- how many more times at most nothing will have come though it was waited for, where this is told
+  pub pauses : Option ℕ
   -- how often receiving failed
   pub read_faults : ℕ
   -- what was sent so far, where it is told, and how often sending failed
@@ -35,6 +37,16 @@ Hears (Got count) old new into = Gets count old new into
 Hears End old new into = IsAtEnd old.left × HearsNothing old new
 Hears Idle old new into = HearsNothing old new
 Hears Failed old new into = HearsNothing old new
+
+-- one of the pauses that are left is taken, where these are told
+abbrev pub TakesPause : Option ℕ → Option ℕ → Type 0
+TakesPause None now = now ≡ None
+TakesPause (Some pauses) now = (0 < pauses) × (now ≡ Some (pauses - 1))
+
+-- a wait in which nothing came takes a pause, and whatever else is heard takes none
+abbrev pub HearingTakesPauses : Heard → Option ℕ → Option ℕ → Type 0
+HearingTakesPauses Idle before now = TakesPause before now
+HearingTakesPauses _ before now = now ≡ before
 
 -- the count of faults rises where receiving fails, and only there
 abbrev pub HearingIsCounted : Heard → Wire → Wire → Type 0

@@ -5,15 +5,17 @@
 
 pub mod acceptor;
 pub mod examples;
+pub mod kept;
 pub mod link;
 pub mod mem_acceptor;
 pub mod mem_link;
 mod planned;
+pub mod waiting;
 
 pub use acceptor::{Acceptor, Bound, Next};
+pub use kept::MemLink;
 pub use link::{Heard, Link};
-pub use mem_acceptor::MemAcceptor;
-pub use mem_link::MemLink;
+pub use waiting::MemAcceptor;
 
 #[cfg(test)]
 mod tests;

@@ -1,69 +1,57 @@
 //! An acceptor over memory.
 
-ghost use Rattle.std.specs.Prelude.{◌≡◌, All, IfOk, Some, None};
+ghost use Rattle.std.specs.Prelude.{◌≡◌, All, IfOk, IsTrue, Some, None};
+ghost use Rattle.kak_ports.specs.Plans.{is_planned, after_call};
 ghost use Rattle.client_links.specs.Wires.{IsFresh};
+ghost use Rattle.client_links.specs.Doors.{Binds, BindIsCounted, Comes, ComesInOrder, NextIsCounted, IfCame};
+ghost use Rattle.client_links.specs.Memory.{memory_wire};
+ghost use Rattle.client_links.specs.MemoryDoors.{memory_door, wires_of, NextIsPlanned};
 
 use crate::acceptor::{Acceptor, Bound, Next};
-use crate::mem_link::MemLink;
+use crate::kept::MemLink;
 use crate::planned::PlannedCalls;
+use crate::waiting::MemAcceptor;
 use kak_ports::FailingCalls;
 use kak_ports::small::Utf8Text;
-use std::alloc::{AllocError, Global};
+use std::alloc::Global;
 use std::collections::VecDeque;
-use std::marker::Model;
 use std::sync::Wait;
-
-/// An acceptor over memory, whose links come one after another. Behind the last one none comes any more.
-#[derive(Drop, Debug)]
-pub struct MemAcceptor {
-    alloc: Global,
-    links: VecDeque<MemLink>,
-    came: usize,
-    session: Option<Utf8Text>,
-    calls: PlannedCalls,
-}
-
-impl Model for MemAcceptor {
-    ghost use Rattle.std.specs.Prelude.{◌+◌, ◌^◌, ◌<◌, All, length, Some};
-    ghost use Rattle.client_links.specs.Wires.{IsFresh};
-    ghost use Rattle.client_links.specs.Doors.{Door};
-
-    ghost Value = { Door };
-
-    ghost view = { λ a. record { listens = a.session; came = Some a.came; faults = a.calls.faults } };
-
-    ghost invariant = { λ a. All IsFresh a.links.items × (a.came + length a.links.items < 2 ^ 64) };
-}
 
 impl MemAcceptor {
     /// An acceptor to which these links come. It doesn't listen yet. The plan is of the calls of `bind` and `next`
-    /// together. An `Err` is want of memory.
-    pub fn new(
-        alloc: Global,
-        links: Vec<MemLink>,
-        plan: FailingCalls,
-    ) -> Result<MemAcceptor, AllocError>
-        requires { All IsFresh links.items }
-        ensures silent { IfOk result (λ acceptor. acceptor.listens ≡ None) }
-        ensures none_came { IfOk result (λ acceptor. acceptor.came ≡ Some 0) }
-        ensures faults { IfOk result (λ acceptor. acceptor.faults ≡ 0) }
+    /// together.
+    pub fn new(alloc: Global, links: Vec<MemLink>, plan: FailingCalls) -> MemAcceptor
+        requires { All (λ link. IsFresh (memory_wire link)) links.items }
+        ensures silent { (memory_door result).listens ≡ None }
+        ensures none_came { (memory_door result).came ≡ Some 0 }
+        ensures to_come { (memory_door result).to_come ≡ Some (wires_of links.items) }
+        ensures links { result.links.items ≡ links.items }
+        ensures plan { result.calls.plan ≡ plan }
+        ensures faults { (memory_door result).faults ≡ 0 }
     {
-        Ok(MemAcceptor {
+        MemAcceptor {
             alloc,
             links: VecDeque::from_vec(links),
             came: 0,
             session: None,
-            calls: PlannedCalls::new(alloc, plan)?,
-        })
+            calls: PlannedCalls::new(plan),
+        }
     }
 }
 
 impl Acceptor for MemAcceptor {
     type Link = MemLink;
 
-    ghost door = { λ acceptor. acceptor };
+    ghost door = { memory_door };
 
-    fn bind<R: Wait>(&mut self, _rt: &R, session: &str) -> Bound {
+    /// Begins to listen for a session. It fails where it is planned to, or where memory is wanting.
+    fn bind<R: Wait>(&mut self, _rt: &R, session: &str) -> Bound
+        ensures planned { IsTrue (is_planned self.old.calls.plan) → result ≡ Bound.Failed }
+        ensures binds { Binds result (memory_door self.old) (memory_door self.new) session.now }
+        ensures to_come { self.new.links ≡ self.old.links }
+        ensures counted { BindIsCounted result (memory_door self.old) (memory_door self.new) }
+        ensures plan { self.new.calls.plan ≡ after_call self.old.calls.plan }
+    {
         if self.calls.is_next_failing() {
             return Bound::Failed;
         }
@@ -79,7 +67,15 @@ impl Acceptor for MemAcceptor {
         }
     }
 
-    fn next<R: Wait>(&mut self, _rt: &R) -> Next<MemLink> {
+    /// The next link. It fails where it is planned to.
+    fn next<R: Wait>(&mut self, _rt: &R) -> Next<MemLink>
+        ensures planned { NextIsPlanned result (is_planned self.old.calls.plan) }
+        ensures comes { Comes result (memory_door self.old) (memory_door self.new) }
+        ensures in_order { ComesInOrder memory_wire result (memory_door self.old) (memory_door self.new) }
+        ensures fresh { IfCame result (λ link. IsFresh (memory_wire link)) }
+        ensures counted { NextIsCounted result (memory_door self.old) (memory_door self.new) }
+        ensures plan { self.new.calls.plan ≡ after_call self.old.calls.plan }
+    {
         if self.calls.is_next_failing() {
             return Next::Failed;
         }

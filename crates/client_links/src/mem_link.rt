@@ -1,46 +1,20 @@
 //! A link over memory.
 
-ghost use Rattle.std.specs.Prelude.{◌≡◌, ◌+◌, ◌≤◌, ◌<◌, [], length, take, drop, IfOk, IfSome, IfNone, Some};
+ghost use Rattle.std.specs.Prelude.{◌≡◌, ◌+◌, ◌≤◌, ◌<◌, [], length, map, min, take, drop, IfOk, Some};
 ghost use Rattle.std.specs.List.{flat_map};
-ghost use Rattle.client_links.specs.Wires.{Gets, IsFresh};
+ghost use Rattle.kak_ports.specs.Ports.{Puts, PutIsCounted};
+ghost use Rattle.kak_ports.specs.Plans.{after_call};
+ghost use Rattle.kak_ports.specs.Memory.{put_into, held_behind};
+ghost use Rattle.client_links.specs.Wires.{Gets, Hears, HearingTakesPauses, HearingIsCounted, IsFresh, IsSameHearing, TellsNoMore};
+ghost use Rattle.client_links.specs.Memory.{memory_wire, empty_among, heard_from};
 
+use crate::kept::MemLink;
 use crate::link::{Heard, Link};
 use crate::planned::PlannedCalls;
 use kak_ports::{FailingCalls, MemSink, Octets, Put, Sink};
 use std::alloc::{AllocError, Global};
-use std::marker::Model;
+use std::collections::VecDeque;
 use std::sync::Wait;
-
-/// A link over memory, whose client sends what a script says, and which keeps what it is sent. It tells everything, and
-/// stays what it is once it is closed.
-#[derive(Drop, Debug)]
-pub struct MemLink {
-    bytes: Octets,
-    // where the pieces of the script end
-    ends: Vec<usize>,
-    // how many pieces were given whole
-    pieces: usize,
-    // how many bytes were given
-    at: usize,
-    calls: PlannedCalls,
-    sent: MemSink,
-}
-
-impl Model for MemLink {
-    ghost use Rattle.std.specs.Prelude.{◌≤◌, length, take, drop, Some};
-    ghost use Rattle.client_links.specs.Wires.{Wire};
-
-    ghost Value = { Wire };
-
-    ghost view = { λ l. record {
-      received = Some (take l.at l.bytes);
-      left = Some (drop l.at l.bytes);
-      read_faults = l.calls.faults;
-      outlet = record { told = Some l.sent.bytes.items; faults = l.sent.faults };
-    } };
-
-    ghost invariant = { λ l. l.at ≤ length l.bytes };
-}
 
 // Copies so many bytes from a place on.
 fn copy_from(into: &mut [u8], bytes: &[u8], at: usize, count: usize)
@@ -62,105 +36,117 @@ impl MemLink {
         hearing: FailingCalls,
         sending: FailingCalls,
     ) -> Result<MemLink, AllocError>
-        ensures fresh { IfOk result IsFresh }
-        ensures received { IfOk result (λ link. link.received ≡ Some []) }
-        ensures left { IfOk result (λ link. link.left ≡ Some (flat_map (λ piece. piece.now) script.now)) }
-        ensures sent { IfOk result (λ link. link.outlet.told ≡ Some []) }
+        ensures fresh { IfOk result (λ link. IsFresh (memory_wire link)) }
+        ensures received { IfOk result (λ link. (memory_wire link).received ≡ Some []) }
+        ensures left { IfOk result (λ link. (memory_wire link).left ≡ Some (flat_map (λ piece. piece.now) script.now)) }
+        ensures pieces { IfOk result (λ link. link.later.items ≡ map (λ piece. length piece.now) script.now) }
+        ensures none_at_hand { IfOk result (λ link. link.piece ≡ 0) }
+        ensures sent { IfOk result (λ link. link.sent.bytes.items ≡ []) }
+        ensures room { IfOk result (λ link. link.sent.room ≡ room) }
+        ensures hearing { IfOk result (λ link. link.hearing.plan ≡ hearing) }
+        ensures sending { IfOk result (λ link. link.sent.plan ≡ sending) }
     {
         let mut bytes = Vec::new(alloc);
-        let mut ends = Vec::with_capacity(alloc, script.len())?;
+        let mut sizes = Vec::with_capacity(alloc, script.len())?;
         for piece in script {
             bytes.extend_from_slice(*piece)?;
-            ends.push(bytes.len())?;
+            sizes.push(piece.len())?;
         }
         Ok(MemLink {
             bytes: Octets::of_vec(bytes),
-            ends,
-            pieces: 0,
             at: 0,
-            calls: PlannedCalls::new(alloc, hearing)?,
+            piece: 0,
+            later: VecDeque::from_vec(sizes),
+            hearing: PlannedCalls::new(hearing),
             sent: MemSink::new(alloc, room, sending)?,
         })
     }
 
     /// The bytes that were received.
     pub fn received(&self) -> &[u8]
-        ensures { self.now.received ≡ Some result.now }
+        ensures { (memory_wire self.now).received ≡ Some result.now }
     {
         &self.bytes.as_slice()[..self.at]
     }
 
     /// The bytes that were sent.
     pub fn contents(&self) -> &[u8]
-        ensures { self.now.outlet.told ≡ Some result.now }
+        ensures { (memory_wire self.now).outlet.told ≡ Some result.now }
     {
         self.sent.contents()
     }
 
-    // How many bytes are left of the piece at hand, or None behind the last one.
-    fn piece_left(&self) -> Option<usize>
-        ensures some { IfSome result (λ count. IfSome self.now.left (λ bytes. count ≤ length bytes)) }
-        ensures none { IfNone result (self.now.left ≡ Some []) }
+    // Gives the next bytes of the piece at hand.
+    fn give(&mut self, into: &mut [u8]) -> Heard
+        requires some { 0 < self.old.piece }
+        requires room { 0 < length into.old }
+        ensures answer { result ≡ Heard.Got (min self.old.piece (length into.old)) }
+        ensures gets { Gets (min self.old.piece (length into.old)) (memory_wire self.old) (memory_wire self.new) into.new }
+        ensures later { self.new.later ≡ self.old.later }
+        ensures hearing { self.new.hearing ≡ self.old.hearing }
+        ensures sent { self.new.sent ≡ self.old.sent }
     {
-        let rest = self.bytes.len() - self.at;
-        match self.ends.as_slice().get(self.pieces) {
-            Some(end) => Some(end.saturating_sub(self.at).min(rest)),
-            None if rest == 0 => None,
-            None => Some(rest),
-        }
-    }
-
-    // Goes on to the next piece.
-    fn pass_piece(&mut self)
-        ensures { self.new ≡ self.old }
-    {
-        self.pieces = self.pieces.saturating_add(1);
-    }
-
-    // Gives the next bytes.
-    fn give(&mut self, into: &mut [u8], count: usize)
-        requires some { 0 < count }
-        requires room { count ≤ length into.old }
-        requires left { IfSome self.old.left (λ bytes. count ≤ length bytes) }
-        ensures gets { Gets count self.old self.new into.new }
-        ensures read_faults { self.new.read_faults ≡ self.old.read_faults }
-        ensures sent { self.new.outlet ≡ self.old.outlet }
-    {
+        let count = self.piece.min(into.len());
         copy_from(into, self.bytes.as_slice(), self.at, count);
         self.at += count;
+        self.piece -= count;
+        Heard::Got(count)
     }
 }
 
 impl Link for MemLink {
     type Spent = MemLink;
 
-    ghost wire = { λ link. link };
+    ghost wire = { memory_wire };
 
-    ghost spent = { λ link. link };
+    ghost spent = { memory_wire };
 
-    fn recv<R: Wait>(&mut self, _rt: &R, into: &mut [u8]) -> Heard {
-        if self.calls.is_next_failing() {
+    /// Takes the next bytes of the piece at hand, or of the next one.
+    fn recv<R: Wait>(&mut self, _rt: &R, into: &mut [u8]) -> Heard
+        requires { 0 < length into.old }
+        ensures answers { result ≡ heard_from self.old (length into.old) }
+        ensures hears { Hears result (memory_wire self.old) (memory_wire self.new) into.new }
+        ensures pauses { HearingTakesPauses result (memory_wire self.old).pauses (memory_wire self.new).pauses }
+        ensures counted { HearingIsCounted result (memory_wire self.old) (memory_wire self.new) }
+        ensures sent { (memory_wire self.new).outlet ≡ (memory_wire self.old).outlet }
+        ensures told { TellsNoMore (memory_wire self.old) (memory_wire self.new) }
+        ensures plan { self.new.hearing.plan ≡ after_call self.old.hearing.plan }
+        ensures sink { self.new.sent ≡ self.old.sent }
+    {
+        if self.hearing.is_next_failing() {
             return Heard::Failed;
         }
-        let Some(piece) = self.piece_left() else {
-            return Heard::End;
-        };
-        if piece <= into.len() {
-            self.pass_piece();
+        if self.piece > 0 {
+            return self.give(into);
         }
-        if piece == 0 {
-            return Heard::Idle;
+        match self.later.pop_front() {
+            None => Heard::End,
+            Some(0) => Heard::Idle,
+            Some(size) => {
+                self.piece = size;
+                self.give(into)
+            }
         }
-        let count = piece.min(into.len());
-        self.give(into, count);
-        Heard::Got(count)
     }
 
-    fn send<R: Wait>(&mut self, _rt: &R, bytes: &[u8]) -> Put {
+    /// Keeps the bytes that are sent.
+    fn send<R: Wait>(&mut self, _rt: &R, bytes: &[u8]) -> Put
+        ensures answers { result ≡ put_into self.old.sent bytes.now }
+        ensures puts { Puts result (memory_wire self.old).outlet (memory_wire self.new).outlet bytes.now }
+        ensures counted { PutIsCounted result (memory_wire self.old).outlet (memory_wire self.new).outlet }
+        ensures held { self.new.sent.bytes.items ≡ held_behind self.old.sent bytes.now }
+        ensures heard { IsSameHearing (memory_wire self.old) (memory_wire self.new) }
+        ensures pauses { (memory_wire self.new).pauses ≡ (memory_wire self.old).pauses }
+        ensures told { TellsNoMore (memory_wire self.old) (memory_wire self.new) }
+        ensures plan { self.new.sent.plan ≡ after_call self.old.sent.plan }
+        ensures hearing { self.new.hearing ≡ self.old.hearing }
+    {
         self.sent.put(bytes)
     }
 
-    fn finish(self) -> MemLink {
+    fn finish(self) -> MemLink
+        ensures { result ≡ self }
+    {
         self
     }
 }

@@ -1,7 +1,7 @@
 use crate::acceptor::{Acceptor, Bound, Next};
+use crate::kept::MemLink;
 use crate::link::{Heard, Link};
-use crate::mem_acceptor::MemAcceptor;
-use crate::mem_link::MemLink;
+use crate::waiting::MemAcceptor;
 use kak_ports::{FailingCalls, Put};
 use std::test::Fail;
 
@@ -52,7 +52,7 @@ fn links_come_one_by_one_to_a_memory_acceptor_that_listens(rt: HostRuntime) -> R
         FailingCalls::none(alloc),
     )?;
     let plan = FailingCalls::at(vec![in alloc; 1u64, 3]?);
-    let mut acceptor = MemAcceptor::new(alloc, vec![in alloc; link]?, plan)?;
+    let mut acceptor = MemAcceptor::new(alloc, vec![in alloc; link]?, plan);
     assert!(rt; matches!(acceptor.next(&rt), Next::Idle));
     assert_eq!(rt; acceptor.bind(&rt, "s"), Bound::Failed);
     assert_eq!(rt; acceptor.bind(&rt, "s"), Bound::Up);

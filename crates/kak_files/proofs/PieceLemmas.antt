@@ -1,5 +1,5 @@
 -- Pieces of the bytes that were written to files in memory.
-use Rattle.std.proofs.Common.{◌≡◌, ℕ, ◌+◌, ◌≤◌, Bool, true, false, ◌&&◌, List, [], ◌∷◌, ◌++◌, length, map, take, drop, insert, if◌then◌else◌, refl, ap, ◌∙◌, arith}
+use Rattle.std.proofs.Common.{◌≡◌, ℕ, ◌+◌, ◌≤◌, Bool, true, false, ◌&&◌, List, [], ◌∷◌, ◌++◌, length, map, take, drop, refl, ap, ◌∙◌, arith}
 use Rattle.std.proofs.lemmas.Bool.{leb-true, le-leb}
 use Rattle.std.proofs.lemmas.List.{take-append-le, drop-append-le, length-append, length-drop}
 use Rattle.std.proofs.Math.Seq.{drop-append_seam, take-append_seam, drop-append-add, take-length}
@@ -84,8 +84,3 @@ module _ (bytes name text now : List ℕ) (pieces : List Piece) (from : ℕ) (be
       and_both (is_within (length now) (record { at = from; name = length name; count = length text })) (are_within (length now) pieces)
       (le-leb (from + length name + length text) (length now) (omega (arith, begins, ap length grown, length-append bytes (name ++ text), length-append name text)))
       (within-kept bytes (name ++ text) now pieces grown within)
-
-  -- the pieces where that piece may have been put before them
-  pub within-either : (r : Bool) → are_within (length now) (if r then insert pieces 0 (record { at = from; name = length name; count = length text }) else pieces) ≡ true
-  within-either true = within-added
-  within-either false = within-kept bytes (name ++ text) now pieces grown within

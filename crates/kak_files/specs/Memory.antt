@@ -1,5 +1,5 @@
 -- What files in memory hold.
-use Rattle.std.specs.Prelude.{ℕ, ◌+◌, Bool, List, ◌++◌, map, take, drop, nat_le}
+use Rattle.std.specs.Prelude.{ℕ, ◌+◌, ◌*◌, Bool, List, ◌++◌, map, take, drop, nat_le}
 use Rattle.std.specs.List.{list_all}
 use Rattle.kak_files.specs.declared.kept.MemFile.{MemFile}
 use Rattle.kak_files.specs.declared.kept.Piece.{Piece}
@@ -26,3 +26,7 @@ is_within total piece = nat_le (piece.at + piece.name + piece.count) total
 
 abbrev pub are_within : ℕ → List Piece → Bool
 are_within total pieces = list_all (is_within total) pieces
+
+-- how much of the room is taken by so many bytes in so many pieces: each piece takes 24 beside its bytes
+abbrev pub taken_by : ℕ → ℕ → ℕ
+taken_by bytes pieces = bytes + 24 * pieces

@@ -1,8 +1,13 @@
 -- What files in memory tell.
-use Rattle.std.specs.Prelude.{true, List, map, Some}
+use Rattle.std.specs.Prelude.{◌≡◌, ℕ, ◌+◌, ◌-◌, Bool, true, false, not, ◌||◌, nat_le, List, length, map, if◌then◌else◌, Some}
+use Rattle.kak_ports.specs.Plans.{is_planned}
+use Rattle.kak_ports.specs.declared.sink.Put.{Put}
+use Rattle.kak_ports.specs.declared.sink.Put.TheVariants.{Done, Failed as PutFailed}
+use Rattle.kak_files.specs.declared.files.FileRead.{FileRead}
+use Rattle.kak_files.specs.declared.files.FileRead.TheVariants.{Failed as ReadFailed}
 use Rattle.kak_files.specs.declared.kept.MemFiles.{MemFiles}
 use Rattle.kak_files.specs.Files.{FileRow, Shelf}
-use Rattle.kak_files.specs.Memory.{opening_row, held_rows}
+use Rattle.kak_files.specs.Memory.{opening_row, held_rows, taken_by}
 
 -- what they held when they were made
 abbrev pub opening_of : MemFiles → List FileRow
@@ -15,3 +20,16 @@ held_by files = held_rows files.bytes.items files.pieces.items files.opening.ite
 -- all that they tell: a write that fails leaves the file as it was
 abbrev pub shelf_of : MemFiles → Shelf
 shelf_of files = record { told = Some (record { opening = opening_of files; held = held_by files; spare = true }); faults = files.faults }
+
+-- whether a write of a name and bytes of these lengths has room
+abbrev pub has_room : MemFiles → ℕ → ℕ → Bool
+has_room files name count = nat_le (taken_by (name + count) 1) (files.room - taken_by (length files.bytes.items) (length files.pieces.items))
+
+-- what a write of a name and bytes of these lengths answers: it fails where it is planned to or has no room
+abbrev pub written_to : MemFiles → ℕ → ℕ → Put
+written_to files name count = if is_planned files.writes || not (has_room files name count) then PutFailed else Done
+
+-- a read fails where it is planned to, and only there
+abbrev pub ReadIsPlanned : FileRead → Bool → Type 0
+ReadIsPlanned ReadFailed planned = planned ≡ true
+ReadIsPlanned answer planned = planned ≡ false

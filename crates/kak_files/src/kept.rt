@@ -1,10 +1,10 @@
 //! What files in memory keep.
 
-ghost use Rattle.std.specs.Prelude.{◌≡◌, length, IsTrue, string_bytes};
-ghost use Rattle.kak_files.specs.Memory.{are_within};
+ghost use Rattle.std.specs.Prelude.{◌≡◌, ◌+◌, ◌<◌, ◌≤◌, length, IsTrue, string_bytes, vec_capacity};
+ghost use Rattle.kak_files.specs.Memory.{are_within, taken_by};
 
 use kak_ports::small::Utf8Text;
-use kak_ports::{MemSource, Octets};
+use kak_ports::{FailingCalls, Octets};
 
 /// A file of files in memory.
 #[derive(Drop, Debug)]
@@ -40,8 +40,11 @@ pub struct MemFiles {
     pub(crate) bytes: Vec<u8>,
     pub(crate) pieces: Vec<Piece>,
     pub(crate) room: usize,
-    pub(crate) reads: MemSource,
-    pub(crate) writes: MemSource,
+    pub(crate) reads: FailingCalls,
+    pub(crate) writes: FailingCalls,
     pub(crate) faults: u64,
     ghost within: { IsTrue (are_within (length bytes.items) pieces.items) },
+    ghost fits: { taken_by (length bytes.items) (length pieces.items) ≤ room },
+    ghost bytes_room: { room ≤ vec_capacity bytes },
+    ghost pieces_room: { room < taken_by 0 (vec_capacity pieces + 1) },
 }

@@ -1,22 +1,18 @@
 //! Files in memory, with calls that are planned to fail.
 
-ghost use Rattle.std.specs.Prelude.{◌≡◌, ◌+◌, ◌≤◌, ℕ, List, ◌++◌, ◌∷◌, [], length, map, Some, false, IfOk, OnOk, IfSome, IfNone, IsTrue};
-ghost use Rattle.kak_files.specs.Files.{content_of, Missing, Holds, one_more};
-ghost use Rattle.kak_files.specs.Memory.{opening_row, written_row, is_within, are_within};
-ghost use Rattle.kak_files.specs.MemoryShelf.{opening_of, held_by, shelf_of};
+ghost use Rattle.std.specs.Prelude.{◌≡◌, ◌+◌, ◌<◌, ◌≤◌, ◌++◌, ◌∷◌, [], length, map, vec_capacity, IfOk, OnErr, IfSome, IfNone, IsTrue};
+ghost use Rattle.kak_ports.specs.Plans.{is_planned, after_call};
+ghost use Rattle.kak_files.specs.Files.{content_of, Missing, Holds, one_more, Reads, IsWithin, ReadIsCounted, Writes, WriteIsCounted};
+ghost use Rattle.kak_files.specs.Memory.{opening_row, written_row, is_within};
+ghost use Rattle.kak_files.specs.MemoryShelf.{opening_of, held_by, shelf_of, has_room, written_to, ReadIsPlanned};
 
 use crate::files::{FileRead, Files};
 use crate::kept::{MemFile, MemFiles, Piece};
-use kak_ports::{FailingCalls, MemSource, Octets, Put, Source, Took};
+use kak_ports::{FailingCalls, Octets, Put};
 use std::alloc::{AllocError, Global};
 
 // What a write takes of the room beside its name and its bytes.
 const PIECE_BYTES: usize = 24;
-
-// Counts a call of a source that has no bytes, and tells whether it was planned to fail.
-fn is_planned(calls: &mut MemSource) -> bool {
-    matches!(calls.take(&mut [0]), Took::Failed)
-}
 
 // The name that was written.
 fn piece_name(bytes: &[u8], piece: Piece) -> &[u8]
@@ -48,14 +44,18 @@ impl MemFiles {
         ensures opening { IfOk result (λ f. opening_of f ≡ map opening_row opening.items) }
         ensures held { IfOk result (λ f. held_by f ≡ map opening_row opening.items) }
         ensures faults { IfOk result (λ f. f.faults ≡ 0) }
+        ensures nothing_written { IfOk result (λ f. f.bytes.items ≡ []) }
+        ensures room { IfOk result (λ f. f.room ≡ room) }
+        ensures reads { IfOk result (λ f. f.reads ≡ reads) }
+        ensures writes { IfOk result (λ f. f.writes ≡ writes) }
     {
         Ok(MemFiles {
             opening,
             bytes: Vec::with_capacity(alloc, room)?,
             pieces: Vec::with_capacity(alloc, room / PIECE_BYTES)?,
             room,
-            reads: MemSource::new(Vec::new(alloc), 1, reads),
-            writes: MemSource::new(Vec::new(alloc), 1, writes),
+            reads,
+            writes,
             faults: 0,
         })
     }
@@ -99,71 +99,77 @@ impl MemFiles {
     }
 }
 
+// Adds a name and what it holds behind other bytes, for which there is room.
+fn add_both(bytes: &mut Vec<u8>, name: &str, held: &[u8])
+    requires { length bytes.old.items + length name.now + length held.now ≤ vec_capacity bytes.old }
+    ensures added { bytes.new.items ≡ bytes.old.items ++ (name.now ++ held.now) }
+    ensures capacity { vec_capacity bytes.old ≤ vec_capacity bytes.new }
+{
+    let _ = bytes.extend_from_slice(name.as_bytes());
+    let _ = bytes.extend_from_slice(held);
+}
+
+// Puts a piece before all others, for which there is room.
+fn add_piece(pieces: &mut Vec<Piece>, piece: Piece)
+    requires { length pieces.old.items < vec_capacity pieces.old }
+    ensures added { pieces.new.items ≡ piece ∷ pieces.old.items }
+    ensures capacity { vec_capacity pieces.old ≤ vec_capacity pieces.new }
+{
+    let _ = pieces.insert(0, piece);
+}
+
 impl MemFiles {
     // Counts a fault.
     fn count_fault(&mut self)
-        ensures counted { self.new.faults ≡ one_more self.old.faults }
-        ensures opening { self.new.opening ≡ self.old.opening }
-        ensures bytes { self.new.bytes ≡ self.old.bytes }
-        ensures pieces { self.new.pieces ≡ self.old.pieces }
+        ensures { self.new ≡ record self.old { faults = one_more self.old.faults } }
     {
         self.faults = self.faults.saturating_add(1);
     }
 
     // Whether a write of a name and some bytes has room.
-    fn has_room(&self, name: usize, count: usize) -> bool {
-        let pieces = self.pieces.len().saturating_mul(PIECE_BYTES);
-        let taken = self.bytes.len().saturating_add(pieces);
-        let wanted = name.saturating_add(count).saturating_add(PIECE_BYTES);
-        wanted <= self.room.saturating_sub(taken)
+    fn has_room(&self, name: usize, count: usize) -> bool
+        ensures { result ≡ has_room self.now name count }
+    {
+        let left = self.room - self.bytes.len() - PIECE_BYTES * self.pieces.len();
+        name as u128 + count as u128 + PIECE_BYTES as u128 <= left as u128
     }
-}
 
-// Adds a name and what it holds behind other bytes, where there is memory; else it may add something too.
-fn add_both(bytes: &mut Vec<u8>, name: &str, held: &[u8]) -> bool
-    ensures added { IsTrue result → bytes.new.items ≡ bytes.old.items ++ (name.now ++ held.now) }
-    ensures kept { (more : List ℕ) × (bytes.new.items ≡ bytes.old.items ++ more) }
-{
-    if bytes.extend_from_slice(name.as_bytes()).is_err() {
-        return false;
-    }
-    match bytes.extend_from_slice(held) {
-        Ok(()) => true,
-        Err(_) => false,
-    }
-}
-
-impl MemFiles {
-    // Puts a name and what it holds before all others, where there is room.
-    fn add(&mut self, name: &str, bytes: &[u8]) -> bool
-        ensures added { IsTrue result → held_by self.new ≡ record { name = name.now; content = Holds bytes.now } ∷ held_by self.old }
-        ensures left { result ≡ false → held_by self.new ≡ held_by self.old }
+    // Puts a name and what it holds before all others, for which there is room.
+    fn add(&mut self, name: &str, bytes: &[u8])
+        requires { IsTrue (has_room self.old (length name.now) (length bytes.now)) }
+        ensures added { held_by self.new ≡ record { name = name.now; content = Holds bytes.now } ∷ held_by self.old }
         ensures opening { self.new.opening ≡ self.old.opening }
+        ensures room { self.new.room ≡ self.old.room }
+        ensures reads { self.new.reads ≡ self.old.reads }
+        ensures writes { self.new.writes ≡ self.old.writes }
         ensures faults { self.new.faults ≡ self.old.faults }
     {
-        if !self.has_room(name.len(), bytes.len()) {
-            return false;
-        }
         let piece = Piece {
             at: self.bytes.len(),
             name: name.len(),
             count: bytes.len(),
         };
-        if !add_both(&mut self.bytes, name, bytes) {
-            return false;
-        }
-        match self.pieces.insert(0, piece) {
-            Ok(()) => true,
-            Err(_) => false,
-        }
+        add_both(&mut self.bytes, name, bytes);
+        add_piece(&mut self.pieces, piece);
     }
 }
 
 impl Files for MemFiles {
     ghost shelf = { shelf_of };
 
-    fn read(&mut self, alloc: Global, name: &str, max: usize) -> Result<FileRead, AllocError> {
-        if is_planned(&mut self.reads) {
+    /// What the file of a name holds. It fails where it is planned to.
+    fn read(&mut self, alloc: Global, name: &str, max: usize) -> Result<FileRead, AllocError>
+        ensures planned { IfOk result (λ answer. ReadIsPlanned answer (is_planned self.old.reads)) }
+        ensures reads { IfOk result (λ answer. Reads answer name.now max (shelf_of self.old).told) }
+        ensures within { IfOk result (λ answer. IsWithin max answer) }
+        ensures keeps { (shelf_of self.new).told ≡ (shelf_of self.old).told }
+        ensures counted { IfOk result (λ answer. ReadIsCounted answer (shelf_of self.old).faults (shelf_of self.new).faults) }
+        ensures err { OnErr result (shelf_of self.new ≡ shelf_of self.old) }
+        ensures plan { self.new.reads ≡ after_call self.old.reads }
+        ensures writes { self.new.writes ≡ self.old.writes }
+        ensures room { self.new.room ≡ self.old.room }
+    {
+        if self.reads.is_next() {
             self.count_fault();
             return Ok(FileRead::Failed);
         }
@@ -177,15 +183,20 @@ impl Files for MemFiles {
         Ok(FileRead::Bytes(Octets::of_vec(bytes)))
     }
 
-    fn write(&mut self, name: &str, bytes: &[u8]) -> Put {
-        if is_planned(&mut self.writes) {
+    /// Makes the file of a name hold these bytes. It fails where it is planned to, or where there is no room.
+    fn write(&mut self, name: &str, bytes: &[u8]) -> Put
+        ensures answers { result ≡ written_to self.old (length name.now) (length bytes.now) }
+        ensures writes { Writes result name.now bytes.now (shelf_of self.old).told (shelf_of self.new).told }
+        ensures counted { WriteIsCounted result (shelf_of self.old).faults (shelf_of self.new).faults }
+        ensures plan { self.new.writes ≡ after_call self.old.writes }
+        ensures reads { self.new.reads ≡ self.old.reads }
+        ensures room { self.new.room ≡ self.old.room }
+    {
+        if self.writes.is_next() || !self.has_room(name.len(), bytes.len()) {
             self.count_fault();
             return Put::Failed;
         }
-        if self.add(name, bytes) {
-            return Put::Done;
-        }
-        self.count_fault();
-        Put::Failed
+        self.add(name, bytes);
+        Put::Done
     }
 }

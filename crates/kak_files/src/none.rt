@@ -6,7 +6,7 @@ use crate::files::{FileRead, Files};
 use kak_ports::Put;
 use std::alloc::{AllocError, Global};
 
-/// Files of which none is there, and which take none.
+/// Files of which none is there, and which take none. They tell that they hold nothing.
 #[derive(Drop, Debug)]
 pub struct NoFiles {
     faults: u64,
@@ -22,9 +22,9 @@ impl NoFiles {
 }
 
 impl Files for NoFiles {
-    ghost use Rattle.std.specs.Prelude.{None};
+    ghost use Rattle.std.specs.Prelude.{Some, [], true};
 
-    ghost shelf = { λ f. record { told = None; faults = f.faults } };
+    ghost shelf = { λ f. record { told = Some (record { opening = []; held = []; spare = true }); faults = f.faults } };
 
     fn read(&mut self, alloc: Global, name: &str, max: usize) -> Result<FileRead, AllocError> {
         Ok(FileRead::NotThere)

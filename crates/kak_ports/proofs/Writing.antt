@@ -37,9 +37,6 @@ written-front {rest = rest} w = (w.front, rest, w.split, w.added)
 pub written-all : {old now : Option (List ℕ)} {bytes rest : List ℕ} → rest ≡ [] → Written old now bytes rest → Appends old now bytes
 written-all {old = old} {now = now} {rest = rest} e w = let P : List ℕ → Type 0 = λ r. Appends old now r in subst P (sym (w.split ∙ ap (λ r. w.front ++ r) e ∙ append-nil w.front)) w.added
 
--- none of the bytes was added
-pub front-none : (xs ys bytes : List ℕ) → ys ≡ xs → AppendsFront (Some xs) (Some ys) bytes
-front-none xs ys bytes e = ([], bytes, refl, e ∙ sym (append-nil xs))
-
+-- a front of so many bytes was added
 pub front-taken : (n : ℕ) (xs ys bytes : List ℕ) → ys ≡ xs ++ take n bytes → AppendsFront (Some xs) (Some ys) bytes
 front-taken n xs ys bytes e = (take n bytes, drop n bytes, sym (take-append-drop n bytes), e)

@@ -3,13 +3,15 @@
 //! failures are planned, and one over the real thing, which tells no bytes.
 #![tactic(auto)]
 
+pub mod kept;
 pub mod memory;
 pub mod real;
 pub mod sink;
 pub mod small;
 pub mod source;
 
-pub use memory::{FailingCalls, MemSink, MemSource};
+pub use kept::{MemSink, MemSource};
+pub use memory::FailingCalls;
 pub use real::{ReadSource, WriteSink};
 pub use sink::{Put, Sink};
 pub use small::{Octets, Words};

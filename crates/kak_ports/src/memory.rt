@@ -1,8 +1,11 @@
 //! Ports over memory, with calls that are planned to fail.
 
-ghost use Rattle.std.specs.Prelude.{◌≡◌, ℕ, ◌+◌, ◌<◌, ◌≤◌, [], ◌++◌, length, take, drop, IfOk, IsTrue, Some, false};
-ghost use Rattle.kak_ports.specs.Ports.{AppendsFront, Rose};
+ghost use Rattle.std.specs.Prelude.{◌≡◌, ◌+◌, ◌<◌, ◌≤◌, [], ◌++◌, length, take, drop, IfOk};
+ghost use Rattle.kak_ports.specs.Ports.{Takes, TakeIsCounted, Puts, PutIsCounted};
+ghost use Rattle.kak_ports.specs.Plans.{is_planned, after_call, faults_after};
+ghost use Rattle.kak_ports.specs.Memory.{memory_inlet, taken_from, memory_outlet, put_into, fails_at, held_behind};
 
+use crate::kept::{MemSink, MemSource};
 use crate::sink::{Put, Sink};
 use crate::small::Octets;
 use crate::source::{Source, Took};
@@ -35,32 +38,24 @@ impl FailingCalls {
         FailingCalls { made: 0, failing }
     }
 
-    // Counts a call, and tells whether it is to fail.
-    fn is_next(&mut self) -> bool {
+    /// Counts a call, and tells whether it is to fail.
+    pub fn is_next(&mut self) -> bool
+        ensures planned { result ≡ is_planned self.old }
+        ensures counted { self.new ≡ after_call self.old }
+    {
         let number = self.made;
         self.made = number.saturating_add(1);
         self.failing.as_slice().contains(&number)
     }
 }
 
-/// A source over bytes in memory, which gives them in pieces.
-#[derive(Drop, Debug)]
-pub struct MemSource {
-    bytes: Octets,
-    at: usize,
-    piece: usize,
-    plan: FailingCalls,
-    faults: u64,
-    ghost within: { at ≤ length bytes },
-    ghost gives: { 0 < piece },
-}
-
 impl MemSource {
-    /// A source that gives these bytes, at most `piece` of them at once.
+    /// A source that gives these bytes, at most `piece` of them at once. A take fails where it is planned to.
     pub fn new(bytes: Vec<u8>, piece: usize, plan: FailingCalls) -> MemSource
         requires { 0 < piece }
         ensures left { drop result.at result.bytes ≡ bytes.items }
         ensures piece { result.piece ≡ piece }
+        ensures plan { result.plan ≡ plan }
         ensures faults { result.faults ≡ 0 }
     {
         MemSource {
@@ -83,9 +78,18 @@ fn copy_front(into: &mut [u8], from: &[u8], count: usize)
 }
 
 impl Source for MemSource {
-    ghost inlet = { λ s. record { left = Some (drop s.at s.bytes); most = s.piece; faults = s.faults } };
+    ghost inlet = { memory_inlet };
 
-    fn take(&mut self, into: &mut [u8]) -> Took {
+    /// Takes the next bytes. It fails where it is planned to, and only there.
+    fn take(&mut self, into: &mut [u8]) -> Took
+        requires { 0 < length into.old }
+        ensures answers { result ≡ taken_from self.old (length into.old) }
+        ensures takes { Takes result (memory_inlet self.old) (memory_inlet self.new) into.new }
+        ensures counted { TakeIsCounted result (memory_inlet self.old) (memory_inlet self.new) }
+        ensures faults { self.new.faults ≡ faults_after (is_planned self.old.plan) self.old.faults }
+        ensures most { self.new.piece ≡ self.old.piece }
+        ensures plan { self.new.plan ≡ after_call self.old.plan }
+    {
         if self.plan.is_next() {
             self.faults = self.faults.saturating_add(1);
             return Took::Failed;
@@ -101,21 +105,13 @@ impl Source for MemSource {
     }
 }
 
-/// A sink into memory, with room for a number of bytes that is taken when it is made.
-#[derive(Drop, Debug)]
-pub struct MemSink {
-    bytes: Vec<u8>,
-    room: usize,
-    plan: FailingCalls,
-    faults: u64,
-}
-
 impl MemSink {
     /// A sink with room for so many bytes. A put that doesn't fit fails, as one does that is planned to; a front of it
-    /// is then added, which is at most its first half.
+    /// is then added: its first half, as far as there is room.
     pub fn new(alloc: Global, room: usize, plan: FailingCalls) -> Result<MemSink, AllocError>
         ensures told { IfOk result (λ s. s.bytes.items ≡ []) }
         ensures room { IfOk result (λ s. s.room ≡ room) }
+        ensures plan { IfOk result (λ s. s.plan ≡ plan) }
         ensures faults { IfOk result (λ s. s.faults ≡ 0) }
     {
         Ok(MemSink {
@@ -133,44 +129,39 @@ impl MemSink {
         self.bytes.as_slice()
     }
 
-    // Adds bytes, or nothing.
-    fn add(&mut self, bytes: &[u8]) -> bool
-        ensures added { IsTrue result → self.new.bytes.items ≡ self.old.bytes.items ++ bytes.now }
-        ensures not_added { result ≡ false → self.new.bytes.items ≡ self.old.bytes.items }
+    // Adds bytes, for which there is room.
+    fn add(&mut self, bytes: &[u8])
+        requires { length self.old.bytes.items + length bytes.now ≤ self.old.room }
+        ensures added { self.new.bytes.items ≡ self.old.bytes.items ++ bytes.now }
+        ensures room { self.new.room ≡ self.old.room }
+        ensures plan { self.new.plan ≡ self.old.plan }
         ensures faults { self.new.faults ≡ self.old.faults }
     {
-        match self.bytes.extend_from_slice(bytes) {
-            Ok(()) => true,
-            Err(_) => false,
-        }
-    }
-
-    // Adds the first bytes where there is room for them. Counts a fault.
-    fn fail_after(&mut self, bytes: &[u8], count: usize) -> Put
-        requires { count ≤ length bytes.now }
-        ensures failed { result ≡ Put.Failed }
-        ensures front { AppendsFront (Some self.old.bytes.items) (Some self.new.bytes.items) bytes.now }
-        ensures counted { Rose self.old.faults self.new.faults }
-    {
-        self.faults = self.faults.saturating_add(1);
-        if self.add(&bytes[..count]) {
-            return Put::Failed;
-        }
-        Put::Failed
+        let _ = self.bytes.extend_from_slice(bytes);
     }
 }
 
 impl Sink for MemSink {
-    ghost outlet = { λ s. record { told = Some s.bytes.items; faults = s.faults } };
+    ghost outlet = { memory_outlet };
 
-    fn put(&mut self, bytes: &[u8]) -> Put {
+    /// Adds bytes at the end. It fails where they don't fit or where it is planned to, and only there.
+    fn put(&mut self, bytes: &[u8]) -> Put
+        ensures answers { result ≡ put_into self.old bytes.now }
+        ensures puts { Puts result (memory_outlet self.old) (memory_outlet self.new) bytes.now }
+        ensures counted { PutIsCounted result (memory_outlet self.old) (memory_outlet self.new) }
+        ensures faults { self.new.faults ≡ faults_after (fails_at self.old (length bytes.now)) self.old.faults }
+        ensures held { self.new.bytes.items ≡ held_behind self.old bytes.now }
+        ensures room { self.new.room ≡ self.old.room }
+        ensures plan { self.new.plan ≡ after_call self.old.plan }
+    {
         let room = self.room.saturating_sub(self.bytes.len());
-        if self.plan.is_next() || room < bytes.len() {
-            return self.fail_after(bytes, room.min(bytes.len() / 2));
+        let fits = bytes.len() <= room;
+        if self.plan.is_next() || !fits {
+            self.faults = self.faults.saturating_add(1);
+            self.add(&bytes[..room.min(bytes.len() / 2)]);
+            return Put::Failed;
         }
-        if self.add(bytes) {
-            return Put::Done;
-        }
-        self.fail_after(bytes, 0)
+        self.add(bytes);
+        Put::Done
     }
 }

@@ -1,7 +1,7 @@
 //! Ports over std's readers and writers: the edge of what is proved.
 
-ghost use Rattle.std.specs.Prelude.{◌≡◌, ◌≤◌, ◌^◌, length, drop};
-ghost use Rattle.kak_ports.specs.Ports.{Rose};
+ghost use Rattle.std.specs.Prelude.{◌≡◌, ◌≤◌, ◌^◌, length, drop, true};
+ghost use Rattle.kak_ports.specs.Plans.{faults_after};
 
 use crate::sink::{Put, Sink};
 use crate::source::{Source, Took};
@@ -22,6 +22,16 @@ impl<R: Read> ReadSource<R> {
     {
         ReadSource { reader, faults: 0 }
     }
+
+    // Counts a fault.
+    fn fail(&mut self) -> Took
+        ensures failed { result ≡ Took.Failed }
+        ensures reader { self.new.reader ≡ self.old.reader }
+        ensures counted { self.new.faults ≡ faults_after true self.old.faults }
+    {
+        self.faults = self.faults.saturating_add(1);
+        Took::Failed
+    }
 }
 
 impl<R: Read> Source for ReadSource<R> {
@@ -31,10 +41,7 @@ impl<R: Read> Source for ReadSource<R> {
         match self.reader.read(into) {
             Ok(0) => Took::End,
             Ok(count) => Took::Got(count),
-            Err(_) => {
-                self.faults = self.faults.saturating_add(1);
-                Took::Failed
-            }
+            Err(_) => self.fail(),
         }
     }
 }
@@ -67,7 +74,7 @@ impl<W: Write> WriteSink<W> {
     fn fail(&mut self) -> Put
         ensures failed { result ≡ Put.Failed }
         ensures writer { self.new.writer ≡ self.old.writer }
-        ensures counted { Rose self.old.faults self.new.faults }
+        ensures counted { self.new.faults ≡ faults_after true self.old.faults }
     {
         self.faults = self.faults.saturating_add(1);
         Put::Failed

@@ -1,4 +1,5 @@
-use crate::memory::{FailingCalls, MemSink, MemSource};
+use crate::kept::{MemSink, MemSource};
+use crate::memory::FailingCalls;
 use crate::real::{ReadSource, WriteSink};
 use crate::sink::{Put, Sink};
 use crate::small::{Octets, Utf8Text, Words};

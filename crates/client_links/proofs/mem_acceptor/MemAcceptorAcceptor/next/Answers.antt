@@ -1,7 +1,10 @@
 use Rattle.client_links.specs.Wires.{IsFresh}
-use Rattle.client_links.proofs.Coming.{first_gone}
+use Rattle.client_links.specs.Memory.{memory_wire}
+use Rattle.client_links.proofs.Coming.{all_behind, fewer_behind}
 use Rattle.client_links.proofs.mem_acceptor.MemAcceptorAcceptor.next.Goals as goal
 
 pub invariant_of-self-in-Some : goal.invariant_of-self-in-Some
-invariant_of-self-in-Some g c =
-    first_gone IsFresh c.self.inside.came c.self.inside.links.items c.pop_front.new.self.items c.in-Some.link c.in-Some.ensures.items c.self.invariant
+invariant_of-self-in-Some g c = record {
+  fresh = all_behind (λ link. IsFresh (memory_wire link)) c.args.self.now.links.items c.pop_front.new.self.items c.in-Some.link c.in-Some.ensures.items c.args.self.now.fresh;
+  few = fewer_behind c.args.self.now.came c.args.self.now.links.items c.pop_front.new.self.items c.in-Some.link c.in-Some.ensures.items c.args.self.now.few;
+}

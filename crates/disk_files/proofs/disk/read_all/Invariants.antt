@@ -1,5 +1,5 @@
 use Rattle.std.proofs.Common.{◌≤◌, length}
-use Rattle.kak_files.proofs.disk.read_all.Given as goal
+use Rattle.disk_files.proofs.disk.read_all.Given as goal
 
 abbrev pub invariant-loop : goal.invariant-loop
 invariant-loop g l = length l.bytes.items ≤ l.max

@@ -3,7 +3,7 @@
 ghost use Rattle.std.specs.Prelude.{◌≡◌, None, IfOk};
 ghost use Rattle.kak_files.specs.Files.{IsWithin, one_more};
 
-use crate::files::{FileRead, Files};
+use kak_files::{FileRead, Files};
 use kak_ports::{Octets, Put};
 use std::alloc::{AllocError, Global};
 use std::fs::{self, Metadata, OpenFile, OpenOptions};
