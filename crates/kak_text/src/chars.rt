@@ -62,6 +62,9 @@ impl Chars {
     pub fn from_str(alloc: Global, text: &str) -> Result<Chars, AllocError>
         ensures { IfOk result (λ new. new ≡ chars text.now) }
     {
+        if text.is_ascii() {
+            return Ok(Chars::of_vec(widened(alloc, text.as_bytes())?));
+        }
         Ok(Chars::of_vec(text.chars().collect(alloc)?))
     }
 
@@ -124,4 +127,15 @@ impl Chars {
     {
         Chars::from_slice(alloc, self.as_slice())
     }
+}
+
+// The characters whose numbers bytes are.
+fn widened(alloc: Global, bytes: &[u8]) -> Result<Vec<char>, AllocError>
+    ensures { IfOk result (λ wide. wide.items ≡ bytes.now) }
+{
+    let mut wide = Vec::with_capacity(alloc, bytes.len())?;
+    for b in bytes {
+        wide.push_reserved(*b as char);
+    }
+    Ok(wide)
 }

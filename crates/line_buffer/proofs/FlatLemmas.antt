@@ -1,5 +1,5 @@
 -- Lemmas on going over the lines of a text.
-use Rattle.std.proofs.Common.{◌≡◌, ℕ, ◌+◌, ◌-◌, ◌<◌, ◌≤◌, List, [], ◌∷◌, ◌++◌, length, take, drop, get_or, slice_range, encode_utf8_all, encode_utf8, refl, sym, ap, ap₂, ◌∙◌, arith, append-nil, length-drop, take_all, take_at, take-add, inl, inr}
+use Rattle.std.proofs.Common.{◌≡◌, ℕ, ◌+◌, ◌-◌, ◌<◌, ◌≤◌, List, [], ◌∷◌, ◌++◌, length, take, drop, get_or, slice_range, encode_utf8_all, encode_utf8, refl, sym, ap, ap₂, ◌∙◌, arith, append-nil, append_assoc, length-drop, take_all, take_at, take-add, inl, inr}
 use Rattle.std.proofs.lemmas.List.{take_more, drop-drop, take-append-le}
 use Rattle.std.proofs.lemmas.Str.{encodes-append}
 use Rattle.text_model.specs.declared.TheConstants.{MAX_CHARS}
@@ -109,3 +109,35 @@ sliced_none text chars p n start to so_far same o l =
     let here : offset text (record { line = n; column = start }) ≡ offset text (record { line = to.line; column = start }) = ap (λ m. length (joined (take m (lines_of text))) + start) same in
     let e : offset text (record { line = n; column = start }) ≡ offset text to = omega arith in
     so_far ∙ ap (slice_range text p) e
+
+-- a place with a later line behind it lies in its line
+pub from-in-line : (text : List ℕ) (from to : Coord) → IsPlaceOrEnd text from → IsPlaceOrEnd text to → from.line < to.line → from.column < length (get_or (lines_of text) from.line [])
+from-in-line text from to (inl p) k h = p.in_line
+from-in-line text from to (inr e) k h = absurd (omega (arith, h, line-le-count text to k, ap (λ (x : Coord). x.line) e))
+
+-- nothing was added yet
+pub added-none-yet : (text old : List ℕ) (p : ℕ) → old ≡ old ++ encode_utf8_all (slice_range text p p)
+added-none-yet text old p =
+    let none : p - p ≡ 0 = omega arith in
+    sym (append-nil old) ∙ sym (ap (λ k. old ++ encode_utf8_all (take k (drop p text))) none)
+
+-- one more line's characters were added
+pub added-line : (text old bytes new line : List ℕ) (p n start : ℕ) → bytes ≡ old ++ encode_utf8_all (slice_range text p (offset text (record { line = n; column = start }))) → new ≡ bytes ++ encode_utf8_all (drop start line) → line ≡ get_or (lines_of text) n []
+    → n < length (lines_of text) → start < length (get_or (lines_of text) n []) → p ≤ offset text (record { line = n; column = start }) → new ≡ old ++ encode_utf8_all (slice_range text p (offset text (record { line = n + 1; column = 0 })))
+added-line text old bytes new line p n start so_far more is h k l =
+    let chars : List ℕ = slice_range text p (offset text (record { line = n; column = start })) in
+    more ∙ ap (λ b. b ++ encode_utf8_all (drop start line)) so_far ∙ append_assoc old (encode_utf8_all chars) (encode_utf8_all (drop start line))
+    ∙ ap (λ t. old ++ t) (sym (encodes-append chars (drop start line)) ∙ ap encode_utf8_all (sliced_line text chars (chars ++ drop start line) line p n start refl refl is h k l))
+
+-- those of the last line's part were
+pub added-part : (text old bytes new line part : List ℕ) (p n start : ℕ) (to : Coord) → bytes ≡ old ++ encode_utf8_all (slice_range text p (offset text (record { line = n; column = start }))) → new ≡ bytes ++ encode_utf8_all part → part ≡ take (to.column - start) (drop start line) → line ≡ get_or (lines_of text) to.line []
+    → n ≡ to.line → IsPlace text to → start ≤ to.column → p ≤ offset text (record { line = n; column = start }) → new ≡ old ++ encode_utf8_all (slice_range text p (offset text to))
+added-part text old bytes new line part p n start to so_far more cut is same place o l =
+    let chars : List ℕ = slice_range text p (offset text (record { line = n; column = start })) in
+    more ∙ ap (λ b. b ++ encode_utf8_all part) so_far ∙ append_assoc old (encode_utf8_all chars) (encode_utf8_all part)
+    ∙ ap (λ t. old ++ t) (sym (encodes-append chars part) ∙ ap encode_utf8_all (sliced_part text chars (chars ++ part) line p n start to refl (ap (λ t. chars ++ t) cut) is same place o l))
+
+-- nothing is left to add
+pub added-all : (text old bytes : List ℕ) (p n start : ℕ) (to : Coord) → bytes ≡ old ++ encode_utf8_all (slice_range text p (offset text (record { line = n; column = start }))) → n ≡ to.line → to.column ≤ start → offset text (record { line = n; column = start }) ≤ offset text to → bytes ≡ old ++ encode_utf8_all (slice_range text p (offset text to))
+added-all text old bytes p n start to so_far same o l =
+    so_far ∙ ap (λ t. old ++ encode_utf8_all t) (sliced_none text (slice_range text p (offset text (record { line = n; column = start }))) p n start to refl same o l)

@@ -1,12 +1,13 @@
 -- Lemmas on insertions at coordinates.
-use Rattle.std.proofs.Common.{◌≡◌, ℕ, ◌+◌, ◌<◌, ◌≤◌, true, eqb, inl, inr, List, [], ◌∷◌, ◌++◌, length, take, drop, get_or, refl, sym, ap, ap₂, subst, ◌∙◌, arith, append_assoc, append-nil, length-append, length-take-le, take_all, take_at}
+use Rattle.std.proofs.Common.{◌≡◌, ◌≢◌, All, ne_eqb, ℕ, ◌+◌, ◌<◌, ◌≤◌, true, eqb, inl, inr, List, [], ◌∷◌, ◌++◌, length, take, drop, get_or, refl, sym, ap, ap₂, subst, ◌∙◌, arith, append_assoc, append-nil, length-append, length-take-le, take_all, take_at}
 use Rattle.std.proofs.lemmas.List.{take_more, drop_all}
+use Rattle.std.proofs.lemmas.List.Elements.{All-head, All-tail}
 use Rattle.text_model.specs.declared.TheConstants.{MAX_CHARS}
 use Rattle.text_model.specs.declared.coords.Coord.{Coord}
 use Rattle.text_model.specs.Coords.{origin, after, reached}
 use Rattle.text_model.specs.Texts.{IsStored, IsPlace, IsPlaceOrEnd, lines_of, offset, coord_at, end_coord, last_place}
 use Rattle.text_model.specs.Changes.{ended, put_in, inserted, Insertion, move_of, IsCut, IsShift}
-use Rattle.text_model.proofs.CoordLemmas.{reached-append, after-newline, after-other, test_cases}
+use Rattle.text_model.proofs.CoordLemmas.{reached-append, after-newline, after-other, test_cases, same_coord}
 use Rattle.text_model.proofs.PlaceLemmas.{offset-le, coord_at-offset, coord_at-offset_or_end, All-lines_of, length-lines}
 use Rattle.text_model.proofs.ChangeLemmas.{put_in-inside, put_in-end, move_of-change}
 use Rattle.line_buffer.proofs.BufferLemmas.{length-lines-le, length-line-le}
@@ -14,6 +15,12 @@ use Rattle.line_buffer.proofs.BufferLemmas.{length-lines-le, length-line-le}
 -- one character more
 pub reached-push : (at : Coord) (xs : List ℕ) (i : ℕ) → i < length xs → reached at (take (i + 1) xs) ≡ after (reached at (take i xs)) (get_or xs i 0)
 reached-push at xs i h = ap (reached at) (take_more xs i 0 h) ∙ reached-append at (take i xs) (get_or xs i 0 ∷ [])
+
+-- over characters of one line one stays on it
+pub reached-along : (at : Coord) (xs : List ℕ) → All (λ c. c ≢ 10) xs → reached at xs ≡ record { line = at.line; column = at.column + length xs }
+reached-along at [] none = same_coord _ _ refl (omega arith)
+reached-along at (c ∷ cs) none =
+    ap (λ t. reached t cs) (after-other at c (ne_eqb c 10 (All-head (λ c. c ≢ 10) c cs none))) ∙ reached-along (record { line = at.line; column = at.column + 1 }) cs (All-tail (λ c. c ≢ 10) c cs none) ∙ same_coord _ _ refl (omega arith)
 
 pub after-line-le : (at : Coord) (c : ℕ) → (after at c).line ≤ at.line + 1
 after-line-le at c =

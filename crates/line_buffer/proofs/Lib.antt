@@ -5,3 +5,4 @@ pub mod InsertLemmas
 pub mod RowLemmas
 pub mod EraseLemmas
 pub mod FlatLemmas
+pub mod GrowingLemmas

@@ -1,6 +1,6 @@
 -- Lemmas on a list in two rows, the second one with its last item first.
 use Rattle.std.proofs.Common.{◌≡◌, ℕ, suc, ◌+◌, ◌-◌, ◌<◌, ◌≤◌, List, [], ◌∷◌, ◌++◌, reverse, length, take, drop, get_or, set, refl, sym, ap, ap₂, ◌∙◌, arith, append_assoc, length-append, length-take-le, length-drop, take_at, drop_at, take-append-drop, append-nil}
-use Rattle.std.proofs.lemmas.List.{reverse-append, reverse-reverse, length-reverse, get_or-append_right, get_or-reverse, set-append_right, set_split, set_at, set-get_or, set-append_left, get_or_read, get_or_append_left, drop-drop, take-append-le, take_all, drop_all}
+use Rattle.std.proofs.lemmas.List.{reverse-append, reverse-reverse, length-reverse, get_or-append_right, get_or-reverse, set-append_right, set_split, set_at, set-get_or, set-append_left, get_or_read, get_or_append_left, drop-drop, take-append-le, drop-append-le, take_all, drop_all}
 
 -- a list turned round, at an item
 reverse_at : {X : Type 0} (p : List X) (y : X) (q : List X) → reverse (p ++ (y ∷ q)) ≡ reverse q ++ (y ∷ reverse p)
@@ -73,18 +73,6 @@ split_rows old front new back some n v l e =
 pub last-front : {X : Type 0} (front back old : List X) (n : ℕ) (d : X) → front ++ reverse back ≡ old → length front ≡ n + 1 → get_or front n d ≡ get_or old n d
 last-front front back old n d v l = sym (get_or_append_left front (reverse back) d n (omega arith)) ∙ ap (λ t. get_or t n d) v
 
--- items turned to the end of a row, and cut off there
-pub turned_off : (row turned new : List ℕ) (from to left : ℕ) → from ≤ to → to ≤ length row → left ≡ length row - (to - from) → turned ≡ take from row ++ (drop (to - from) (drop from row) ++ take (to - from) (drop from row)) → new ≡ take left (take (length row) (turned ++ drop (length turned) row)) → new ≡ take from row ++ drop to row
-turned_off row turned new from to left h k l t n =
-    let gone : List ℕ = take (to - from) (drop from row) in
-    let sum : from + (to - from) ≡ to = omega arith in
-    let back : drop (to - from) (drop from row) ≡ drop to row = drop-drop (to - from) from row ∙ ap (λ m. drop m row) sum in
-    let parts : turned ≡ (take from row ++ drop to row) ++ gone = t ∙ ap (λ x. take from row ++ (x ++ gone)) back ∙ sym (append_assoc (take from row) (drop to row) gone) in
-    let short : length (take from row ++ drop to row) ≡ left = omega (arith, length-append (take from row) (drop to row), length-take-le from row (omega arith), length-drop to row) in
-    let some : length gone ≡ to - from = length-take-le (to - from) (drop from row) (omega (arith, length-drop from row)) in
-    let long : length turned ≡ length row = omega (arith, ap length parts, length-append (take from row ++ drop to row) gone, short, some) in
-    n ∙ ap (take left) (take_at turned (drop (length turned) row) (length row) long ∙ parts) ∙ take_at (take from row ++ drop to row) gone left short
-
 -- items put behind a row, and those between a place and its end cut out
 pub ended_as : {X : Type 0} (row end mid new : List X) (from to : ℕ) → from ≤ to → to ≡ length row → mid ≡ row ++ end → new ≡ take from mid ++ drop to mid → new ≡ take from row ++ end
 ended_as row end mid new from to h l m n =
@@ -133,3 +121,18 @@ set-back front back old n m x v l h e =
 -- where the gap is, by what stands behind it
 pub gap_at : {X : Type 0} (a b c d : List X) (to : ℕ) → a ++ reverse b ≡ c ++ reverse d → length b ≡ length d - (to - length c) → length c ≤ to → to ≤ length c + length d → length a ≡ to
 gap_at a b c d to e l h k = omega (arith, both a b (c ++ reverse d) e, both c d (c ++ reverse d) refl)
+
+-- a row with as many items as before when some are laid on a place
+pub length_laid : (row laid tail : List ℕ) (at : ℕ) → at + length tail ≤ length row → laid ≡ take at row ++ (tail ++ drop (at + length tail) row) → length laid ≡ length row
+length_laid row laid tail at h l =
+    omega (arith, ap length l, length-append (take at row) (tail ++ drop (at + length tail) row), length-append tail (drop (at + length tail) row), length-take-le at row (omega arith), length-drop (at + length tail) row)
+
+-- items laid on a place, and others laid behind them up to the end
+pub laid_twice : (row first second chars tail : List ℕ) (at : ℕ) → at + length chars + length tail ≡ length row → first ≡ take at row ++ (chars ++ drop (at + length chars) row) → second ≡ take (at + length chars) first ++ (tail ++ drop (at + length chars + length tail) first) → second ≡ take at row ++ (chars ++ tail)
+laid_twice row first second chars tail at h f s =
+    let rest : List ℕ = drop (at + length chars) row in
+    let front : length (take at row ++ chars) ≡ at + length chars = omega (arith, length-append (take at row) chars, length-take-le at row (omega arith)) in
+    let whole : first ≡ (take at row ++ chars) ++ rest = f ∙ sym (append_assoc (take at row) chars rest) in
+    let long : length first ≡ length row = length_laid row first chars at (omega arith) f in
+    let none : drop (at + length chars + length tail) first ≡ [] = drop_all (at + length chars + length tail) first (omega arith) in
+    s ∙ ap₂ (λ a b. a ++ (tail ++ b)) (ap (take (at + length chars)) whole ∙ take_at (take at row ++ chars) rest (at + length chars) front) none ∙ ap (λ t. (take at row ++ chars) ++ t) (append-nil tail) ∙ append_assoc (take at row) chars tail

@@ -76,6 +76,27 @@ impl Lines {
         Ok(chars)
     }
 
+    /// Adds the characters from a place to before another, or to the end, to a string. It costs what it adds. Want of memory
+    /// leaves some of it added.
+    pub fn push_slice(&self, text: &mut String, from: Coord, to: Coord) -> Result<(), AllocError>
+        requires from { IsPlaceOrEnd self.now from }
+        requires to { IsPlaceOrEnd self.now to }
+        requires ordered { offset self.now from ≤ offset self.now to }
+        ensures { OnOk result (string_bytes text.new ≡ string_bytes text.old ++ encode_utf8_all (slice_range self.now (offset self.now from) (offset self.now to))) }
+    {
+        let mut start = from.column as usize;
+        for n in from.line..to.line {
+            push_all(text, &self.line(n as usize)[start..])?;
+            start = 0;
+        }
+        let column = to.column as usize;
+        if column <= start {
+            return Ok(());
+        }
+        push_all(text, &self.line(to.line as usize)[start..column])?;
+        Ok(())
+    }
+
     /// The characters from a place to before another, or to the end, as a string. It costs what it gives.
     pub fn slice(&self, alloc: Global, from: Coord, to: Coord) -> Result<String, AllocError>
         requires from { IsPlaceOrEnd self.now from }
@@ -83,9 +104,8 @@ impl Lines {
         requires ordered { offset self.now from ≤ offset self.now to }
         ensures { IfOk result (λ text. string_bytes text ≡ encode_utf8_all (slice_range self.now (offset self.now from) (offset self.now to))) }
     {
-        let chars = self.chars(alloc, from, to)?;
         let mut text = String::new(alloc);
-        push_all(&mut text, chars.as_slice())?;
+        self.push_slice(&mut text, from, to)?;
         Ok(text)
     }
 }
@@ -94,6 +114,7 @@ impl Lines {
 fn push_all(text: &mut String, chars: &[char]) -> Result<(), AllocError>
     ensures { OnOk result (string_bytes text.new ≡ string_bytes text.old ++ encode_utf8_all chars.now) }
 {
+    text.reserve(chars.len())?;
     for c in chars {
         text.push(*c)?;
     }

@@ -1,6 +1,6 @@
 //! Putting characters into a text, over the calls that reach its fields.
 
-ghost use Rattle.std.specs.Prelude.{◌≡◌, ℕ, ◌+◌, ◌<◌, ◌≤◌, ◌^◌, ◌↔◌, ◌++◌, length, IfOk, OnOk, OnErr, IsErrOf};
+ghost use Rattle.std.specs.Prelude.{◌≡◌, ◌≢◌, ℕ, ◌+◌, ◌<◌, ◌≤◌, ◌^◌, ◌↔◌, ◌++◌, length, All, IfOk, OnOk, OnErr, IsErrOf};
 ghost use Rattle.text_model.specs.Coords.{after, reached};
 ghost use Rattle.text_model.specs.Texts.{IsStored, IsText, IsPlace, IsPlaceOrEnd, offset, end_coord};
 ghost use Rattle.text_model.specs.Changes.{ended, put_in, inserted, changed, Insertion, move_of, IsShift};
@@ -62,11 +62,12 @@ impl Lines {
         if chars.len() > MAX_CHARS - self.len() {
             return Err(LinesError::TextFull);
         }
-        let behind = walked(at, chars);
         if chars.contains(&'\n') {
+            let behind = walked(at, chars);
             self.put_lines(alloc, at, chars)?;
             return Ok(behind);
         }
+        let behind = along(at, chars);
         self.put_on_line(at, chars)?;
         Ok(behind)
     }
@@ -138,4 +139,16 @@ fn walked(from: Coord, chars: &[char]) -> Coord
         at = stepped(at, *c);
     }
     at
+}
+
+// The coordinate behind characters of one line that begin at a coordinate.
+fn along(from: Coord, chars: &[char]) -> Coord
+    requires column { from.column + length chars.now < 2 ^ 32 }
+    requires one_line { All (λ c. c ≢ 10) chars.now }
+    ensures { result ≡ reached from chars.now }
+{
+    Coord {
+        line: from.line,
+        column: from.column + chars.len() as u32,
+    }
 }

@@ -5,6 +5,7 @@
 mod cuts;
 pub mod erases;
 pub mod flat;
+pub mod growing;
 pub mod inserts;
 mod line;
 pub mod lines;
@@ -12,7 +13,5 @@ mod rows;
 pub mod steps;
 mod turns;
 
+pub use growing::GrowingLines;
 pub use lines::{Lines, LinesError};
-
-#[cfg(test)]
-mod tests;

@@ -3,7 +3,7 @@
 ghost use Rattle.std.specs.Prelude.{◌≡◌, ◌≢◌, ◌<◌, ◌≤◌, ◌++◌, length, take, drop, All, IfOk, OnOk, OnErr};
 ghost use Rattle.text_model.specs.Texts.{IsLine};
 
-use crate::turns::{SHORT, cut_out};
+use crate::turns::{SHORT, cut_out, put_in};
 use smallvec::SmallVec;
 use std::alloc::{AllocError, Global};
 use std::marker::Model;
@@ -43,8 +43,7 @@ impl Line {
         ensures ok { OnOk result (self.new ≡ take column self.old ++ (chars.now ++ drop column self.old)) }
         ensures err { OnErr result (self.new ≡ self.old) }
     {
-        self.chars.insert_from_slice(column, chars)?;
-        Ok(())
+        put_in(&mut self.chars, column, chars)
     }
 
     /// Takes the characters from a column to before another out; takes no memory.

@@ -3,9 +3,11 @@
 ghost use Rattle.std.specs.Prelude.{◌≡◌, ◌≢◌, ℕ, ◌+◌, ◌<◌, ◌≤◌, ◌*◌, ◌++◌, ◌∷◌, [], length, take, drop, All, IfOk, OnOk, OnErr};
 ghost use Rattle.text_model.specs.Texts.{IsStored, IsText, IsLine, IsPlace, joined, offset, line_count, nth_line};
 ghost use Rattle.text_model.specs.Changes.{changed, Insertion, Erasure};
+ghost use Rattle.line_buffer.specs.Buffer.{IsBuffer};
 ghost use Rattle.line_buffer.specs.declared.lines.LinesError.TheVariants.{NoMemory};
 
 use crate::cuts::cut;
+use crate::line::Line;
 use crate::rows::Rows;
 use kak_text::{Coord, MAX_CHARS, Text};
 use std::alloc::{AllocError, Global};
@@ -57,6 +59,17 @@ impl Lines {
             lines: Rows::of_vec(alloc, cut(alloc, chars)?),
             count: chars.len(),
         })
+    }
+
+    // These lines, with so many characters in them.
+    pub(crate) fn of_lines(alloc: Global, lines: Vec<Line>, count: usize) -> Lines
+        requires { IsBuffer lines.items count }
+        ensures { result ≡ joined lines.items }
+    {
+        Lines {
+            lines: Rows::of_vec(alloc, lines),
+            count,
+        }
     }
 
     /// How many characters there are: one at least, and at most `MAX_CHARS`.
