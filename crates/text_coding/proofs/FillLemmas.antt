@@ -1,21 +1,62 @@
 -- The lines that characters which came one behind another are.
-use Rattle.std.proofs.Common.{◌≡◌, ◌≢◌, ℕ, Bool, false, ◌==◌, List, [], ◌∷◌, ◌++◌, Option, Some, option_to_list, append_assoc, sym, ap, ◌∙◌, arith}
+use Rattle.std.proofs.Common.{◌≡◌, ◌≢◌, ℕ, zero, suc, ◌<◌, Bool, true, false, ◌==◌, List, [], ◌∷◌, ◌++◌, length, All, append_assoc, append-nil, refl, sym, ap, subst, ◌∙◌, arith}
+use Rattle.std.proofs.lemmas.List.Elements.{All-append, All-head, All-tail}
 use Rattle.std.proofs.lemmas.Bool.Decides.{nat_tests}
-use Rattle.text_model.specs.Texts.{ends_in_newline}
+use Rattle.text_model.specs.Texts.{IsText, IsLine, ends_in_newline}
 use Rattle.text_model.specs.Changes.{ended}
-use Rattle.text_model.proofs.ChangeLemmas.{ended-other}
-use Rattle.text_coding.proofs.FormLemmas.{ends-last, last-push}
+use Rattle.text_model.proofs.ChangeLemmas.{ended-text, ended-other, text_ends, IsText-append}
+use Rattle.text_model.proofs.LineLemmas.{longer_is_line}
+use Rattle.text_coding.specs.Surveying.{last_of}
+use Rattle.text_coding.proofs.FormLemmas.{ends-last}
 
-ends-push : (s : List ℕ) (c : ℕ) (b : Bool) → (c == 10) ≡ b → ends_in_newline (s ++ c ∷ []) ≡ b
-ends-push s c b is = ends-last (s ++ c ∷ []) ∙ ap (λ n. n == 10) (last-push 0 s c) ∙ is
+-- no newline among characters
+abbrev pub IsOpen : List ℕ → Type 0
+IsOpen cs = All (λ c. c ≢ 10) cs
 
 test-false : (a b : ℕ) → a ≢ b → (a == b) ≡ false
 test-false a b apart = grind (arith, nat_tests)
 
--- characters whose last is another
-pub finished-other : (self lines piece : List ℕ) (last : Option ℕ) (all new : List ℕ) (c : ℕ) → self ≡ lines ++ (piece ++ option_to_list last) → last ≡ Some c → c ≢ 10 → all ≡ piece ++ c ∷ [] → new ≡ lines ++ (all ++ 10 ∷ []) → new ≡ ended self
-finished-other self lines piece last all new c is some other grown put =
-    let here : self ≡ (lines ++ piece) ++ c ∷ [] = is ∙ ap (λ l. lines ++ (piece ++ option_to_list l)) some ∙ sym (append_assoc lines piece (c ∷ [])) in
-    put ∙ sym (append_assoc lines all (10 ∷ [])) ∙ ap (λ a. (lines ++ a) ++ 10 ∷ []) grown
-    ∙ ap (λ t. t ++ 10 ∷ []) (sym (here ∙ append_assoc lines piece (c ∷ [])))
-    ∙ sym (ended-other self (ap ends_in_newline here ∙ ends-push (lines ++ piece) c false (test-false c 10 other)))
+one-open : (c : ℕ) → c ≢ 10 → IsOpen (c ∷ [])
+one-open c other zero d lt = other
+one-open c other (suc k) d lt = absurd (omega (arith, lt))
+
+pub open-more : (old new : List ℕ) (c : ℕ) → IsOpen old → c ≢ 10 → new ≡ old ++ c ∷ [] → IsOpen new
+open-more old new c h other e = subst IsOpen (sym e) (All-append (λ x. x ≢ 10) old (c ∷ []) h (one-open c other))
+
+-- with a newline behind them they are a line
+pub closed-line : (cs : List ℕ) → IsOpen cs → IsLine (cs ++ 10 ∷ [])
+closed-line [] h = record { some = omega arith; ended = refl; only = λ k lt. absurd (omega (arith, lt)) }
+closed-line (c ∷ cs) h = longer_is_line c (cs ++ 10 ∷ []) (All-head (λ x. x ≢ 10) c cs h) (closed-line cs (All-tail (λ x. x ≢ 10) c cs h))
+
+-- a line behind others
+pub text-more : (old new line : List ℕ) → IsLine line → new ≡ old ++ line → IsText new
+text-more old new line h e = subst IsText (sym e) (IsText-append old line (record { some = h.some; ended = h.ended }))
+
+last-append : (b : ℕ) (xs ys : List ℕ) → last_of b (xs ++ ys) ≡ last_of (last_of b xs) ys
+last-append b [] ys = refl
+last-append b (x ∷ xs) ys = last-append x xs ys
+
+open-last : (b : ℕ) (cs : List ℕ) → 0 < length cs → IsOpen cs → last_of b cs ≢ 10
+open-last b [] some h = absurd (omega (arith, some))
+open-last b (c ∷ []) some h = All-head (λ x. x ≢ 10) c [] h
+open-last b (c ∷ (d ∷ ds)) some h = open-last c (d ∷ ds) (omega arith) (All-tail (λ x. x ≢ 10) c (d ∷ ds) h)
+
+closed-is : (lines line text : List ℕ) → last_of 0 (lines ++ line) ≢ 10 → text ≡ lines ++ (line ++ 10 ∷ []) → text ≡ ended (lines ++ line)
+closed-is lines line text other e =
+    e ∙ sym (append_assoc lines line (10 ∷ []))
+    ∙ sym (ended-other (lines ++ line) (ends-last (lines ++ line) ∙ test-false (last_of 0 (lines ++ line)) 10 other))
+
+-- characters without a newline alone, and behind lines
+pub closed-alone : (lines line text : List ℕ) → length lines ≡ 0 → IsOpen line → text ≡ lines ++ (line ++ 10 ∷ []) → text ≡ ended (lines ++ line)
+closed-alone [] [] text none h e = closed-is [] [] text (λ z. absurd (omega (arith, z))) e
+closed-alone [] (c ∷ cs) text none h e = closed-is [] (c ∷ cs) text (open-last 0 (c ∷ cs) (omega arith) h) e
+closed-alone (l ∷ ls) line text none h e = absurd (omega (arith, none))
+
+pub closed-behind : (lines line text : List ℕ) → 0 < length line → IsOpen line → text ≡ lines ++ (line ++ 10 ∷ []) → text ≡ ended (lines ++ line)
+closed-behind lines line text some h e = closed-is lines line text (λ z. open-last (last_of 0 lines) line some h (sym (last-append 0 lines line) ∙ z)) e
+
+-- whole lines alone
+pub whole-alone : (lines line text : List ℕ) → line ≡ [] → IsText lines → text ≡ lines → text ≡ ended (lines ++ line)
+whole-alone lines line text none h e =
+    let same : lines ++ line ≡ lines = ap (λ l. lines ++ l) none ∙ append-nil lines in
+    e ∙ sym (ended-text lines (text_ends lines h)) ∙ sym (ap ended same)

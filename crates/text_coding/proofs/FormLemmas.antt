@@ -1,18 +1,23 @@
 -- Line ends, one character after another.
-use Rattle.std.proofs.Common.{◌≡◌, ◌≢◌, ℕ, suc, ◌+◌, ◌-◌, ◌<◌, ◌≤◌, Bool, true, false, cond, ◌&&◌, ◌||◌, ◌==◌, List, [], ◌∷◌, ◌++◌, length, min, ◌^◌, slice_index, refl, sym, ap, ◌∙◌, arith, true≢false}
+use Rattle.std.proofs.Common.{◌≡◌, ◌≢◌, ℕ, zero, suc, ◌+◌, ◌-◌, ◌<◌, ◌≤◌, Bool, true, false, cond, ◌&&◌, ◌||◌, ◌==◌, List, [], ◌∷◌, ◌++◌, length, min, ◌^◌, slice_index, take, get_or, append-nil, refl, sym, ap, ◌∙◌, arith, true≢false}
 use Rattle.std.proofs.lemmas.Bool.{eqb-true}
 use Rattle.std.proofs.lemmas.List.{length-append, take_at}
 use Rattle.std.specs.Str.{chars, IsUtf8}
 use Rattle.std.proofs.lemmas.Str.{length-le-encodes, encodes-chars}
 use Rattle.std.proofs.lemmas.Bool.Decides.{nat_tests}
 use Rattle.text_coding.specs.declared.decoding.Survey.{Survey}
+use Rattle.text_model.specs.declared.TheConstants.{MAX_CHARS}
 use Rattle.text_model.specs.Texts.{ends_in_newline}
 use Rattle.text_model.specs.Changes.{ended, front}
 use Rattle.text_model.proofs.ChangeLemmas.{ended-text, ended-other}
 use Rattle.text_coding.specs.declared.form.Eol.{Eol}
 use Rattle.text_coding.specs.declared.form.Eol.TheVariants.{Lf, Crlf}
-use Rattle.text_coding.specs.Coding.{has_newline, each_returned, begins_newline, without_returns, from_form}
-use Rattle.text_coding.specs.Surveying.{last_of, IsSurvey}
+use Rattle.text_coding.specs.Coding.{has_newline, each_returned, begins_newline, without_returns, from_form, eol_of}
+use Rattle.text_coding.specs.Surveying.{last_of, waiting, IsSurvey}
+
+by_test : {G : Type 0} (b : Bool) → (b ≡ true → G) → (b ≡ false → G) → G
+by_test true f g = f refl
+by_test false f g = g refl
 
 pub last-push : (b : ℕ) (cs : List ℕ) (c : ℕ) → last_of b (cs ++ c ∷ []) ≡ c
 last-push b [] c = refl
@@ -108,14 +113,12 @@ test-false : (a b : ℕ) → a ≢ b → (a == b) ≡ false
 test-false a b apart = grind (arith, nat_tests)
 
 -- a survey of one character more, by what it is
-pub survey-other : (s : Survey) (c : ℕ) (cs : List ℕ) → c ≢ 10 → IsSurvey s cs → IsSurvey (record { plain = s.plain + 1; short = s.short + 1; before = c; newline = s.newline; returned = s.returned }) (cs ++ c ∷ [])
+pub survey-other : (s : Survey) (c : ℕ) (cs : List ℕ) → c ≢ 10 → IsSurvey s cs → IsSurvey (record { plain = s.plain + 1; short = s.short + 1; before = c }) (cs ++ c ∷ [])
 survey-other s c cs other known =
     let no : (c == 10) ≡ false = test-false c 10 other in record {
       plain = omega (arith, known.plain, length-append cs (c ∷ []));
       short = omega (arith, known.short, ap length (without-push_other cs c no), length-append (without_returns cs) (c ∷ []));
       before = sym (last-push 0 cs c);
-      newline = known.newline ∙ sym (newline-push cs c ∙ ap (λ b. has_newline cs || b) no ∙ or-false (has_newline cs));
-      returned = known.returned ∙ sym (returned-push 0 cs c ∙ ap (λ b. each_returned 0 cs && cond b (last_of 0 cs == 13) true) no ∙ and-true (each_returned 0 cs));
     }
 
 or-true : (x : Bool) → (x || true) ≡ true
@@ -126,41 +129,83 @@ and-false : (x : Bool) → (x && false) ≡ false
 and-false true = refl
 and-false false = refl
 
-pub survey-plain : (s : Survey) (cs : List ℕ) → s.before ≢ 13 → IsSurvey s cs → IsSurvey (record { plain = s.plain + 1; short = s.short + 1; before = 10; newline = true; returned = false }) (cs ++ 10 ∷ [])
+pub survey-plain : (s : Survey) (cs : List ℕ) → s.before ≢ 13 → IsSurvey s cs → IsSurvey (record { plain = s.plain + 1; short = s.short + 1; before = 10 }) (cs ++ 10 ∷ [])
 survey-plain s cs other known =
     let no : (last_of 0 cs == 13) ≡ false = ap (λ n. n == 13) (sym known.before) ∙ test-false s.before 13 other in record {
       plain = omega (arith, known.plain, length-append cs (10 ∷ []));
       short = omega (arith, known.short, ap length (without-push_plain 0 cs no), length-append (without_returns cs) (10 ∷ []));
       before = sym (last-push 0 cs 10);
-      newline = sym (newline-push cs 10 ∙ or-true (has_newline cs));
-      returned = sym (returned-push 0 cs 10 ∙ ap (λ b. each_returned 0 cs && b) no ∙ and-false (each_returned 0 cs));
     }
 
-pub survey-joined : (s : Survey) (cs : List ℕ) → s.before ≡ 13 → IsSurvey s cs → IsSurvey (record { plain = s.plain + 1; short = s.short; before = 10; newline = true; returned = s.returned }) (cs ++ 10 ∷ [])
+pub survey-joined : (s : Survey) (cs : List ℕ) → s.before ≡ 13 → IsSurvey s cs → IsSurvey (record { plain = s.plain + 1; short = s.short; before = 10 }) (cs ++ 10 ∷ [])
 survey-joined s cs returned known =
     let last : 13 ≡ last_of 0 cs = sym returned ∙ known.before in
     let j = without-push_last cs last in record {
       plain = omega (arith, known.plain, length-append cs (10 ∷ []));
       short = omega (arith, known.short, ap length j.before, ap length j.after, length-append j.front (13 ∷ []), length-append j.front (10 ∷ []));
       before = sym (last-push 0 cs 10);
-      newline = sym (newline-push cs 10 ∙ or-true (has_newline cs));
-      returned = known.returned ∙ sym (returned-push 0 cs 10 ∙ ap (λ n. each_returned 0 cs && (n == 13)) (sym last) ∙ and-true (each_returned 0 cs));
     }
 
--- what is kept after a character more, by what it is
-pub pushed-other : (items new : List ℕ) (c : ℕ) (cs : List ℕ) → c ≢ 10 → items ≡ without_returns cs → new ≡ items ++ c ∷ [] → new ≡ without_returns (cs ++ c ∷ [])
-pushed-other items new c cs other held pushed = pushed ∙ ap (λ r. r ++ c ∷ []) held ∙ sym (without-push_other cs c (test-false c 10 other))
+-- what is kept after a character more, where a return at the end waits
+joined-newline : (old : List ℕ) (before : ℕ) (cs : List ℕ) → without_returns cs ≡ old ++ waiting before → before ≡ last_of 0 cs → without_returns (cs ++ 10 ∷ []) ≡ old ++ 10 ∷ []
+joined-newline old before cs held last = by_test (before == 13) returned plain
+  where
+    returned : (before == 13) ≡ true → without_returns (cs ++ 10 ∷ []) ≡ old ++ 10 ∷ []
+    returned is =
+        let j = without-push_last cs (sym (eqb-true before 13 is) ∙ last) in
+        let rest : j.front ≡ old = sym (front-push j.front 13) ∙ ap front (sym j.before ∙ held ∙ ap (λ t. old ++ cond t (13 ∷ []) []) is) ∙ front-push old 13 in
+        j.after ∙ ap (λ r. r ++ 10 ∷ []) rest
 
-pub pushed-plain : (items new : List ℕ) (before : ℕ) (cs : List ℕ) → before ≢ 13 → items ≡ without_returns cs → before ≡ last_of 0 cs → new ≡ items ++ 10 ∷ [] → new ≡ without_returns (cs ++ 10 ∷ [])
-pushed-plain items new before cs other held last pushed =
-    pushed ∙ ap (λ r. r ++ 10 ∷ []) held
-    ∙ sym (without-push_plain 0 cs (ap (λ n. n == 13) (sym last) ∙ test-false before 13 other))
+    plain : (before == 13) ≡ false → without_returns (cs ++ 10 ∷ []) ≡ old ++ 10 ∷ []
+    plain is = without-push_plain 0 cs (ap (λ n. n == 13) (sym last) ∙ is) ∙ ap (λ r. r ++ 10 ∷ []) (held ∙ ap (λ t. old ++ cond t (13 ∷ []) []) is ∙ append-nil old)
 
-pub pushed-joined : (items new : List ℕ) (cs : List ℕ) → items ≡ without_returns cs → 13 ≡ last_of 0 cs → new ≡ front items ++ 10 ∷ [] → new ≡ without_returns (cs ++ 10 ∷ [])
-pushed-joined items new cs held last replaced =
-    let j = without-push_last cs last in
-    let rest : front items ≡ j.front = ap front (held ∙ j.before) ∙ front-push j.front 13 in
-    replaced ∙ ap (λ r. r ++ 10 ∷ []) rest ∙ sym j.after
+pub joined-line : (old new : List ℕ) (before c : ℕ) (cs : List ℕ) → c ≡ 10 → without_returns cs ≡ old ++ waiting before → before ≡ last_of 0 cs → new ≡ old ++ c ∷ [] → without_returns (cs ++ c ∷ []) ≡ new ++ waiting c
+joined-line old new before c cs is held last pushed =
+    ap (λ x. without_returns (cs ++ x ∷ [])) is ∙ joined-newline old before cs held last ∙ ap (λ x. old ++ x ∷ []) (sym is) ∙ sym pushed
+    ∙ sym (ap (λ x. new ++ waiting x) is ∙ append-nil new)
+
+pub joined-return : (old new : List ℕ) (before : ℕ) (cs : List ℕ) → without_returns cs ≡ old ++ waiting before → new ≡ old ++ waiting before → without_returns (cs ++ 13 ∷ []) ≡ new ++ 13 ∷ []
+joined-return old new before cs held released = without-push_other cs 13 refl ∙ ap (λ r. r ++ 13 ∷ []) (held ∙ sym released)
+
+pub joined-other : (old new all : List ℕ) (before c : ℕ) (cs : List ℕ) → c ≢ 10 → c ≢ 13 → without_returns cs ≡ old ++ waiting before → new ≡ old ++ waiting before → all ≡ new ++ c ∷ [] → without_returns (cs ++ c ∷ []) ≡ all ++ waiting c
+joined-other old new all before c cs other unlike held released pushed =
+    without-push_other cs c (test-false c 10 other) ∙ ap (λ r. r ++ c ∷ []) (held ∙ sym released) ∙ sym pushed
+    ∙ sym (ap (λ t. all ++ cond t (13 ∷ []) []) (test-false c 13 unlike) ∙ append-nil all)
+
+-- what decides how the lines end, with one character more
+pub record AreReturned (found : Bool) (last : ℕ) (cs : List ℕ) : Type 0 where
+  pub newline : found ≡ has_newline cs
+  pub before : last ≡ last_of 0 cs
+  pub returned : each_returned 0 cs ≡ true
+
+pub returned-other : (newline : Bool) (before c : ℕ) (cs : List ℕ) → c ≢ 10 → AreReturned newline before cs → AreReturned newline c (cs ++ c ∷ [])
+returned-other newline before c cs other h =
+    let no : (c == 10) ≡ false = test-false c 10 other in record {
+      newline = h.newline ∙ sym (newline-push cs c ∙ ap (λ b. has_newline cs || b) no ∙ or-false (has_newline cs));
+      before = sym (last-push 0 cs c);
+      returned = returned-push 0 cs c ∙ ap (λ b. each_returned 0 cs && cond b (last_of 0 cs == 13) true) no ∙ and-true (each_returned 0 cs) ∙ h.returned;
+    }
+
+pub returned-newline : (newline : Bool) (before : ℕ) (cs : List ℕ) → before ≡ 13 → AreReturned newline before cs → AreReturned true 10 (cs ++ 10 ∷ [])
+returned-newline newline before cs is h = record {
+  newline = sym (newline-push cs 10 ∙ or-true (has_newline cs));
+  before = sym (last-push 0 cs 10);
+  returned = returned-push 0 cs 10 ∙ ap (λ n. each_returned 0 cs && (n == 13)) (sym h.before ∙ is) ∙ and-true (each_returned 0 cs) ∙ h.returned;
+}
+
+-- a newline without a return before it
+bare : (b : ℕ) (cs : List ℕ) (n d : ℕ) → n < length cs → get_or cs n d ≡ 10 → last_of b (take n cs) ≢ 13 → each_returned b cs ≡ false
+bare b [] n d lt is other = absurd (omega (arith, lt))
+bare b (c ∷ cs) zero d lt is other = ap (λ x. cond (x == 10) (b == 13) true && each_returned c cs) is ∙ ap (λ v. v && each_returned c cs) (test-false b 13 other)
+bare b (c ∷ cs) (suc n) d lt is other = ap (λ v. cond (c == 10) (b == 13) true && v) (bare c cs n d (omega (arith, lt)) is other) ∙ and-false (cond (c == 10) (b == 13) true)
+
+pub ends-bare : (cs before : List ℕ) (n d last : ℕ) → before ≡ take n cs → n < length cs → 10 ≡ get_or cs n d → last ≡ last_of 0 before → last ≢ 13 → Lf ≡ eol_of cs
+ends-bare cs before n d last so_far lt is at other =
+    sym (ap (λ r. cond (has_newline cs && r) Crlf Lf) (bare 0 cs n d lt (sym is) (λ e. other (at ∙ ap (last_of 0) so_far ∙ e))) ∙ ap (λ v. cond v Crlf Lf) (and-false (has_newline cs)))
+
+pub ends-returned : (newline : Bool) (before : ℕ) (cs all : List ℕ) (eol : Eol) → AreReturned newline before cs → cs ≡ all → eol ≡ cond newline Crlf Lf → eol ≡ eol_of all
+ends-returned newline before cs all eol h e is =
+    is ∙ ap (λ v. cond v Crlf Lf) (h.newline ∙ sym (ap (λ r. has_newline cs && r) h.returned ∙ and-true (has_newline cs))) ∙ ap eol_of e
 
 cond-le : (b : Bool) (x : ℕ) (cs : List ℕ) (n : ℕ) → length cs ≤ n → length (cond b cs (x ∷ cs)) ≤ suc n
 cond-le true x cs n le = omega (arith, le)
@@ -210,9 +255,16 @@ pub last-from : (eol : Eol) (cs : List ℕ) → last_of 0 (from_form eol cs) ≡
 last-from Lf cs = refl
 last-from Crlf cs = last-without 0 cs
 
+ended-le : (cs : List ℕ) → length (ended cs) ≤ length cs + 1
+ended-le cs = by_test (ends_in_newline cs) (λ e. omega (arith, ap length (ended-text cs e))) (λ e. omega (arith, ap length (ended-other cs e), length-append cs (10 ∷ [])))
+
 length-from : (eol : Eol) (cs : List ℕ) → length (from_form eol cs) ≤ length cs
 length-from Lf cs = omega arith
 length-from Crlf cs = short-le cs
+
+-- a text of fewer bytes is not too long
+pub few-ended : (eol : Eol) (bytes : List ℕ) → IsUtf8 bytes → length bytes < MAX_CHARS → length (ended (from_form eol (chars bytes))) ≤ MAX_CHARS
+few-ended eol bytes utf8 few = omega (arith, ended-le (from_form eol (chars bytes)), length-from eol (chars bytes), few_chars bytes utf8, few)
 
 -- how long the text is, by its last character
 pub length-ended : (s : Survey) (eol : Eol) (cs : List ℕ) → s.before ≡ 10 → IsSurvey s cs → length (from_form eol cs) ≡ length (ended (from_form eol cs))

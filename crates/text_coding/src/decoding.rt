@@ -1,9 +1,9 @@
 //! Texts from the bytes of files.
 
-ghost use Rattle.std.specs.Prelude.{◌≡◌, ◌+◌, ◌^◌, ◌<◌, ◌≤◌, ℕ, List, ◌++◌, ◌∷◌, [], length, chars, IfOk, OnOk};
+ghost use Rattle.std.specs.Prelude.{◌≡◌, ◌+◌, ◌^◌, ◌<◌, ◌≤◌, ℕ, List, ◌++◌, ◌∷◌, [], false, length, chars, IfOk, OnOk, IsTrue};
 ghost use Rattle.text_model.specs.Changes.{ended};
 ghost use Rattle.text_coding.specs.Coding.{mark_of, bom_of, body, eol_of, from_form, text_from, without_returns, fitting, loaded, IsDecoded};
-ghost use Rattle.text_coding.specs.Surveying.{IsSurvey, last_of};
+ghost use Rattle.text_coding.specs.Surveying.{IsSurvey, last_of, waiting};
 
 use crate::filling::Filling;
 use crate::form::{Bom, DecodeError, Eol, Loaded};
@@ -14,15 +14,12 @@ use std::alloc::Global;
 // The mark of the byte order in UTF-8.
 const UTF8_MARK: [u8; 3] = [0xEF, 0xBB, 0xBF];
 
-// What is known of the characters of a file: how many they are, with and without the returns that stand before
-// newlines, the last one, and whether there is a newline, and a return before each.
+// How many characters of a file there are, with and without the returns that stand before newlines, and the last one.
 #[derive(Clone, Copy)]
 struct Survey {
     plain: usize,
     short: usize,
     before: char,
-    newline: bool,
-    returned: bool,
 }
 
 // The survey with one character more.
@@ -37,8 +34,6 @@ fn with_one(survey: Survey, c: char) -> Survey
             plain,
             short: survey.short + 1,
             before: c,
-            newline: survey.newline,
-            returned: survey.returned,
         };
     }
     if survey.before != '\r' {
@@ -46,16 +41,12 @@ fn with_one(survey: Survey, c: char) -> Survey
             plain,
             short: survey.short + 1,
             before: c,
-            newline: true,
-            returned: false,
         };
     }
     Survey {
         plain,
         short: survey.short,
         before: c,
-        newline: true,
-        returned: survey.returned,
     }
 }
 
@@ -67,8 +58,6 @@ fn survey_of(text: &str) -> Survey
         plain: 0,
         short: 0,
         before: '\0',
-        newline: false,
-        returned: true,
     };
     for c in text.chars() {
         survey = with_one(survey, c);
@@ -76,60 +65,7 @@ fn survey_of(text: &str) -> Survey
     survey
 }
 
-// Adds a character behind those of which the last is `before`. A newline takes the place of a return before it.
-fn push_joined(
-    alloc: Global,
-    filling: &mut Filling,
-    before: char,
-    c: char,
-) -> Result<(), LinesError>
-    ensures { OnOk result ((cs : List ℕ) → filling.old ≡ without_returns cs → before ≡ last_of 0 cs → filling.new ≡ without_returns (cs ++ c ∷ [])) }
-{
-    if c != '\n' {
-        return filling.push(alloc, c);
-    }
-    if before != '\r' {
-        return filling.push(alloc, c);
-    }
-    filling.replace_last(c);
-    Ok(())
-}
-
-// The characters of a file without the returns that stand before newlines.
-fn joined_chars(alloc: Global, text: &str) -> Result<Filling, LinesError>
-    ensures { IfOk result (λ filling. filling ≡ without_returns (chars text.now)) }
-{
-    let mut filling = Filling::new(alloc)?;
-    let mut before = '\0';
-    for c in text.chars() {
-        push_joined(alloc, &mut filling, before, c)?;
-        before = c;
-    }
-    Ok(filling)
-}
-
-// The characters of a file.
-fn plain_chars(alloc: Global, text: &str) -> Result<Filling, LinesError>
-    ensures { IfOk result (λ filling. filling ≡ chars text.now) }
-{
-    let mut filling = Filling::new(alloc)?;
-    for c in text.chars() {
-        filling.push(alloc, c)?;
-    }
-    Ok(filling)
-}
-
 impl Survey {
-    // How the lines end.
-    fn eol(&self) -> Eol
-        ensures { (cs : List ℕ) → IsSurvey self.now cs → result ≡ eol_of cs }
-    {
-        if !self.newline {
-            return Eol::Lf;
-        }
-        if self.returned { Eol::Crlf } else { Eol::Lf }
-    }
-
     // How many characters stay where the lines end so.
     fn count(&self, eol: Eol) -> usize
         ensures { (cs : List ℕ) → IsSurvey self.now cs → result ≡ length (from_form eol cs) }
@@ -150,6 +86,106 @@ impl Survey {
         }
         count.saturating_add(1)
     }
+}
+
+// Whether the text of a file whose lines end so is too long. Its characters are counted only where its bytes are too many.
+fn is_too_long(text: &str, eol: Eol) -> bool
+    requires { length text.now + 1 < 2 ^ 64 }
+    ensures long { IsTrue result → MAX_CHARS < length (ended (from_form eol (chars text.now))) }
+    ensures short { result ≡ false → length (ended (from_form eol (chars text.now))) ≤ MAX_CHARS }
+{
+    if text.len() < MAX_CHARS {
+        return false;
+    }
+    survey_of(text).text_len(eol) > MAX_CHARS
+}
+
+// How the lines of a file end. It is gone over up to the first newline without a return.
+fn eol_of(text: &str) -> Eol
+    ensures { result ≡ eol_of (chars text.now) }
+{
+    let mut before = '\0';
+    let mut newline = false;
+    for c in text.chars() {
+        if c != '\n' {
+            before = c;
+            continue;
+        }
+        if before != '\r' {
+            return Eol::Lf;
+        }
+        before = c;
+        newline = true;
+    }
+    if newline { Eol::Crlf } else { Eol::Lf }
+}
+
+// Adds a return that waited until the character behind it was known, where the last character is one.
+fn release(alloc: Global, filling: &mut Filling, before: char) -> Result<(), LinesError>
+    ensures { OnOk result (filling.new ≡ filling.old ++ waiting before) }
+{
+    if before != '\r' {
+        return Ok(());
+    }
+    filling.push(alloc, before)
+}
+
+// Adds a character behind those of which the last is `before`, which waits where it is a return: a newline takes its place.
+fn push_joined(
+    alloc: Global,
+    filling: &mut Filling,
+    before: char,
+    c: char,
+) -> Result<(), LinesError>
+    ensures { OnOk result ((cs : List ℕ) → without_returns cs ≡ filling.old ++ waiting before → before ≡ last_of 0 cs → without_returns (cs ++ c ∷ []) ≡ filling.new ++ waiting c) }
+{
+    if c == '\n' {
+        return filling.push(alloc, c);
+    }
+    release(alloc, filling, before)?;
+    if c == '\r' {
+        return Ok(());
+    }
+    filling.push(alloc, c)
+}
+
+// The characters of a file without the returns that stand before newlines.
+fn joined_chars(alloc: Global, text: &str) -> Result<Filling, LinesError>
+    ensures { IfOk result (λ filling. filling ≡ without_returns (chars text.now)) }
+{
+    let mut filling = Filling::new(alloc);
+    let mut before = '\0';
+    for c in text.chars() {
+        push_joined(alloc, &mut filling, before, c)?;
+        before = c;
+    }
+    release(alloc, &mut filling, before)?;
+    Ok(filling)
+}
+
+// Characters that are bytes.
+fn ascii_chars(alloc: Global, bytes: &[u8]) -> Result<Filling, LinesError>
+    ensures { IfOk result (λ filling. filling ≡ bytes.now) }
+{
+    let mut filling = Filling::new(alloc);
+    for b in bytes {
+        filling.push(alloc, *b as char)?;
+    }
+    Ok(filling)
+}
+
+// The characters of a file.
+fn plain_chars(alloc: Global, text: &str) -> Result<Filling, LinesError>
+    ensures { IfOk result (λ filling. filling ≡ chars text.now) }
+{
+    if text.is_ascii() {
+        return ascii_chars(alloc, text.as_bytes());
+    }
+    let mut filling = Filling::new(alloc);
+    for c in text.chars() {
+        filling.push(alloc, c)?;
+    }
+    Ok(filling)
 }
 
 // The lines of the text of a file whose lines end so.
@@ -200,9 +236,8 @@ fn load_text(alloc: Global, text: &str, bom: Bom) -> Result<Loaded, DecodeError>
     requires { length text.now + 1 < 2 ^ 64 }
     ensures { IsDecoded result (fitting (text_from (chars text.now)) (eol_of (chars text.now)) bom) }
 {
-    let survey = survey_of(text);
-    let eol = survey.eol();
-    if survey.text_len(eol) > MAX_CHARS {
+    let eol = eol_of(text);
+    if is_too_long(text, eol) {
         return Err(DecodeError::TextFull);
     }
     match text_lines(alloc, text, eol) {
@@ -213,8 +248,8 @@ fn load_text(alloc: Global, text: &str, bom: Bom) -> Result<Loaded, DecodeError>
 
 /// The text that the bytes of a file are, and its form. A mark of the byte order is no part of it. Where each newline has
 /// a carriage return before it, these belong to the line ends, and otherwise to the text. A text without a last newline
-/// gets one. Where the bytes aren't UTF-8 that is said first. The bytes are gone over three times; their characters go
-/// into the text's lines piece by piece, and are never held beside them as a whole.
+/// gets one. Where the bytes aren't UTF-8 that is said first. The characters go into
+/// the text's lines one line after another, and are never held beside them as a whole.
 pub fn decode(alloc: Global, bytes: &[u8]) -> Result<Loaded, DecodeError>
     ensures { IsDecoded result (loaded bytes.now) }
 {

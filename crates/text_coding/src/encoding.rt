@@ -38,15 +38,29 @@ fn saved_len(lines: &Lines, eol: Eol, bom: Bom) -> usize {
     count
 }
 
+// Adds a byte.
+#[inline(always)]
+fn push_byte(bytes: &mut Vec<u8>, byte: u8) -> Result<(), AllocError>
+    ensures { OnOk result (bytes.new.items ≡ bytes.old.items ++ byte ∷ []) }
+{
+    bytes.push(byte)?;
+    Ok(())
+}
+
 // Adds a character.
+#[inline(always)]
 fn push_char(bytes: &mut Vec<u8>, c: char) -> Result<(), AllocError>
     ensures { OnOk result (bytes.new.items ≡ bytes.old.items ++ encode_utf8 c) }
 {
+    if (c as u32) < 128 {
+        return push_byte(bytes, c as u8);
+    }
     let mut utf8 = [0u8; 4];
     bytes.extend_from_slice(c.encode_utf8(&mut utf8).as_bytes())
 }
 
 // Adds a character, with a carriage return before a newline where lines end so.
+#[inline(always)]
 fn push_formed(bytes: &mut Vec<u8>, c: char, eol: Eol) -> Result<(), AllocError>
     ensures { OnOk result (bytes.new.items ≡ bytes.old.items ++ encode_utf8_all (to_form eol (c ∷ []))) }
 {

@@ -1,128 +1,101 @@
 //! Lines that are filled with characters, one behind another.
 
-ghost use Rattle.std.specs.Prelude.{◌≡◌, ◌++◌, ◌∷◌, [], IfOk, OnOk};
-ghost use Rattle.text_model.specs.Changes.{ended, front};
+ghost use Rattle.std.specs.Prelude.{◌≡◌, ◌≢◌, ◌++◌, ◌∷◌, [], ◌<◌, length, All, IfOk, OnOk, OnErr, IsErrOf};
+ghost use Rattle.text_model.specs.declared.TheConstants.{MAX_CHARS};
+ghost use Rattle.text_model.specs.Changes.{ended};
 
-use kak_text::Text;
-use line_buffer::{Lines, LinesError};
+use line_buffer::{GrowingLines, Lines, LinesError};
 use std::alloc::{AllocError, Global};
 use std::marker::Model;
 
-// How many characters are put into the lines at once, so that hardly more of them stands in memory twice.
-const PIECE: usize = 65_536;
-
-/// Characters that come one behind another, and stand in lines before a newline of these. Those that came since are put
-/// in together, and the very last one waits by itself.
+/// Characters that come one behind another. A line goes to the lines of the text as soon as it has its newline, so that
+/// no more than one line stands in memory twice.
 #[derive(Drop, Debug)]
 pub struct Filling {
-    lines: Lines,
-    piece: Vec<char>,
-    last: Option<char>,
+    lines: GrowingLines,
+    // the last line, as far as it came
+    line: Vec<char>,
 }
 
 impl Model for Filling {
-    ghost use Rattle.std.specs.Prelude.{◌≡◌, ℕ, List, [], ◌++◌, None, option_to_list};
-    ghost use Rattle.text_model.specs.Changes.{front};
+    ghost use Rattle.std.specs.Prelude.{◌≢◌, ◌<◌, ℕ, List, ◌++◌, length, All};
+    ghost use Rattle.text_model.specs.Texts.{IsText};
 
     ghost Value = { List ℕ };
 
-    ghost view = { λ f. front f.lines ++ (f.piece.items ++ option_to_list f.last) };
+    ghost view = { λ f. f.lines ++ f.line.items };
 
-    ghost invariant = { λ f. f.last ≡ None → front f.lines ++ f.piece.items ≡ [] };
+    ghost invariant = { λ f. All (λ c. c ≢ 10) f.line.items × (0 < length f.lines → IsText f.lines) };
+}
+
+// Adds a character.
+#[inline(always)]
+fn push_char(line: &mut Vec<char>, c: char) -> Result<(), AllocError>
+    ensures ok { OnOk result (line.new.items ≡ line.old.items ++ c ∷ []) }
+    ensures err { OnErr result (line.new.items ≡ line.old.items) }
+{
+    line.push(c)?;
+    Ok(())
+}
+
+// The text of lines with one more behind them, which lacks its newline.
+fn closed(alloc: Global, mut lines: GrowingLines, mut line: Vec<char>) -> Result<Lines, LinesError>
+    requires { All (λ c. c ≢ 10) line.items }
+    ensures text { IfOk result (λ text. text ≡ lines ++ (line.items ++ 10 ∷ [])) }
+    ensures full { IsErrOf result LinesError.TextFull → MAX_CHARS < length (lines ++ (line.items ++ 10 ∷ [])) }
+{
+    push_char(&mut line, '\n')?;
+    lines.push(alloc, line.as_slice())?;
+    Ok(lines.finish(alloc))
 }
 
 impl Filling {
     /// No characters.
-    pub fn new(alloc: Global) -> Result<Filling, AllocError>
-        ensures { IfOk result (λ filling. filling ≡ []) }
+    pub fn new(alloc: Global) -> Filling
+        ensures { result ≡ [] }
     {
-        Ok(Filling {
-            lines: Lines::of_text(alloc, &Text::newline(alloc)?)?,
-            piece: Vec::new(alloc),
-            last: None,
-        })
-    }
-
-    /// Adds a character.
-    pub fn push(&mut self, alloc: Global, c: char) -> Result<(), LinesError>
-        ensures { OnOk result (self.new ≡ self.old ++ c ∷ []) }
-    {
-        let Some(before) = self.last else {
-            self.last = Some(c);
-            return Ok(());
-        };
-        put_on(alloc, &mut self.lines, &mut self.piece, before)?;
-        self.last = Some(c);
-        Ok(())
-    }
-
-    /// Puts a character in the place of the last one, or adds it where there is none; takes no memory.
-    pub fn replace_last(&mut self, c: char)
-        ensures { self.new ≡ front self.old ++ c ∷ [] }
-    {
-        self.last = Some(c);
-    }
-
-    /// The lines of these characters, with a newline at the end where it lacks.
-    pub fn finish(self, alloc: Global) -> Result<Lines, LinesError>
-        ensures { IfOk result (λ lines. lines ≡ ended self) }
-    {
-        let Filling {
-            lines,
-            mut piece,
-            last,
-        } = self;
-        let Some(c) = last else {
-            return filled(alloc, lines, piece.as_slice());
-        };
-        if c == '\n' {
-            return filled(alloc, lines, piece.as_slice());
+        Filling {
+            lines: GrowingLines::new(alloc),
+            line: Vec::new(alloc),
         }
-        push_char(&mut piece, c)?;
-        filled(alloc, lines, piece.as_slice())
     }
-}
 
-// Puts characters in before the last newline.
-fn put_last(alloc: Global, lines: &mut Lines, chars: &[char]) -> Result<(), LinesError>
-    ensures { OnOk result (lines.new ≡ front lines.old ++ (chars.now ++ 10 ∷ [])) }
-{
-    let at = lines.last_place();
-    lines.insert(alloc, at, chars)?;
-    Ok(())
-}
-
-// Lines with characters put in before their last newline.
-fn filled(alloc: Global, mut lines: Lines, chars: &[char]) -> Result<Lines, LinesError>
-    ensures { IfOk result (λ new. new ≡ front lines ++ (chars.now ++ 10 ∷ [])) }
-{
-    put_last(alloc, &mut lines, chars)?;
-    Ok(lines)
-}
-
-// Adds a character.
-fn push_char(piece: &mut Vec<char>, c: char) -> Result<(), AllocError>
-    ensures { OnOk result (piece.new.items ≡ piece.old.items ++ c ∷ []) }
-{
-    piece.push(c)?;
-    Ok(())
-}
-
-// Adds a character to those that are put in together, which are put in before where they are enough.
-fn put_on(
-    alloc: Global,
-    lines: &mut Lines,
-    piece: &mut Vec<char>,
-    c: char,
-) -> Result<(), LinesError>
-    ensures { OnOk result (front lines.new ++ piece.new.items ≡ front lines.old ++ (piece.old.items ++ c ∷ [])) }
-{
-    if piece.len() < PIECE {
-        push_char(piece, c)?;
-        return Ok(());
+    /// Adds a character. `TextFull` comes only where there would be more than `MAX_CHARS`.
+    #[inline(always)]
+    pub fn push(&mut self, alloc: Global, c: char) -> Result<(), LinesError>
+        ensures ok { OnOk result (self.new ≡ self.old ++ c ∷ []) }
+        ensures full { IsErrOf result LinesError.TextFull → MAX_CHARS < length (self.old ++ c ∷ []) }
+    {
+        if c != '\n' {
+            return Ok(push_char(&mut self.line, c)?);
+        }
+        self.end_line(alloc)
     }
-    put_last(alloc, lines, piece.as_slice())?;
-    piece.clear();
-    push_char(piece, c)?;
-    Ok(())
+
+    // Adds a newline.
+    fn end_line(&mut self, alloc: Global) -> Result<(), LinesError>
+        ensures ok { OnOk result (self.new ≡ self.old ++ 10 ∷ []) }
+        ensures full { IsErrOf result LinesError.TextFull → MAX_CHARS < length (self.old ++ 10 ∷ []) }
+    {
+        push_char(&mut self.line, '\n')?;
+        let pushed = self.lines.push(alloc, self.line.as_slice());
+        self.line.clear();
+        pushed
+    }
+
+    /// The lines of these characters, with a newline at the end where it lacks. `TextFull` comes only
+    /// where they would be more than `MAX_CHARS`.
+    pub fn finish(self, alloc: Global) -> Result<Lines, LinesError>
+        ensures lines { IfOk result (λ lines. lines ≡ ended self) }
+        ensures full { IsErrOf result LinesError.TextFull → MAX_CHARS < length (ended self) }
+    {
+        let Filling { lines, line } = self;
+        if lines.len() == 0 {
+            return closed(alloc, lines, line);
+        }
+        if line.is_empty() {
+            return Ok(lines.finish(alloc));
+        }
+        closed(alloc, lines, line)
+    }
 }

@@ -1,13 +1,12 @@
-use Rattle.std.proofs.Common.{◌∙◌, sym}
 use Rattle.std.proofs.lemmas.Result.{IfOk-weaker}
-use Rattle.text_coding.proofs.FormLemmas.{pushed-other, pushed-plain, pushed-joined}
+use Rattle.text_coding.proofs.FormLemmas.{joined-line, joined-return, joined-other}
 use Rattle.text_coding.proofs.decoding.push_joined.Goals as goal
 
-pub returns-then-c-ne10 : goal.returns-then-c-ne10
-returns-then-c-ne10 c = IfOk-weaker c.push.result _ _ (λ _ pushed cs held last. pushed-other _ _ _ cs c.if-c-ne10.true held pushed) c.push.ensures
+pub returns-then-c-eq10 : goal.returns-then-c-eq10
+returns-then-c-eq10 c = IfOk-weaker c.push.result _ _ (λ _ pushed cs held last. joined-line c.args.filling.now _ c.args.before c.args.c cs c.if-c-eq10.true held last pushed) c.push.ensures.ok
 
-pub returns-then-before-ne13 : goal.returns-then-before-ne13
-returns-then-before-ne13 c = IfOk-weaker c.push-then-before-ne13.result _ _ (λ _ pushed cs held last. rw c.if-c-ne10.false (pushed-plain _ _ _ cs c.if-before-ne13.true held last (rw c.if-c-ne10.false at pushed))) c.push-then-before-ne13.ensures
+pub returns-then-c-eq13 : goal.returns-then-c-eq13
+returns-then-c-eq13 c = λ cs held last. rw c.if-c-eq13.true (joined-return c.args.filling.now _ c.args.before cs held c.in_ok-release.ensures)
 
 pub returns : goal.returns
-returns c = λ cs held last. rw c.if-c-ne10.false (pushed-joined _ _ cs held (sym c.if-before-ne13.false ∙ last) (rw c.if-c-ne10.false at c.replace_last.ensures))
+returns c = IfOk-weaker c.push-2.result _ _ (λ _ pushed cs held last. joined-other c.args.filling.now _ _ c.args.before c.args.c cs c.if-c-eq10.false c.if-c-eq13.false held c.in_ok-release.ensures pushed) c.push-2.ensures.ok

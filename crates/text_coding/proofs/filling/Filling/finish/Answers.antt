@@ -1,7 +1,10 @@
-use Rattle.std.proofs.Common.{◌∙◌, sym}
-use Rattle.std.proofs.lemmas.Result.{IfOk-weaker}
-use Rattle.text_coding.proofs.FillLemmas.{finished-other}
+use Rattle.std.proofs.Common.{rules, ◌<◌, length, refl, ap, subst, ◌∙◌}
+use Rattle.text_model.specs.declared.TheConstants.{MAX_CHARS}
+use Rattle.text_model.specs.Changes.{ended}
+use Rattle.text_coding.proofs.FillLemmas.{closed-behind}
 use Rattle.text_coding.proofs.filling.Filling.finish.Goals as goal
 
-pub returns : goal.returns
-returns c = IfOk-weaker c.filled-2.result _ _ (λ lines put. finished-other _ _ _ _ _ lines _ (sym c.self.view_is) c.in-Some.is c.if-c-eq10.false (c.as_slice-2.ensures.value ∙ c.in_ok-push_char.ensures) put) c.filled-2.ensures
+pub returns-clause-full : goal.returns-clause-full
+returns-clause-full c = λ e.
+    let some : 0 < length c.self.inside.line.items = search rules in
+    subst (λ t. MAX_CHARS < length t) (closed-behind c.self.inside.lines c.self.inside.line.items _ some c.self.invariant.0 refl ∙ ap ended c.self.view_is) (c.closed-2.ensures.full e)
