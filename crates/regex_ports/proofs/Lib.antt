@@ -2,3 +2,4 @@ pub mod RegularLemmas
 pub mod SpanLemmas
 pub mod GroupLemmas
 pub mod SeriesLemmas
+pub mod SeekLemmas

@@ -1,6 +1,7 @@
 pub mod Matching
 pub mod Grouping
 pub mod Series
+pub mod Seeking
 pub mod Making
 pub mod Laws
 pub mod Examples

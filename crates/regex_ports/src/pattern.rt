@@ -1,8 +1,9 @@
 //! What a pattern finds.
 
-ghost use Rattle.std.specs.Prelude.{◌≡◌, ℕ, List, map, IfOk};
+ghost use Rattle.std.specs.Prelude.{◌≡◌, ℕ, List, length, map, IfOk};
 ghost use Rattle.regex_ports.specs.Matching.{matches_of, is_found_in};
 ghost use Rattle.regex_ports.specs.Grouping.{groups_of, spans_of};
+ghost use Rattle.regex_ports.specs.Seeking.{first_behind, last_before};
 
 use crate::texts::Texts;
 use std::alloc::{AllocError, Global};
@@ -30,6 +31,26 @@ pub trait Pattern: Drop {
     /// `$` match at the ends of lines, and `.` matches a newline.
     fn matches(&self, alloc: Global, text: &str) -> Result<Vec<Span>, AllocError>
         ensures { IfOk result (λ spans. spans.items ≡ matches_of (source self.now) text.now) };
+
+    /// The first of these matches that begins behind a byte, or, where none does, the first of all; one that begins at the
+    /// text's end is never found. It costs the text up to the match behind the byte, or else all of it, and keeps no list.
+    fn first_behind(
+        &self,
+        alloc: Global,
+        text: &str,
+        byte: usize,
+    ) -> Result<Option<Span>, AllocError>
+        ensures { IfOk result (λ found. found ≡ first_behind byte (length text.now) (matches_of (source self.now) text.now)) };
+
+    /// The last of these matches that begins before a byte, or, where none does, the last of all; one that begins at the
+    /// text's end is found only where a byte behind that is given. It costs the text, and keeps no list.
+    fn last_before(
+        &self,
+        alloc: Global,
+        text: &str,
+        byte: usize,
+    ) -> Result<Option<Span>, AllocError>
+        ensures { IfOk result (λ found. found ≡ last_before byte (length text.now) (matches_of (source self.now) text.now)) };
 
     /// The groups of each of these matches, in their order.
     fn groups(&self, alloc: Global, text: &str) -> Result<Vec<Groups>, AllocError>

@@ -11,6 +11,7 @@ ghost use Rattle.regex_ports.specs.Series.{AreBytes};
 use crate::grouping::groups;
 use crate::maker::{Made, PatternMaker};
 use crate::pattern::{Groups, Pattern, Span};
+use crate::seeking::{first_behind, last_before};
 use crate::texts::Texts;
 use regex::{Error, Matcher, Regex, RegexBuilder};
 use std::alloc::{AllocError, Global};
@@ -77,6 +78,24 @@ impl Pattern for RegexPattern {
 
     fn matches(&self, alloc: Global, text: &str) -> Result<Vec<Span>, AllocError> {
         spans(alloc, &self.regex, text)
+    }
+
+    fn first_behind(
+        &self,
+        alloc: Global,
+        text: &str,
+        byte: usize,
+    ) -> Result<Option<Span>, AllocError> {
+        first_behind(alloc, &self.regex, text, byte)
+    }
+
+    fn last_before(
+        &self,
+        alloc: Global,
+        text: &str,
+        byte: usize,
+    ) -> Result<Option<Span>, AllocError> {
+        last_before(alloc, &self.regex, text, byte)
     }
 
     fn groups(&self, alloc: Global, text: &str) -> Result<Vec<Groups>, AllocError> {

@@ -8,3 +8,4 @@ pub mod WayLemmas
 pub mod SoughtLemmas
 pub mod MadeLemmas
 pub mod FoundLemmas
+pub mod SpanLemmas

@@ -1,5 +1,5 @@
 -- Lists that searches make, and what they are when they are settled.
-use Rattle.std.proofs.Common.{◌≡◌, ℕ, ◌<◌, ◌≤◌, true, List, [], ◌∷◌, ◌++◌, length, take, drop, get_or, set, map, refl, sym, ap, ap₂, subst, ◌∙◌, arith}
+use Rattle.std.proofs.Common.{◌≡◌, ℕ, ◌<◌, List, [], ◌∷◌, ◌++◌, length, set, map, refl, sym, ap, ap₂, subst, ◌∙◌, arith}
 use Rattle.std.specs.List.{refill}
 use Rattle.std.proofs.lemmas.List.{map-append, length-map, map-set, length-set, length-reverse, length-append}
 use Rattle.list_model.specs.Ranges.{Range, Selected}
@@ -13,10 +13,9 @@ use Rattle.selection_set.proofs.InOrderLemmas.{refilled}
 use Rattle.regex_select.specs.declared.way.Way.{Way}
 use Rattle.regex_select.specs.declared.way.Way.TheVariants.{Forward, Backward}
 use Rattle.regex_select.specs.declared.way.Search.{Search}
-use Rattle.regex_select.specs.Searching.{on_the_way, first_or, searched}
-use Rattle.regex_select.specs.Ways.{is_ahead_at, ArePassed, sought_at, searched_at}
+use Rattle.regex_select.specs.Searching.{on_the_way, searched}
+use Rattle.regex_select.specs.Ways.{searched_at}
 use Rattle.regex_select.proofs.EachLemmas.{given-held, given-selected}
-use Rattle.regex_select.proofs.WayLemmas.{found-at}
 use Rattle.regex_select.proofs.SoughtLemmas.{set-inside, push-inside, each-inside, each-ranges}
 
 -- a list that is to be settled, by the ranges that it is
@@ -42,11 +41,6 @@ pub way-written : (way : Way) (xs there new : List Sel) → there ≡ xs → new
 way-written way xs there new e f =
     let is : new ≡ on_the_way way xs = f ∙ ap (on_the_way way) e in
     refilled xs new (ap length is ∙ length-way way xs) ∙ is
-
--- ---- the match that is found
-
-pub found-in : (way : Way) (ms xs ys : List Sel) (s found : Sel) (n : ℕ) → xs ≡ ms → ys ≡ ms → n ≤ length xs → ArePassed way s (take n xs) → ((d : Sel) → n < length xs → is_ahead_at way s (get_or xs n d) ≡ true) → ((d : Sel) → found ≡ first_or d (drop n ys ++ ys)) → found ≡ sought_at way ms s
-found-in way ms xs ys s found n e f l h a g = found-at way xs s n found l h a (λ d. g d ∙ ap (λ zs. first_or d (drop n zs ++ zs)) (f ∙ sym e)) ∙ ap (λ zs. sought_at way zs s) e
 
 -- ---- what is made of a list
 

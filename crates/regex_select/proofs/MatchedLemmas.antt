@@ -34,7 +34,7 @@ part-some a b h = ap (λ t. cond t (straight a (b - 1) ∷ []) []) (lt-ltb a b h
 pub part-none : (a b : ℕ) → b ≤ a → part_between a b ≡ []
 part-none a b h = ap (λ t. cond t (straight a (b - 1) ∷ []) []) (le-ltb a b h)
 
-end-empty : (chars : List ℕ) (from to : ℕ) → to ≤ from → match_end chars from to ≡ min (from + 1) (length chars)
+pub end-empty : (chars : List ℕ) (from to : ℕ) → to ≤ from → match_end chars from to ≡ min (from + 1) (length chars)
 end-empty chars from to h = ap (λ t. cond t to (min (from + 1) (length chars))) (le-ltb from to h)
 
 pub between-inside : (text : List ℕ) (sel : Sel) (first end : Walk) (high : Coord) → IsInside text sel → IsWalk text sel first → IsWalk text sel end → first.passed < end.passed → IsPlace text high → offset text high + 1 ≡ offset text end.at

@@ -120,11 +120,11 @@ stretched s m = record { anchor = anchor_at s; cursor = m.high }
 stretched-inside : (text : List ℕ) (s m : Sel) → IsInside text s → IsInside text m → IsPairInside text (stretched s m)
 stretched-inside text s m h k = record { anchor = anchor-place text s.turned s.high s.low h.high h.low; cursor = k.high }
 
-reached-inside : (text : List ℕ) (extend : Bool) (s m : Sel) → IsInside text s → IsInside text m → IsInside text (reached_at extend s m)
+pub reached-inside : (text : List ℕ) (extend : Bool) (s m : Sel) → IsInside text s → IsInside text m → IsInside text (reached_at extend s m)
 reached-inside text true s m h k = (pairs-inside text (stretched s m ∷ []) (stretched-inside text s m h k, tt)).0
 reached-inside text false s m h k = k
 
-reached-range : (text : List ℕ) (extend : Bool) (s m : Sel) → IsInside text s → IsInside text m → range_of text (reached_at extend s m) ≡ reached extend (range_of text s) (range_of text m)
+pub reached-range : (text : List ℕ) (extend : Bool) (s m : Sel) → IsInside text s → IsInside text m → range_of text (reached_at extend s m) ≡ reached extend (range_of text s) (range_of text m)
 reached-range text true s m h k =
     ap (λ l. get_or l 0 (only 0)) (pairs-ranges text (stretched s m ∷ []) (stretched-inside text s m h k, tt)) ∙ ap (λ a. range_between a (offset text m.high)) (sym (cursor-range_of text (swapped s)))
 reached-range text false s m h k = refl

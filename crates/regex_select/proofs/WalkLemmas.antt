@@ -14,7 +14,7 @@ use Rattle.regex_select.specs.declared.walking.Walk.{Walk}
 use Rattle.regex_select.specs.Selecting.{chars_before}
 use Rattle.regex_select.specs.Walks.{bytes_before, own_chars, IsWalk}
 
-encode-some : (c : ℕ) → 0 < length (encode_utf8 c)
+pub encode-some : (c : ℕ) → 0 < length (encode_utf8 c)
 encode-some c = omega (arith, length-le-encodes (c ∷ []), ap length (append-nil (encode_utf8 c)))
 
 -- ---- bytes and characters
@@ -32,7 +32,7 @@ pub chars-done : (cs : List ℕ) (b : ℕ) → b ≡ 0 → chars_before cs b ≡
 chars-done [] b e = refl
 chars-done (c ∷ cs) b e = ap (λ t. cond t 0 (suc (chars_before cs (b - length (encode_utf8 c))))) (eq-eqb b 0 e)
 
-chars-some : (c : ℕ) (cs : List ℕ) (b : ℕ) → 0 < b → chars_before (c ∷ cs) b ≡ suc (chars_before cs (b - length (encode_utf8 c)))
+pub chars-some : (c : ℕ) (cs : List ℕ) (b : ℕ) → 0 < b → chars_before (c ∷ cs) b ≡ suc (chars_before cs (b - length (encode_utf8 c)))
 chars-some c cs b h = ap (λ t. cond t 0 (suc (chars_before cs (b - length (encode_utf8 c))))) (ne_eqb b 0 (λ e. omega (arith, e, h)))
 
 pub chars-behind : (cs : List ℕ) (k b : ℕ) → bytes_before cs k ≤ b → k ≤ length cs → chars_before cs b ≡ k + chars_before (drop k cs) (b - bytes_before cs k)

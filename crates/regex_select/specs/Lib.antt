@@ -6,5 +6,6 @@ pub mod Causes
 pub mod Flags
 pub mod Searching
 pub mod Ways
+pub mod Spans
 pub mod Laws
 pub mod Examples

@@ -18,10 +18,11 @@ ghost use Rattle.regex_select.specs.Searching.{all_matches, on_the_way, sought, 
 ghost use Rattle.regex_select.specs.Causes.{IsForNone, IsForOneMore};
 
 use crate::error::SelectError;
+use crate::seeking::{selected_by, span_sought};
 use crate::settling::settled;
-use crate::stretching::search_each;
+use crate::stretching::{reached, search_each};
 use crate::taking::push;
-use crate::way::{Search, Way, first_ahead, match_at, order};
+use crate::way::{Search, Way, order};
 use crate::whole::all_matches;
 use line_buffer::Lines;
 use regex_ports::Pattern;
@@ -50,7 +51,7 @@ fn matches<P: Pattern>(
     Ok(list)
 }
 
-// The match that is found from a selection.
+// The match that is found from a selection. The text is written once, and no list of its matches is made.
 fn sought<P: Pattern>(
     alloc: Global,
     lines: &Lines,
@@ -64,9 +65,37 @@ fn sought<P: Pattern>(
     ensures some { IfOk result (λ s. 0 < length (all_matches (P.source pattern.now) lines.now)) }
     ensures refused { IfErr result (λ e. IsForNone e (all_matches (P.source pattern.now) lines.now)) }
 {
-    let matches = matches(alloc, lines, pattern, way)?;
-    let place = first_ahead(way, from, matches.as_slice(), 0);
-    Ok(match_at(matches.as_slice(), place))
+    // its contract says that the lines are a text's
+    let _stored = lines.len();
+    match span_sought(alloc, lines, from, pattern, way)? {
+        None => Err(SelectError::NoMatch),
+        Some(span) => match selected_by(lines, span) {
+            Some(found) => Ok(found),
+            None => unreachable!(),
+        },
+    }
+}
+
+// Makes of the main selection what a search makes of it.
+fn search_at_main<P: Pattern>(
+    alloc: Global,
+    lines: &Lines,
+    sels: &Sels,
+    pattern: &P,
+    search: Search,
+) -> Result<Sels, SelectError>
+    requires { IsHeld lines.now sels.now }
+    ensures held { IfOk result (λ s. IsHeld lines.now s) }
+    ensures searches { IfOk result (λ s. selected lines.now s ≡ main_settled (searched search (all_matches (P.source pattern.now) lines.now)) (selected lines.now sels.now)) }
+    ensures some { IfOk result (λ s. 0 < length (all_matches (P.source pattern.now) lines.now)) }
+    ensures refused { IfErr result (λ e. IsForNone e (all_matches (P.source pattern.now) lines.now)) }
+{
+    let main = sels.main();
+    let sel = sels.at(main);
+    let found = sought(alloc, lines, sel, pattern, search.way)?;
+    let mut list = SmallVec::from_slice(alloc, sels.as_slice())?;
+    list[main] = reached(sel, found, search.extend);
+    Ok(settled(alloc, list, main)?)
 }
 
 /// Makes of each selection the match that is found from it, or, where the search extends, the range from the selection's
@@ -74,7 +103,8 @@ fn sought<P: Pattern>(
 /// the main one.
 ///
 /// `NoMatch` comes exactly where the text has no match, but memory may run out before that is found; `TooMany` never
-/// comes. The text is searched once, and selections and matches are gone over once.
+/// comes. The text is searched once, and selections and matches are gone over once; with one selection no list of the
+/// matches is made, and forward the text is searched up to the match behind it.
 pub fn search<P: Pattern>(
     alloc: Global,
     lines: &Lines,
@@ -88,6 +118,9 @@ pub fn search<P: Pattern>(
     ensures some { IfOk result (λ s. 0 < length (all_matches (P.source pattern.now) lines.now)) }
     ensures refused { IfErr result (λ e. IsForNone e (all_matches (P.source pattern.now) lines.now)) }
 {
+    if sels.len() == 1 {
+        return search_at_main(alloc, lines, sels, pattern, search);
+    }
     let matches = matches(alloc, lines, pattern, search.way)?;
     let mut list = SmallVec::from_slice(alloc, sels.as_slice())?;
     search_each(list.as_mut_slice(), matches.as_slice(), search);
@@ -111,11 +144,7 @@ pub fn search_main<P: Pattern>(
     ensures some { IfOk result (λ s. 0 < length (all_matches (P.source pattern.now) lines.now)) }
     ensures refused { IfErr result (λ e. IsForNone e (all_matches (P.source pattern.now) lines.now)) }
 {
-    let main = sels.main();
-    let found = sought(alloc, lines, sels.at(main), pattern, way)?;
-    let mut list = SmallVec::from_slice(alloc, sels.as_slice())?;
-    list[main] = found;
-    Ok(settled(alloc, list, main)?)
+    search_at_main(alloc, lines, sels, pattern, Search { way, extend: false })
 }
 
 /// Adds the match that is found from the main selection, which becomes the main one; the others stay.

@@ -8,6 +8,7 @@ pub mod keeping;
 pub mod laws;
 pub mod matching;
 mod searching;
+mod seeking;
 mod series;
 mod settling;
 mod stretching;

@@ -7,8 +7,8 @@ ghost use Rattle.regex_select.specs.Ways.{GoesOn, reached_at, searched_at};
 use crate::way::{Search, first_ahead, match_at, order};
 use selection_set::{Pair, Sel};
 
-// The match that was found from a selection, or the selection stretched to its last character.
-fn reached(sel: Sel, found: Sel, extend: bool) -> Sel
+/// The match that was found from a selection, or the selection stretched to its last character.
+pub(crate) fn reached(sel: Sel, found: Sel, extend: bool) -> Sel
     ensures { result ≡ reached_at extend sel found }
 {
     if extend {

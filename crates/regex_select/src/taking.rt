@@ -82,8 +82,8 @@ fn rest(lines: &Lines, sel: Sel, first: Walk) -> Option<Sel>
     None
 }
 
-// What is selected by a match from one character on and before another.
-fn found(lines: &Lines, sel: Sel, first: Walk, end: Walk) -> Option<Sel>
+/// What is selected by a match from one character on and before another.
+pub(crate) fn found(lines: &Lines, sel: Sel, first: Walk, end: Walk) -> Option<Sel>
     requires inside { IsInside lines.now sel }
     requires first { IsWalk lines.now sel first }
     requires end { IsWalk lines.now sel end }

@@ -116,3 +116,45 @@ fn matches_are_found_by_their_ends(rt: HostRuntime) -> Result<(), Fail> {
     assert_eq!(rt; found.cursor, coord(9));
     Ok(())
 }
+
+// From one character on, a pattern is found that goes from one to another of a line.
+fn assert_next<R: Abort>(
+    rt: &R,
+    alloc: Global,
+    lines: &Lines,
+    pattern: &RegexPattern,
+    from: usize,
+    way: Way,
+    expected: (u32, u32),
+) -> Result<(), Fail> {
+    assert!(rt; from < lines.len());
+    let from = Sel::only(lines.coord_of(from));
+    let (low, high) = expected;
+    let found = next_match(alloc, lines, from, pattern, way)?;
+    assert_eq!(rt; found.anchor, coord(low));
+    assert_eq!(rt; found.cursor, coord(high));
+    Ok(())
+}
+
+#[test]
+fn one_match_is_found_either_way(rt: HostRuntime) -> Result<(), Fail> {
+    let alloc = rt.alloc();
+    let rows = [
+        ("abc ab é ab\n", "ab", 10, Way::Forward, (0, 1)),
+        ("abc ab é ab\n", "ab", 9, Way::Forward, (0, 1)),
+        ("abc ab é ab\n", "ab", 0, Way::Backward, (9, 10)),
+        ("abc ab é ab\n", "ab", 10, Way::Backward, (9, 10)),
+        ("éaéa\n", "a", 1, Way::Forward, (3, 3)),
+        ("éaéa\n", "a", 3, Way::Backward, (1, 1)),
+        ("ab\n", "x*", 0, Way::Forward, (1, 1)),
+        ("ab\n", "x*", 2, Way::Forward, (0, 0)),
+        ("ab\n", "x*", 0, Way::Backward, (2, 2)),
+        ("ab\n", "\n", 0, Way::Forward, (2, 2)),
+    ];
+    for (text, source, from, way, expected) in rows {
+        let lines = lines(alloc, text)?;
+        let sought = pattern(&rt, alloc, source)?;
+        assert_next(&rt, alloc, &lines, &sought, from, way, expected)?;
+    }
+    Ok(())
+}

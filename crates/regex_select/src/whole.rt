@@ -15,8 +15,8 @@ use selection_set::Sel;
 use smallvec::SmallVec;
 use std::alloc::{AllocError, Global};
 
-// The selection of a whole text.
-fn whole(lines: &Lines) -> Sel
+/// The selection of a whole text.
+pub(crate) fn whole(lines: &Lines) -> Sel
     ensures inside { IsInside lines.now result }
     ensures low { offset lines.now result.low ≡ 0 }
     ensures chars { own_chars lines.now result ≡ lines.now }

@@ -1,17 +1,34 @@
-use Rattle.std.proofs.Common.{sym, ap, subst, ◌∙◌}
-use Rattle.selection_set.specs.Inside.{range_of, IsInside}
-use Rattle.regex_select.specs.Searching.{all_matches}
-use Rattle.regex_select.proofs.SoughtLemmas.{sought-inside, sought-range}
-use Rattle.regex_select.proofs.MadeLemmas.{found-in}
+use Rattle.std.proofs.Common.{sym, ap, ◌∙◌}
+use Rattle.std.specs.Prelude.{option_to_list}
+use Rattle.text_model.proofs.PlaceLemmas.{offset-below}
+use Rattle.selection_set.specs.Inside.{range_of}
+use Rattle.selection_set.specs.Listing.{ranges_of}
+use Rattle.regex_select.specs.Rows.{spans_in}
+use Rattle.regex_select.proofs.SpanLemmas.{none-there, some-there, found-is-sought, found-selects}
 use Rattle.regex_select.proofs.finding.sought.Goals as goal
 
-pub returns-clause-inside : goal.returns-clause-inside
-returns-clause-inside g c =
-    let is = found-in c.args.way c.in_ok-matches.matches.items c.as_slice.result.now c.as_slice-2.result.now c.args.from c.match_at.result c.first_ahead-place.result c.as_slice.ensures c.as_slice-2.ensures c.first_ahead-place.ensures.few c.first_ahead-place.ensures.passed c.first_ahead-place.ensures.ahead c.match_at.ensures in
-    subst (IsInside c.args.lines.now) (sym is) (sought-inside c.args.lines.now c.args.way c.in_ok-matches.matches.items c.args.from c.requires c.in_ok-matches.ensures.inside)
+pub unreachable-requires : goal.unreachable-requires
+unreachable-requires g c =
+    let text = c.args.lines.now in
+    let spans = spans_in (g.P.Pattern.source c.args.pattern.now) text in
+    found-selects text c.args.way spans (range_of text c.args.from) c.in-Some.span c.len-stored.ensures.valid.is_text c.requires.ordered (offset-below text c.args.from.high c.requires.high) (sym c.in_ok-span_sought.ensures ∙ c.in-Some.is)
+    (ap (λ o. ranges_of text (option_to_list o)) (sym c.in-None-selected_by.is) ∙ c.selected_by.ensures.range)
 
-pub returns-clause-seeks : goal.returns-clause-seeks
-returns-clause-seeks g c =
-    let is = found-in c.args.way c.in_ok-matches.matches.items c.as_slice.result.now c.as_slice-2.result.now c.args.from c.match_at.result c.first_ahead-place.result c.as_slice.ensures c.as_slice-2.ensures c.first_ahead-place.ensures.few c.first_ahead-place.ensures.passed c.first_ahead-place.ensures.ahead c.match_at.ensures in
-    ap (range_of c.args.lines.now) is
-    ∙ sought-range c.args.lines.now c.args.way c.in_ok-matches.matches.items (all_matches (g.P.Pattern.source c.args.pattern.now) c.args.lines.now) c.args.from c.requires c.in_ok-matches.ensures.inside c.in_ok-matches.ensures.ranges
+pub returns-in-None-clause-refused : goal.returns-in-None-clause-refused
+returns-in-None-clause-refused g c =
+    let text = c.args.lines.now in
+    let spans = spans_in (g.P.Pattern.source c.args.pattern.now) text in
+    none-there text c.args.way spans (range_of text c.args.from) c.len-stored.ensures.valid.is_text (sym c.in_ok-span_sought.ensures ∙ c.in-None.is)
+
+pub returns-in-Some-selected_by-clause-seeks : goal.returns-in-Some-selected_by-clause-seeks
+returns-in-Some-selected_by-clause-seeks g c =
+    let text = c.args.lines.now in
+    let spans = spans_in (g.P.Pattern.source c.args.pattern.now) text in
+    found-is-sought text c.args.way spans (range_of text c.args.from) (range_of text c.in-Some-selected_by.found) c.in-Some.span c.len-stored.ensures.valid.is_text c.requires.ordered (offset-below text c.args.from.high c.requires.high) (sym c.in_ok-span_sought.ensures ∙ c.in-Some.is)
+    (ap (λ o. ranges_of text (option_to_list o)) (sym c.in-Some-selected_by.is) ∙ c.selected_by.ensures.range)
+
+pub returns-in-Some-selected_by-clause-some : goal.returns-in-Some-selected_by-clause-some
+returns-in-Some-selected_by-clause-some g c =
+    let text = c.args.lines.now in
+    let spans = spans_in (g.P.Pattern.source c.args.pattern.now) text in
+    (some-there text c.args.way spans (range_of text c.args.from) c.in-Some.span c.len-stored.ensures.valid.is_text c.requires.ordered (offset-below text c.args.from.high c.requires.high) (sym c.in_ok-span_sought.ensures ∙ c.in-Some.is)).1
