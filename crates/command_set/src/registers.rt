@@ -27,7 +27,7 @@ pub(crate) fn set(
     let RegisterValues { name, values } = register;
     match register_named(name.as_str()) {
         None => Err(EditError::Command(CommandError::NoSuchRegister(name))),
-        Some(c) => world.set_register(alloc, c, &values),
+        Some(c) => world.set_register(c, values),
     }
 }
 

@@ -53,7 +53,7 @@ fn keep_typed(alloc: Global, world: &mut World, who: u32, name: char) -> Result<
 {
     let mut strings = Words::new(alloc);
     strings.push(string_of(alloc, world.own(who).prompt.whole())?)?;
-    match world.set_register(alloc, name, &strings) {
+    match world.set_register(name, strings) {
         Ok(()) => {
             let typed = leave(alloc, world, who);
             Ok(Chars::of_vec(typed.into_vec()))

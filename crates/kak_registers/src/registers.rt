@@ -59,6 +59,21 @@ impl Registers {
         Ok(())
     }
 
+    /// The same with strings that are taken over, and not copied.
+    pub fn keep(&mut self, name: char, values: Words) -> Result<(), RegisterError>
+        ensures sets { OnOk result (self.new ≡ set_in name values self.old) }
+        ensures granted { OnOk result (refusal_of name values ≡ None) }
+        ensures refused { IfErr result (λ e. IsDue e (refusal_of name values)) }
+        ensures err { OnErr result (self.new ≡ self.old) }
+    {
+        check(name, &values)?;
+        if name == '_' {
+            return Ok(());
+        }
+        self.put(name, values)?;
+        Ok(())
+    }
+
     /// The strings of a register; None exactly where `set` refuses its name.
     pub fn get(&self, name: char) -> Option<&Words>
         ensures none { IsNone result ↔ (is_settable name ≡ false) }
@@ -129,6 +144,9 @@ fn place(rows: &[Register], name: char) -> usize
 fn char_len(text: &str) -> usize
     ensures { result ≡ length (chars text.now) }
 {
+    if text.is_ascii() {
+        return text.len();
+    }
     text.chars().count()
 }
 

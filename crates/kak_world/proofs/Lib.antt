@@ -5,6 +5,7 @@ pub mod ListLemmas
 pub mod ClientLemmas
 pub mod WorldLaws
 pub mod WorldLemmas
+pub mod QuietLemmas
 pub mod MoveLemmas
 pub mod AnswerLemmas
 pub mod EditingLemmas

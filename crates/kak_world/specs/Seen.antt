@@ -1,5 +1,5 @@
 -- How the flat world is seen in the state that the code keeps.
-use Rattle.std.specs.Prelude.{◌≡◌, ℕ, ◌≤◌, Bool, true, List, [], ◌∷◌, length, map}
+use Rattle.std.specs.Prelude.{◌≡◌, ℕ, ◌≤◌, Bool, true, false, List, [], ◌∷◌, length, map, None, IfSome}
 use Rattle.std.specs.List.{AllByRecursion}
 use Rattle.text_model.specs.declared.coords.Shift.{Shift}
 use Rattle.text_model.specs.Texts.{IsStored}
@@ -52,6 +52,19 @@ AreListedBy f text old new = (name : List ℕ) (file : Bool) (story : Story) →
 pub record HasBuffer (buffers : List (Option Buffer)) : Type 0 where
   pub some : is_there (lowest buffers) buffers ≡ true
   pub few : length buffers ≤ 1024
+
+-- nothing is pending in a buffer, where there is one
+abbrev pub SlotIsQuiet : Option Buffer → Type 0
+SlotIsQuiet slot = IfSome slot (λ b. b.story.group ≡ None)
+
+-- nothing is pending in any buffer
+abbrev pub AreQuiet : List (Option Buffer) → Type 0
+AreQuiet buffers = AllByRecursion SlotIsQuiet buffers
+
+-- buffers as a world keeps them, which knows where nothing is pending
+pub record Stands (may_pend : Bool) (buffers : List (Option Buffer)) : Type 0 where
+  pub has : HasBuffer buffers
+  pub quiet : may_pend ≡ false → AreQuiet buffers
 
 -- lists are held in a text, and shifts are those of changes of it
 pub record CanMove (lists : List HeldList) (shifts : List Shift) : Type 0 where

@@ -1,6 +1,6 @@
 //! A buffer: a text under a name, with the selection lists on it.
 
-ghost use Rattle.std.specs.Prelude.{◌≡◌, ◌<◌, ◌≤◌, ◌+◌, ◌^◌, ◌↔◌, ◌⊎◌, true, false, length, None, Err, IfOk, IfErr, OnOk, OnErr, IsErrOf};
+ghost use Rattle.std.specs.Prelude.{◌≡◌, ◌<◌, ◌≤◌, ◌+◌, ◌^◌, ◌↔◌, ◌⊎◌, true, false, is_some, length, None, Err, IfOk, IfErr, OnOk, OnErr, IsErrOf};
 ghost use Rattle.list_model.specs.Ranges.{Selected};
 ghost use Rattle.selection_set.specs.Held.{selected, IsHeld};
 ghost use Rattle.window_view.specs.View.{followed};
@@ -230,6 +230,13 @@ impl Buffer {
         ensures { self.new ≡ committed_for who self.old }
     {
         self.store.commit(who);
+    }
+
+    /// Whether a client's changes are pending.
+    pub fn is_pending(&self) -> bool
+        ensures { result ≡ is_some self.now.story.group }
+    {
+        self.store.owner().is_some()
     }
 
     /// Whether the undo tree has no place for a group that a client would begin.

@@ -53,6 +53,7 @@ impl World {
         ensures joined { OnOk result (is_joined who self.new.flat ≡ true) }
         ensures err { OnErr result (self.new.flat ≡ self.old.flat) }
     {
+        self.may_pend = true;
         let n = lowest(self.buffers.as_slice());
         self.clients.add(alloc, who, n as u32)?;
         match &mut self.buffers[n] {
@@ -71,6 +72,7 @@ impl World {
     pub fn leave(&mut self, who: u32)
         ensures { self.new.flat ≡ left_by who self.old.flat }
     {
+        self.may_pend = true;
         self.clients.remove(who);
         leave_buffers(&mut self.buffers, who);
         self.rest.options.clear_client(who);

@@ -101,6 +101,7 @@ impl World {
         ensures keeps { OnOk result (KeepsJoined self.old.flat self.new.flat) }
         ensures err { OnErr result (self.new.flat ≡ self.old.flat) }
     {
+        self.may_pend = true;
         let to = drop_at(&mut self.buffers, alloc, n, self.clients.as_slice())?;
         self.clients.move_on(n, to);
         self.rest.options.clear_buffer(n);

@@ -1,6 +1,6 @@
 //! Edits of the text that a client sees, and moves in its history.
 
-ghost use Rattle.std.specs.Prelude.{◌≡◌, ◌≤◌, true, map, option_map, IfOk, OnOk, IsErrOf};
+ghost use Rattle.std.specs.Prelude.{◌≡◌, ◌≤◌, true, false, map, option_map, IfOk, OnOk, IsErrOf};
 ghost use Rattle.buffer_store.specs.Stored.{shifts_of};
 ghost use Rattle.buffer_store.specs.Buffers.{AreSplicesOf, flat_splices, changes_of};
 ghost use Rattle.undo_model.specs.declared.TheConstants.{MAX_NODES};
@@ -11,6 +11,7 @@ ghost use Rattle.kak_world.specs.Flat.{is_joined, text_of, story_of, node_of, co
 ghost use Rattle.kak_world.specs.Changing.{edited_by, commits, IsAfterSome, IsCutOff};
 ghost use Rattle.kak_world.specs.Editing.{edit_row, long_refusal, travel_row};
 ghost use Rattle.kak_world.specs.Rows.{Answers};
+ghost use Rattle.kak_world.specs.Seen.{SlotIsQuiet, AreQuiet};
 
 use crate::ask::EditError;
 use crate::buffer::Buffer;
@@ -40,6 +41,28 @@ fn commit_all(buffers: &mut Vec<Option<Buffer>>, who: u32)
     }
 }
 
+// Whether a client's changes are pending in a buffer, where there is one.
+fn is_pending(slot: &Option<Buffer>) -> bool
+    ensures { result ≡ false → SlotIsQuiet slot.now }
+{
+    match slot {
+        None => false,
+        Some(buffer) => buffer.is_pending(),
+    }
+}
+
+// Whether a client's changes are pending in a buffer.
+fn any_pending(buffers: &[Option<Buffer>]) -> bool
+    ensures { result ≡ false → AreQuiet buffers.now }
+{
+    for slot in buffers {
+        if is_pending(slot) {
+            return true;
+        }
+    }
+    false
+}
+
 impl World {
     /// Makes a client's replacements in the text that it sees, from the first to the last, and gives the shifts of the single
     /// changes. Each single change moves every list on that text, whoever holds it. `UndoFull` and `TextFull` leave the world;
@@ -58,6 +81,7 @@ impl World {
         ensures steps { OnOk result (AreSteps (text_of who self.old.flat) (changes_of (text_of who self.old.flat) splices.now)) }
         ensures wanting { IsErrOf result NoMemory → IsAfterSome who (changes_of (text_of who self.old.flat) splices.now) self.old.flat self.new.flat }
     {
+        self.may_pend = true;
         let n = self.clients.client(who).shown as usize;
         match &mut self.buffers[n] {
             None => unreachable!(),
@@ -89,6 +113,7 @@ impl World {
         ensures row { Answers result self.new.flat (travel_row travel who self.old.flat) }
         ensures wanting { IsErrOf result NoMemory → IsCutOff who (move_changes travel (story_of who self.old.flat)) self.old.flat self.new.flat }
     {
+        self.may_pend = true;
         let n = self.clients.client(who).shown as usize;
         match &mut self.buffers[n] {
             None => unreachable!(),
@@ -108,10 +133,15 @@ impl World {
         self.shown(who).node()
     }
 
-    /// Commits all pending groups of a client. Takes no memory.
+    /// Commits all pending groups of a client. Takes no memory, and looks at no buffer where none was changed since
+    /// nothing was pending.
     pub fn commit(&mut self, who: u32)
         ensures { self.new.flat ≡ commits who self.old.flat }
     {
+        if !self.may_pend {
+            return;
+        }
         commit_all(&mut self.buffers, who);
+        self.may_pend = any_pending(self.buffers.as_slice());
     }
 }

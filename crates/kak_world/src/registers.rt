@@ -10,7 +10,6 @@ use crate::ask::EditError;
 use crate::world::World;
 use kak_ports::Words;
 use kak_registers::Registers;
-use std::alloc::Global;
 
 impl World {
     /// What the registers hold.
@@ -21,20 +20,15 @@ impl World {
         &self.rest.registers
     }
 
-    /// Has a register hold a copy of these strings. `NoSuchRegister`, `ReadOnlyRegister` and `RegisterFull` come where the
-    /// register can't hold them, the first of these that holds; an error leaves the world.
+    /// Has a register hold these strings, which are taken over. `NoSuchRegister`, `ReadOnlyRegister` and `RegisterFull`
+    /// come where the register can't hold them, the first of these that holds; an error leaves the world.
     #[tactic(auto, unfolding(crate::specs::Flat::registers_of, crate::specs::Flat::with_registers, crate::specs::Registers::set_row))]
-    pub fn set_register(
-        &mut self,
-        alloc: Global,
-        name: char,
-        strings: &Words,
-    ) -> Result<(), EditError>
-        ensures row { Answers result self.new.flat (set_row name strings.now self.old.flat) }
-        ensures sets { OnOk result (self.new.flat ≡ with_register name strings.now self.old.flat) }
+    pub fn set_register(&mut self, name: char, strings: Words) -> Result<(), EditError>
+        ensures row { Answers result self.new.flat (set_row name strings self.old.flat) }
+        ensures sets { OnOk result (self.new.flat ≡ with_register name strings self.old.flat) }
         ensures wanting { IsErrOf result NoMemory → self.new.flat ≡ self.old.flat }
     {
-        match self.rest.registers.set(alloc, name, strings) {
+        match self.rest.registers.keep(name, strings) {
             Ok(()) => Ok(()),
             Err(error) => Err(EditError::from(error)),
         }

@@ -79,6 +79,7 @@ impl World {
         requires { is_there n self.old.flat.buffers ≡ true }
         ensures { self.new.flat ≡ saved_in n self.old.flat }
     {
+        self.may_pend = true;
         mark_saved_in(&mut self.buffers[n as usize]);
     }
 

@@ -31,6 +31,7 @@ impl World {
         ensures keeps { OnOk result (KeepsClients self.old.flat self.new.flat) }
         ensures err { OnErr result (self.new.flat ≡ self.old.flat) }
     {
+        self.may_pend = true;
         add_list_in(&mut self.buffers[n as usize], alloc, Holder::Of(who))?;
         self.clients.set_shown(who, n);
         Ok(())

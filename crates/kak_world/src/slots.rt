@@ -90,6 +90,7 @@ impl World {
         if n >= MAX_BUFFERS {
             return Err(WorldError::TooManyBuffers);
         }
+        self.may_pend = true;
         let buffer = Buffer::new(alloc, name, is_file, lines)?;
         put_buffer(&mut self.buffers, n, buffer)?;
         Ok(n as u32)

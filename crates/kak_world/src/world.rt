@@ -35,16 +35,18 @@ pub struct World {
     pub(crate) buffers: Vec<Option<Buffer>>,
     pub(crate) clients: Clients,
     pub(crate) rest: Rest,
+    // whether a client's changes may be pending in a buffer: false only where they are in none
+    pub(crate) may_pend: bool,
 }
 
 impl Model for World {
-    ghost use Rattle.kak_world.specs.Seen.{Kept, HasBuffer};
+    ghost use Rattle.kak_world.specs.Seen.{Kept, Stands};
 
     ghost Value = { Kept };
 
     ghost view = { λ w. record { flat = record { buffers = w.buffers.items; clients = w.clients; rest = w.rest } } };
 
-    ghost invariant = { λ w. HasBuffer w.buffers.items };
+    ghost invariant = { λ w. Stands w.may_pend w.buffers.items };
 }
 
 /// The buffer that is there when nothing else is.
@@ -93,6 +95,7 @@ impl World {
                 registers: Registers::new(alloc),
                 options: Options::new(alloc)?,
             },
+            may_pend: true,
         })
     }
 

@@ -188,5 +188,5 @@ pub fn remember_main(
     let pattern = pattern_of(alloc, world.lines(who), main, bounds)?;
     let mut strings = Words::new(alloc);
     strings.push(string_of(alloc, pattern.as_slice())?)?;
-    world.set_register(alloc, '/', &strings)
+    world.set_register('/', strings)
 }

@@ -42,7 +42,7 @@ pub fn keep(
     ensures wanting { IsErrOf result NoMemory → world.new.flat ≡ world.old.flat }
 {
     let texts = strings(alloc, world.lines(who), world.sels(who))?;
-    world.set_register(alloc, used(register), &texts)
+    world.set_register(used(register), texts)
 }
 
 /// Characters as a string.

@@ -26,8 +26,8 @@ returns-in-Ok-clause-typed c =
 pub refuse-requires : goal.refuse-requires
 refuse-requires c = refused-joined c.in-Err.error c.args.name c.push.new.self c.args.who c.args.world.now.flat c.set_register.new.self.flat c.in-Err.ensures.row (λ e. c.in-Err.ensures.wanting (ap Err e)) ∙ c.requires
 
-pub returns-clause-row : goal.returns-clause-row
-returns-clause-row c =
+pub returns-in-Err-clause-row : goal.returns-in-Err-clause-row
+returns-in-Err-clause-row c =
     let who = c.args.who in
     let flat = c.args.world.now.flat in
     let given : c.push.new.self ≡ typed_strings who flat = c.in_ok-push.ensures.ok ∙ ap₂ (λ (xs : List (List ℕ)) (w : List ℕ). xs ++ w ∷ []) c.new-strings.ensures (c.in_ok-string_of.ensures ∙ ap encode_utf8_all (c.whole.ensures ∙ ap (λ (o : Own). whole o.prompt) c.own.ensures)) in

@@ -1,11 +1,14 @@
-use Rattle.std.proofs.Common.{ap, ◌∙◌}
+use Rattle.std.proofs.Common.{ap, ◌∙◌, ◌≡◌, true, false}
 use Rattle.kak_world.specs.Dropping.{buffers_dropped}
 use Rattle.kak_world.proofs.DroppingLemmas.{has-dropped, now-dropped}
 use Rattle.kak_world.proofs.StayingLemmas.{drop-keeps}
 use Rattle.kak_world.proofs.world.World.drop_buffer.Goals as goal
 
 pub invariant_of-self-2 : goal.invariant_of-self-2
-invariant_of-self-2 c = has-dropped c.args.n c.as_slice.result.now c.self.inside.buffers.items _ c.in_ok-to.ensures.ok c.self.invariant
+invariant_of-self-2 c = record {
+  has = has-dropped c.args.n c.as_slice.result.now c.self.inside.buffers.items _ c.in_ok-to.ensures.ok c.self.invariant.has;
+  quiet = λ e. absurd (let both : true ≡ false = e in cc);
+}
 
 pub returns-clause-ok : goal.returns-clause-ok
 returns-clause-ok c =

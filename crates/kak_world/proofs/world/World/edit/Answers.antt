@@ -24,7 +24,10 @@ pub edit-requires : goal.edit-requires
 edit-requires c = subst (λ t. AreSplicesOf t c.args.splices.now) (sym (text-of c.args.who _ _ _ _ _ _ _ c.self.view_is c.client.ensures c.requires.joined c.index_mut.ensures.value c.in-Some.is)) c.requires.splices
 
 pub invariant_of-self : goal.invariant_of-self
-invariant_of-self c = has-set _ _ _ _ (slot-at c.args.who _ _ _ _ _ _ _ c.self.view_is c.client.ensures c.requires.joined c.index_mut.ensures.value c.in-Some.is) c.self.invariant
+invariant_of-self c = record {
+  has = has-set _ _ _ _ (slot-at c.args.who _ _ _ _ _ _ _ c.self.view_is c.client.ensures c.requires.joined c.index_mut.ensures.value c.in-Some.is) c.self.invariant.has;
+  quiet = λ e. absurd (let both : true ≡ false = e in cc);
+}
 
 pub returns-clause-row : goal.returns-clause-row
 unfolding text_of story_of

@@ -1,8 +1,9 @@
 use Rattle.std.proofs.Common.{◌<◌, length, ap, ◌∙◌, arith}
 use Rattle.window_view.specs.View.{followed}
 use Rattle.kak_world.specs.declared.holder.Holder.TheVariants.{Of}
-use Rattle.kak_world.specs.Flat.{with_list, view_of, with_sels, with_view}
+use Rattle.kak_world.specs.Flat.{Buffer, with_list, view_of, with_sels, with_view}
 use Rattle.kak_world.proofs.WorldLemmas.{here-of, shown-inside, shown-not_none, slot-at, list-of, list-set-of, has-set, view-of}
+use Rattle.kak_world.proofs.QuietLemmas.{still-quiet}
 use Rattle.kak_world.proofs.world.World.follow.Goals as goal
 
 pub client-requires : goal.client-requires
@@ -18,7 +19,12 @@ pub follow-requires-clause-list : goal.follow-requires-clause-list
 follow-requires-clause-list c = list-of c.args.who _ _ _ _ _ _ _ c.self.view_is c.client.ensures c.requires.joined c.index_mut.ensures.value c.in-Some.is
 
 pub invariant_of-self : goal.invariant_of-self
-invariant_of-self c = has-set _ _ _ _ (slot-at c.args.who _ _ _ _ _ _ _ c.self.view_is c.client.ensures c.requires.joined c.index_mut.ensures.value c.in-Some.is) c.self.invariant
+invariant_of-self c =
+    let there = (slot-at c.args.who _ _ _ _ _ _ _ c.self.view_is c.client.ensures c.requires.joined c.index_mut.ensures.value c.in-Some.is) in
+    record {
+      has = has-set _ _ _ _ there c.self.invariant.has;
+      quiet = λ e. still-quiet _ _ _ _ there (ap (λ (b : Buffer). b.story) c.follow.ensures) (c.self.invariant.quiet e);
+    }
 
 pub returns : goal.returns
 unfolding with_sels with_view

@@ -7,5 +7,5 @@ use Rattle.kak_world.proofs.world.World.has_all_buffers.Goals as goal
 
 pub returns : goal.returns
 returns c =
-    full-by c.self.inside.buffers.items c.first_gap.result c.self.invariant.few (c.first_gap.ensures ∙ ap first_gap c.as_slice.ensures.value)
+    full-by c.self.inside.buffers.items c.first_gap.result c.self.invariant.has.few (c.first_gap.ensures ∙ ap first_gap c.as_slice.ensures.value)
     ∙ ap (λ (k : Kept). buffer_count k.flat.buffers == 1024) c.self.view_is

@@ -1,4 +1,4 @@
-use Rattle.std.proofs.Common.{◌≤◌, ap, sym, ◌∙◌, arith}
+use Rattle.std.proofs.Common.{◌≤◌, ap, sym, ◌∙◌, arith, ◌≡◌, true, false}
 use Rattle.kak_world.specs.Seen.{Kept}
 use Rattle.kak_world.specs.Showing.{first_gap, buffer_count}
 use Rattle.kak_world.proofs.GapLemmas.{gap-full, full-count, has-placed, now-opened, open-keeps}
@@ -8,20 +8,23 @@ pub returns-then-n-ge-MAX_BUFFERS-clause-refused :
     goal.returns-then-n-ge-MAX_BUFFERS-clause-refused
 returns-then-n-ge-MAX_BUFFERS-clause-refused c = λ _.
     sym (ap (λ (k : Kept). buffer_count k.flat.buffers) c.self.view_is)
-    ∙ full-count c.self.inside.buffers.items c.first_gap-n.result c.self.invariant.few (c.first_gap-n.ensures ∙ ap first_gap c.as_slice.ensures.value) c.if-n-ge-MAX_BUFFERS.true
+    ∙ full-count c.self.inside.buffers.items c.first_gap-n.result c.self.invariant.has.few (c.first_gap-n.ensures ∙ ap first_gap c.as_slice.ensures.value) c.if-n-ge-MAX_BUFFERS.true
 
 pub returns-in_err-buffer-clause-full : goal.returns-in_err-buffer-clause-full
 returns-in_err-buffer-clause-full c = λ full.
-    let past : 1024 ≤ c.first_gap-n.result = gap-full c.self.inside.buffers.items c.first_gap-n.result c.self.invariant.few (c.first_gap-n.ensures ∙ ap first_gap c.as_slice.ensures.value) (ap (λ (k : Kept). buffer_count k.flat.buffers) c.self.view_is ∙ full) in
+    let past : 1024 ≤ c.first_gap-n.result = gap-full c.self.inside.buffers.items c.first_gap-n.result c.self.invariant.has.few (c.first_gap-n.ensures ∙ ap first_gap c.as_slice.ensures.value) (ap (λ (k : Kept). buffer_count k.flat.buffers) c.self.view_is ∙ full) in
     absurd (omega (arith, c.if-n-ge-MAX_BUFFERS.false))
 
 pub returns-in_err-put_buffer-clause-full : goal.returns-in_err-put_buffer-clause-full
 returns-in_err-put_buffer-clause-full c = λ full.
-    let past : 1024 ≤ c.first_gap-n.result = gap-full c.self.inside.buffers.items c.first_gap-n.result c.self.invariant.few (c.first_gap-n.ensures ∙ ap first_gap c.as_slice.ensures.value) (ap (λ (k : Kept). buffer_count k.flat.buffers) c.self.view_is ∙ full) in
+    let past : 1024 ≤ c.first_gap-n.result = gap-full c.self.inside.buffers.items c.first_gap-n.result c.self.invariant.has.few (c.first_gap-n.ensures ∙ ap first_gap c.as_slice.ensures.value) (ap (λ (k : Kept). buffer_count k.flat.buffers) c.self.view_is ∙ full) in
     absurd (omega (arith, c.if-n-ge-MAX_BUFFERS.false))
 
 pub invariant_of-self-2 : goal.invariant_of-self-2
-invariant_of-self-2 c = has-placed _ _ _ c.first_gap-n.result (c.first_gap-n.ensures ∙ ap first_gap c.as_slice.ensures.value) (omega (arith, c.if-n-ge-MAX_BUFFERS.false)) c.in_ok-put_buffer.ensures.ok c.self.invariant
+invariant_of-self-2 c = record {
+  has = has-placed _ _ _ c.first_gap-n.result (c.first_gap-n.ensures ∙ ap first_gap c.as_slice.ensures.value) (omega (arith, c.if-n-ge-MAX_BUFFERS.false)) c.in_ok-put_buffer.ensures.ok c.self.invariant.has;
+  quiet = λ e. absurd (let both : true ≡ false = e in cc);
+}
 
 pub returns-clause-ok : goal.returns-clause-ok
 returns-clause-ok c = now-opened c.args.name c.args.is_file c.args.lines _ _ _ _ _ _ c.self.view_is c.in_ok-put_buffer.ensures.ok c.in_ok-buffer.ensures
@@ -31,5 +34,5 @@ returns-clause-keeps c = open-keeps c.args.name c.args.is_file c.args.lines _ _ 
 
 pub returns-clause-full : goal.returns-clause-full
 returns-clause-full c = λ full.
-    let past : 1024 ≤ c.first_gap-n.result = gap-full c.self.inside.buffers.items c.first_gap-n.result c.self.invariant.few (c.first_gap-n.ensures ∙ ap first_gap c.as_slice.ensures.value) (ap (λ (k : Kept). buffer_count k.flat.buffers) c.self.view_is ∙ full) in
+    let past : 1024 ≤ c.first_gap-n.result = gap-full c.self.inside.buffers.items c.first_gap-n.result c.self.invariant.has.few (c.first_gap-n.ensures ∙ ap first_gap c.as_slice.ensures.value) (ap (λ (k : Kept). buffer_count k.flat.buffers) c.self.view_is ∙ full) in
     absurd (omega (arith, c.if-n-ge-MAX_BUFFERS.false))

@@ -1,8 +1,9 @@
 use Rattle.std.proofs.Common.{◌<◌, length, ap, sym, subst, ◌∙◌, arith}
 use Rattle.selection_set.specs.Held.{selected, IsHeld}
 use Rattle.kak_world.specs.declared.holder.Holder.TheVariants.{Of}
-use Rattle.kak_world.specs.Flat.{with_list, text_of, with_sels, with_view}
+use Rattle.kak_world.specs.Flat.{Buffer, with_list, text_of, with_sels, with_view}
 use Rattle.kak_world.proofs.WorldLemmas.{here-of, shown-inside, shown-not_none, slot-at, list-of, list-set-of, has-set, text-of}
+use Rattle.kak_world.proofs.QuietLemmas.{still-quiet}
 use Rattle.kak_world.proofs.world.World.set_sels.Goals as goal
 
 pub client-requires : goal.client-requires
@@ -21,7 +22,12 @@ pub set_sels-requires-clause-held : goal.set_sels-requires-clause-held
 set_sels-requires-clause-held c = subst (λ t. IsHeld t c.args.sels) (sym (text-of c.args.who _ _ _ _ _ _ _ c.self.view_is c.client.ensures c.requires.joined c.index_mut.ensures.value c.in-Some.is)) c.requires.held
 
 pub invariant_of-self : goal.invariant_of-self
-invariant_of-self c = has-set _ _ _ _ (slot-at c.args.who _ _ _ _ _ _ _ c.self.view_is c.client.ensures c.requires.joined c.index_mut.ensures.value c.in-Some.is) c.self.invariant
+invariant_of-self c =
+    let there = (slot-at c.args.who _ _ _ _ _ _ _ c.self.view_is c.client.ensures c.requires.joined c.index_mut.ensures.value c.in-Some.is) in
+    record {
+      has = has-set _ _ _ _ there c.self.invariant.has;
+      quiet = λ e. still-quiet _ _ _ _ there (ap (λ (b : Buffer). b.story) c.set_sels.ensures) (c.self.invariant.quiet e);
+    }
 
 pub returns : goal.returns
 unfolding with_sels with_view

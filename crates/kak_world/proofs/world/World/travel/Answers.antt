@@ -1,4 +1,4 @@
-use Rattle.std.proofs.Common.{◌≡◌, ◌<◌, None, length, ap, subst, ◌∙◌, arith}
+use Rattle.std.proofs.Common.{◌≡◌, ◌<◌, None, length, ap, subst, ◌∙◌, arith, true, false}
 use Rattle.kak_world.proofs.WorldLemmas.{here-of, shown-inside, shown-not_none, slot-at, list-of, has-set, buffer-of, changed-of}
 use Rattle.undo_model.specs.Moves.{target_of, move_changes}
 use Rattle.kak_world.proofs.RowAnswers.{either-none, travel-done, travel-refused, traveled-of, some-cut}
@@ -20,7 +20,10 @@ pub travel-requires : goal.travel-requires
 travel-requires c = list-of c.args.who _ _ _ _ _ _ _ c.self.view_is c.client.ensures c.requires c.index_mut.ensures.value c.in-Some.is
 
 pub invariant_of-self : goal.invariant_of-self
-invariant_of-self c = has-set _ _ _ _ (slot-at c.args.who _ _ _ _ _ _ _ c.self.view_is c.client.ensures c.requires c.index_mut.ensures.value c.in-Some.is) c.self.invariant
+invariant_of-self c = record {
+  has = has-set _ _ _ _ (slot-at c.args.who _ _ _ _ _ _ _ c.self.view_is c.client.ensures c.requires c.index_mut.ensures.value c.in-Some.is) c.self.invariant.has;
+  quiet = λ e. absurd (let both : true ≡ false = e in cc);
+}
 
 pub returns-clause-row : goal.returns-clause-row
 unfolding story_of
