@@ -17,4 +17,3 @@ pub mod ReplacingLemmas
 pub mod EditingLemmas
 pub mod LimitLemmas
 pub mod PassLemmas
-pub mod TrialLemmas

@@ -21,10 +21,3 @@ pub use edits::Splice;
 pub use errors::{BufferError, MoveError};
 pub use keeping::{erase, insert};
 pub use making::{make, take_back};
-
-#[cfg(test)]
-mod edit_tests;
-#[cfg(test)]
-mod move_tests;
-#[cfg(test)]
-mod tests;

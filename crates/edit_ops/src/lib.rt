@@ -34,8 +34,3 @@ pub use putting::put;
 pub use reading::{strings, text_of, texts};
 pub use rotating::rotate;
 pub use typing::before_cursors;
-
-#[cfg(test)]
-mod line_tests;
-#[cfg(test)]
-mod tests;

@@ -14,8 +14,3 @@ pub use frame::EngineFrame;
 pub use glimpse::Glimpse;
 pub use seat::DeskSeat;
 pub use shared::SharedEngine;
-
-#[cfg(test)]
-mod test_patterns;
-#[cfg(test)]
-mod tests;

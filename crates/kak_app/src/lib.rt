@@ -7,10 +7,3 @@ pub mod replaying;
 
 pub use program::{MAX_ENTRIES, Status, run};
 pub use replaying::{MAX_UIS, replay};
-
-#[cfg(test)]
-mod line_tests;
-#[cfg(test)]
-mod test_patterns;
-#[cfg(test)]
-mod tests;

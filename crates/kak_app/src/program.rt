@@ -93,7 +93,7 @@ fn opening_keys(alloc: Global, words: &[String]) -> Result<Vec<Key>, AllocError>
 }
 
 // Lets a client come to a session in which nothing has happened, and serves it.
-pub(crate) fn attend<S: Seat, I: Source, K: Sink>(
+fn attend<S: Seat, I: Source, K: Sink>(
     alloc: Global,
     seat: &mut S,
     input: &mut I,

@@ -11,8 +11,3 @@ pub mod seat;
 pub use engine::{Engine, NoEngine};
 pub use outside::Outside;
 pub use seat::EngineSeats;
-
-#[cfg(test)]
-mod test_patterns;
-#[cfg(test)]
-mod tests;

@@ -16,6 +16,3 @@ pub use changes::{ListChange, changed};
 pub use cuts::Cut;
 pub use main_selection::main_beside;
 pub use parts::Split;
-
-#[cfg(test)]
-mod tests;

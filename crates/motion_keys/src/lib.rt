@@ -24,12 +24,3 @@ pub use moves::{step, vertical};
 pub use place_moves::place;
 pub use searching::{Test, nearest};
 pub use words::{WordKind, WordMove, word};
-
-#[cfg(test)]
-mod jump_tests;
-#[cfg(test)]
-mod move_tests;
-#[cfg(test)]
-mod place_tests;
-#[cfg(test)]
-mod word_tests;

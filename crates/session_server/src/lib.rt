@@ -14,8 +14,3 @@ pub use host::MAX_LINKS;
 pub use run::{MAX_ENTRIES, ServerStatus, run_server};
 pub use serving::serve;
 pub use session::{Served, Session};
-
-#[cfg(test)]
-mod test_patterns;
-#[cfg(test)]
-mod tests;

@@ -23,10 +23,3 @@ pub use run_objects::{
     around_blanks, around_number, around_word, inner_blanks, inner_number, inner_word,
 };
 pub use sentence_objects::{around_sentence, inner_sentence};
-
-#[cfg(test)]
-mod line_tests;
-#[cfg(test)]
-mod object_tests;
-#[cfg(test)]
-mod tests;
