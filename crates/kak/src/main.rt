@@ -1,8 +1,8 @@
 //! `kak -ui json [file]`: one client over standard input and output.
 #![tactic(auto)]
 
+use disk_files::DiskFiles;
 use kak_app::{Status, run};
-use kak_files::DiskFiles;
 use kak_ports::{ReadSource, WriteSink};
 use regex_ports::RegexMaker;
 use std::process::ExitCode;

@@ -2,7 +2,8 @@
 
 ghost use Rattle.std.specs.Prelude.{◌≡◌};
 
-use kak_files::{DiskFiles, FileRead, Files};
+use disk_files::DiskFiles;
+use kak_files::{FileRead, Files};
 use kak_ports::Put;
 use std::alloc::{AllocError, Global};
 

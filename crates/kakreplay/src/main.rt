@@ -2,8 +2,8 @@
 //! output.
 #![tactic(auto)]
 
+use disk_files::DiskFiles;
 use kak_app::{Status, replay};
-use kak_files::DiskFiles;
 use kak_ports::{ReadSource, WriteSink};
 use regex_ports::RegexMaker;
 use std::alloc::{AllocError, Global};
