@@ -1,5 +1,5 @@
 -- The promise that the result of a job keeps.
-use Rattle.std.specs.Prelude.{◌≡◌, Option, Some, None}
+use Rattle.std.specs.Prelude.{◌≡◌, Bool, true, false, Option, Some, None}
 use Rattle.jobs.specs.declared.running.Running.{Running}
 use Rattle.jobs.specs.declared.running.Running.TheVariants.{There, Here}
 
@@ -12,3 +12,8 @@ Keeps kept_by (Here given) promise = kept_by promise given
 abbrev pub IsOwed : {T P : Type 0} → (P → T → Type 0) → Option (Running T P) → P → Type 0
 IsOwed kept_by (Some running) promise = Keeps kept_by running promise
 IsOwed kept_by None promise = ⊥
+
+-- whether the thread was let go from which a result came: it is here
+abbrev pub is_let_go : {T P : Type 0} → Option (Running T P) → Bool
+is_let_go (Some (Here given)) = true
+is_let_go _ = false

@@ -1,5 +1,5 @@
 -- What becomes of a job for which a thread was to be made.
-use Rattle.std.specs.Prelude.{◌≡◌}
+use Rattle.std.specs.Prelude.{◌≡◌, Bool}
 use Rattle.jobs.specs.declared.spent.Outcome.{Outcome}
 use Rattle.jobs.specs.declared.spent.Outcome.TheVariants.{Ran, Recalled}
 use Rattle.jobs.specs.declared.threads.Begun.{Begun}
@@ -9,6 +9,11 @@ use Rattle.jobs.specs.declared.threads.Begun.TheVariants as begun
 abbrev pub Comes : {J G : Type 0} → (J → Type 0) → (J → G → Type 0) → J → Outcome J G → Type 0
 Comes ready gives job (Ran given) = gives job given
 Comes ready gives job (Recalled back) = (back ≡ job) × ready back
+
+-- a job in a thread of its own, and whether that thread was let go
+pub record AtWork (J : Type 0) : Type 0 where
+  pub job : J
+  pub let_go : Bool
 
 -- the job is at work under this handle, or it is handed back
 abbrev pub Begins : {J H : Type 0} → (H → J) → J → Begun J H → Type 0

@@ -39,7 +39,7 @@ fn result_of<R: Threads, T: Drop, P: Promise<T>>(
     }
 }
 
-/// A job that was begun in a thread of its own. Contracts see the job.
+/// A job that was begun in a thread of its own. Contracts see the job, and whether the thread was let go.
 #[derive(Drop)]
 pub struct Thread<J: Job> {
     // taken out while the thread is let go
@@ -49,18 +49,20 @@ pub struct Thread<J: Job> {
 }
 
 impl<J: Job> Model for Thread<J> {
-    ghost use Rattle.jobs.specs.Running.{IsOwed};
-    ghost use Rattle.jobs.specs.Threads.{Comes};
+    ghost use Rattle.jobs.specs.Running.{IsOwed, is_let_go};
+    ghost use Rattle.jobs.specs.Threads.{Comes, AtWork};
 
-    ghost Value = { J };
+    ghost Value = { AtWork J };
 
-    ghost view = { λ t. t.promise.value };
+    ghost view = { λ t. record { job = t.promise.value; let_go = is_let_go t.run } };
 
     ghost invariant = { λ t. IsOwed (Comes J.ready J.gives) t.run t.promise.value };
 }
 
 impl<J: Job> Handle<J> for Thread<J> {
-    ghost job = { λ t. t };
+    ghost job = { λ t. t.job };
+
+    ghost let_go = { λ t. t.let_go };
 
     fn settle<R: Threads>(&mut self, rt: &R) -> bool {
         if !self.spent.is_set() {
@@ -108,7 +110,7 @@ fn recalled<J: Job>(
     spent: Spent,
 ) -> Begun<J, Thread<J>>
     requires { Comes J.ready J.gives promise.value outcome }
-    ensures { Begins (λ t. t) promise.value result }
+    ensures { Begins (λ t. t.job) promise.value result }
 {
     match outcome {
         Outcome::Recalled(job) => Begun::Back(job),
@@ -130,7 +132,7 @@ pub(crate) fn begin_by<R: Threads + Wait + Copy + Send + 'static, J: Job + Send 
 where
     J::Gives: Send + 'static,
     requires { J.ready job }
-    ensures { Begins (λ t. t) job result }
+    ensures { Begins (λ t. t.job) job result }
 {
     let Ok(spent) = Spent::new(alloc) else {
         return Begun::NoMemory(job);
@@ -167,7 +169,7 @@ pub fn begin<R: Threads + Wait + Copy + Send + 'static, J: Job + Send + 'static>
 where
     J::Gives: Send + 'static,
     requires { J.ready job }
-    ensures { Begins (λ t. t) job result }
+    ensures { Begins (λ t. t.job) job result }
 {
     begin_by(Builder::new(), rt, alloc, job)
 }

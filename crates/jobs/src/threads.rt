@@ -1,6 +1,6 @@
 //! A spawner that runs each job in a thread of its own.
 
-ghost use Rattle.std.specs.Prelude.{◌≡◌, map, IfOk};
+ghost use Rattle.std.specs.Prelude.{◌≡◌, Bool, true, map, IfOk, IsTrue};
 ghost use Rattle.jobs.specs.Meets.{Meet};
 ghost use Rattle.jobs.specs.Threads.{Begins};
 
@@ -26,9 +26,13 @@ pub trait Handle<J: Job>: Drop {
     // The job.
     ghost job: { Self → J };
 
+    // Whether its thread was let go.
+    ghost let_go: { Self → Bool };
+
     /// Tells whether the job has ended. Where it has, its thread is let go, and its result is kept.
     fn settle<R: Threads>(&mut self, rt: &R) -> bool
-        ensures { job self.new ≡ job self.old };
+        ensures job { job self.new ≡ job self.old }
+        ensures ended { IsTrue result → let_go self.new ≡ true };
 
     /// Waits for the result.
     fn end<R: Threads + Wait>(self, rt: &R) -> J::Gives
