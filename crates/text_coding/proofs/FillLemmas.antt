@@ -1,8 +1,10 @@
 -- The lines that characters which came one behind another are.
-use Rattle.std.proofs.Common.{◌≡◌, ◌≢◌, ℕ, zero, suc, ◌<◌, Bool, true, false, ◌==◌, List, [], ◌∷◌, ◌++◌, length, All, append_assoc, append-nil, refl, sym, ap, subst, ◌∙◌, arith}
+use Rattle.std.proofs.Common.{◌≡◌, ◌≢◌, ℕ, zero, suc, ◌+◌, ◌-◌, ◌<◌, ◌≤◌, take, drop, slice_range, get_or, ap₂, length-drop, get_or-drop, length-take-le, get_or-take, false, ◌==◌, List, [], ◌∷◌, ◌++◌, length, All, append_assoc, append-nil, refl, sym, ap, subst, ◌∙◌, arith}
 use Rattle.std.proofs.lemmas.List.Elements.{All-append, All-head, All-tail}
 use Rattle.std.proofs.lemmas.Bool.Decides.{nat_tests}
-use Rattle.text_model.specs.Texts.{IsText, IsLine, ends_in_newline}
+use Rattle.std.proofs.Math.Seq.{take-add}
+use Rattle.std.proofs.lemmas.Grind.{get_or_default_zero}
+use Rattle.text_model.specs.Texts.{IsText, IsLine}
 use Rattle.text_model.specs.Changes.{ended}
 use Rattle.text_model.proofs.ChangeLemmas.{ended-text, ended-other, text_ends, IsText-append}
 use Rattle.text_model.proofs.LineLemmas.{longer_is_line}
@@ -13,7 +15,7 @@ use Rattle.text_coding.proofs.FormLemmas.{ends-last}
 abbrev pub IsOpen : List ℕ → Type 0
 IsOpen cs = All (λ c. c ≢ 10) cs
 
-test-false : (a b : ℕ) → a ≢ b → (a == b) ≡ false
+pub test-false : (a b : ℕ) → a ≢ b → (a == b) ≡ false
 test-false a b apart = grind (arith, nat_tests)
 
 one-open : (c : ℕ) → c ≢ 10 → IsOpen (c ∷ [])
@@ -27,6 +29,18 @@ open-more old new c h other e = subst IsOpen (sym e) (All-append (λ x. x ≢ 10
 pub closed-line : (cs : List ℕ) → IsOpen cs → IsLine (cs ++ 10 ∷ [])
 closed-line [] h = record { some = omega arith; ended = refl; only = λ k lt. absurd (omega (arith, lt)) }
 closed-line (c ∷ cs) h = longer_is_line c (cs ++ 10 ∷ []) (All-head (λ x. x ≢ 10) c cs h) (closed-line cs (All-tail (λ x. x ≢ 10) c cs h))
+
+-- no newline among more of them
+pub open-append : (old new all : List ℕ) → IsOpen old → IsOpen new → all ≡ old ++ new → IsOpen all
+open-append old new all h more e = subst IsOpen (sym e) (All-append (λ x. x ≢ 10) old new h more)
+
+-- before a line they are one too
+longer-line : (cs line : List ℕ) → IsOpen cs → IsLine line → IsLine (cs ++ line)
+longer-line [] line h l = l
+longer-line (c ∷ cs) line h l = longer_is_line c (cs ++ line) (All-head (λ x. x ≢ 10) c cs h) (longer-line cs line (All-tail (λ x. x ≢ 10) c cs h) l)
+
+pub line-behind : (cs line all : List ℕ) → IsOpen cs → IsLine line → all ≡ cs ++ line → IsLine all
+line-behind cs line all h l e = subst IsLine (sym e) (longer-line cs line h l)
 
 -- a line behind others
 pub text-more : (old new line : List ℕ) → IsLine line → new ≡ old ++ line → IsText new
@@ -60,3 +74,18 @@ pub whole-alone : (lines line text : List ℕ) → line ≡ [] → IsText lines 
 whole-alone lines line text none h e =
     let same : lines ++ line ≡ lines = ap (λ l. lines ++ l) none ∙ append-nil lines in
     e ∙ sym (ended-text lines (text_ends lines h)) ∙ sym (ap ended same)
+
+-- one more line taken from a text
+pub line-taken : (text line old new : List ℕ) (start after i : ℕ) → start ≤ i → old ≡ take start text → line ≡ slice_range text start (i + 1) → new ≡ old ++ line → after ≡ i + 1 → new ≡ take after text
+line-taken text line old new start after i h before here added a =
+    let n : ℕ = i + 1 - start in
+    let sum : start + n ≡ i + 1 = omega arith in
+    added ∙ ap₂ (λ x y. x ++ y) before here ∙ sym (take-add start n text) ∙ ap (λ m. take m text) (sum ∙ sym a)
+
+-- what stands behind the last newline
+pub rest-open : (text : List ℕ) (start n : ℕ) → length text ≤ n → ((k : ℕ) → start ≤ k → k < n → get_or text k 0 ≢ 10) → IsOpen (slice_range text start (length text))
+rest-open text start n all none k d lt =
+    let m : ℕ = length text - start in
+    let long : length (take m (drop start text)) ≡ m = length-take-le m (drop start text) (omega (arith, length-drop start text)) in
+    let inside : k < m = omega (arith, lt, long) in
+    λ e. none (start + k) (omega arith) (omega (arith, inside)) (sym (get_or-drop start text k 0) ∙ sym (get_or-take m (drop start text) k 0 inside) ∙ sym (get_or_default_zero (take m (drop start text)) k d lt) ∙ e)

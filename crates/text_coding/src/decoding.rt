@@ -163,15 +163,19 @@ fn joined_chars(alloc: Global, text: &str) -> Result<Filling, LinesError>
     Ok(filling)
 }
 
-// Characters that are bytes.
+// Characters that are bytes. Each line is copied at once.
 fn ascii_chars(alloc: Global, bytes: &[u8]) -> Result<Filling, LinesError>
     ensures { IfOk result (λ filling. filling ≡ bytes.now) }
 {
     let mut filling = Filling::new(alloc);
-    for b in bytes {
-        filling.push(alloc, *b as char)?;
+    let mut start = 0;
+    for (i, b) in bytes.iter().enumerate() {
+        if *b == b'\n' {
+            filling = filling.with_line(alloc, &bytes[start..i + 1])?;
+            start = i + 1;
+        }
     }
-    Ok(filling)
+    Ok(filling.with_run(&bytes[start..])?)
 }
 
 // The characters of a file.

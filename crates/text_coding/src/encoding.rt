@@ -1,6 +1,8 @@
 //! The bytes that texts are saved as.
 
-ghost use Rattle.std.specs.Prelude.{◌≡◌, ◌∷◌, [], ◌++◌, IfOk, OnOk, encode_utf8_all, encode_utf8};
+ghost use Rattle.std.specs.Prelude.{◌≡◌, ◌+◌, ◌≤◌, ◌∷◌, [], ◌++◌, length, IfOk, OnOk, IsTrue, IsAscii, encode_utf8_all, encode_utf8, vec_len};
+ghost use Rattle.std.specs.Vec.{vec_capacity};
+ghost use Rattle.text_model.specs.Texts.{IsLine};
 ghost use Rattle.text_coding.specs.Coding.{mark_of, to_form, saved};
 
 use crate::form::{Bom, Eol};
@@ -17,25 +19,16 @@ fn mark_of(bom: Bom) -> &'static [u8]
     }
 }
 
-// How many bytes a line is saved as.
-fn line_len(line: &[char], eol: Eol) -> usize {
-    let mut count = match eol {
-        Eol::Lf => 0usize,
-        Eol::Crlf => 1,
+// Room for the bytes of a text whose characters are one byte each.
+fn room(lines: &Lines, eol: Eol, bom: Bom) -> usize {
+    let ends = match eol {
+        Eol::Lf => 0,
+        Eol::Crlf => lines.line_count(),
     };
-    for c in line {
-        count = count.saturating_add(c.len_utf8());
-    }
-    count
-}
-
-// How many bytes a text is saved as.
-fn saved_len(lines: &Lines, eol: Eol, bom: Bom) -> usize {
-    let mut count = mark_of(bom).len();
-    for n in 0..lines.line_count() {
-        count = count.saturating_add(line_len(lines.line(n), eol));
-    }
-    count
+    mark_of(bom)
+        .len()
+        .saturating_add(lines.len())
+        .saturating_add(ends)
 }
 
 // Adds a byte.
@@ -59,38 +52,82 @@ fn push_char(bytes: &mut Vec<u8>, c: char) -> Result<(), AllocError>
     bytes.extend_from_slice(c.encode_utf8(&mut utf8).as_bytes())
 }
 
-// Adds a character, with a carriage return before a newline where lines end so.
-#[inline(always)]
-fn push_formed(bytes: &mut Vec<u8>, c: char, eol: Eol) -> Result<(), AllocError>
-    ensures { OnOk result (bytes.new.items ≡ bytes.old.items ++ encode_utf8_all (to_form eol (c ∷ []))) }
+// Whether all characters are ASCII. Each is looked at, in a loop that has no other way out.
+fn is_ascii(chars: &[char]) -> bool
+    ensures { IsTrue result → IsAscii chars.now }
 {
-    if c == '\n' {
-        if let Eol::Crlf = eol {
-            push_char(bytes, '\r')?;
-            return push_char(bytes, '\n');
+    let mut ascii = true;
+    for c in chars {
+        if (*c as u32) >= 128 {
+            ascii = false;
         }
     }
-    push_char(bytes, c)
+    ascii
 }
 
-// Adds characters, with carriage returns where lines end so.
-fn push_line(bytes: &mut Vec<u8>, line: &[char], eol: Eol) -> Result<(), AllocError>
-    ensures { OnOk result (bytes.new.items ≡ bytes.old.items ++ encode_utf8_all (to_form eol line.now)) }
+// Bytes with ASCII characters behind them, for which there is room.
+fn with_ascii(mut bytes: Vec<u8>, chars: &[char]) -> Vec<u8>
+    requires ascii { IsAscii chars.now }
+    requires room { vec_len bytes + length chars.now ≤ vec_capacity bytes }
+    ensures { result.items ≡ bytes.items ++ chars.now }
 {
-    for c in line {
-        push_formed(bytes, *c, eol)?;
+    for c in chars {
+        bytes.push_reserved(*c as u8);
     }
-    Ok(())
+    bytes
 }
 
-/// The bytes that a text is saved as. They are made of its lines, in room that is taken once.
+// Bytes with characters behind them.
+fn with_chars(mut bytes: Vec<u8>, chars: &[char]) -> Result<Vec<u8>, AllocError>
+    ensures { IfOk result (λ new. new.items ≡ bytes.items ++ encode_utf8_all chars.now) }
+{
+    for c in chars {
+        push_char(&mut bytes, *c)?;
+    }
+    Ok(bytes)
+}
+
+// Bytes with characters behind them, for which room is made at once where all are ASCII.
+fn with_run(mut bytes: Vec<u8>, chars: &[char]) -> Result<Vec<u8>, AllocError>
+    ensures { IfOk result (λ new. new.items ≡ bytes.items ++ encode_utf8_all chars.now) }
+{
+    if is_ascii(chars) {
+        bytes.reserve(chars.len())?;
+        return Ok(with_ascii(bytes, chars));
+    }
+    with_chars(bytes, chars)
+}
+
+// Bytes with the end of a line behind them.
+fn with_end(mut bytes: Vec<u8>, eol: Eol) -> Result<Vec<u8>, AllocError>
+    ensures { IfOk result (λ new. new.items ≡ bytes.items ++ encode_utf8_all (to_form eol (10 ∷ []))) }
+{
+    if let Eol::Crlf = eol {
+        push_byte(&mut bytes, b'\r')?;
+        push_byte(&mut bytes, b'\n')?;
+        return Ok(bytes);
+    }
+    push_byte(&mut bytes, b'\n')?;
+    Ok(bytes)
+}
+
+// Bytes with a line behind them.
+fn with_line(bytes: Vec<u8>, line: &[char], eol: Eol) -> Result<Vec<u8>, AllocError>
+    requires { IsLine line.now }
+    ensures { IfOk result (λ new. new.items ≡ bytes.items ++ encode_utf8_all (to_form eol line.now)) }
+{
+    with_end(with_run(bytes, &line[..line.len() - 1])?, eol)
+}
+
+/// The bytes that a text is saved as, made of its lines. Room for them is taken once, unless characters that take more
+/// bytes than one ask for more.
 pub fn encode(alloc: Global, lines: &Lines, eol: Eol, bom: Bom) -> Result<Vec<u8>, AllocError>
     ensures { IfOk result (λ bytes. bytes.items ≡ saved lines.now eol bom) }
 {
-    let mut bytes = Vec::with_capacity(alloc, saved_len(lines, eol, bom))?;
+    let mut bytes = Vec::with_capacity(alloc, room(lines, eol, bom))?;
     bytes.extend_from_slice(mark_of(bom))?;
     for n in 0..lines.line_count() {
-        push_line(&mut bytes, lines.line(n), eol)?;
+        bytes = with_line(bytes, lines.line(n), eol)?;
     }
     Ok(bytes)
 }

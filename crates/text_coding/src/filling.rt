@@ -1,6 +1,8 @@
 //! Lines that are filled with characters, one behind another.
 
-ghost use Rattle.std.specs.Prelude.{◌≡◌, ◌≢◌, ◌++◌, ◌∷◌, [], ◌<◌, length, All, IfOk, OnOk, OnErr, IsErrOf};
+ghost use Rattle.std.specs.Prelude.{◌≡◌, ◌≢◌, ◌+◌, ◌++◌, ◌∷◌, [], ◌<◌, ◌≤◌, length, All, IfOk, OnOk, OnErr, IsErrOf, vec_len};
+ghost use Rattle.std.specs.Vec.{vec_capacity};
+ghost use Rattle.text_model.specs.Texts.{IsLine};
 ghost use Rattle.text_model.specs.declared.TheConstants.{MAX_CHARS};
 ghost use Rattle.text_model.specs.Changes.{ended};
 
@@ -36,6 +38,17 @@ fn push_char(line: &mut Vec<char>, c: char) -> Result<(), AllocError>
 {
     line.push(c)?;
     Ok(())
+}
+
+// Characters with bytes behind them, for which there is room.
+fn with_bytes(mut chars: Vec<char>, bytes: &[u8]) -> Vec<char>
+    requires { vec_len chars + length bytes.now ≤ vec_capacity chars }
+    ensures { result.items ≡ chars.items ++ bytes.now }
+{
+    for b in bytes {
+        chars.push_reserved(*b as char);
+    }
+    chars
 }
 
 // The text of lines with one more behind them, which lacks its newline.
@@ -81,6 +94,37 @@ impl Filling {
         let pushed = self.lines.push(alloc, self.line.as_slice());
         self.line.clear();
         pushed
+    }
+
+    /// These characters with bytes behind them, of which none is a newline.
+    pub fn with_run(self, bytes: &[u8]) -> Result<Filling, AllocError>
+        requires { All (λ b. b ≢ 10) bytes.now }
+        ensures { IfOk result (λ filling. filling ≡ self ++ bytes.now) }
+    {
+        let Filling { lines, mut line } = self;
+        line.reserve(bytes.len())?;
+        Ok(Filling {
+            lines,
+            line: with_bytes(line, bytes),
+        })
+    }
+
+    /// These characters with the bytes of a line behind them. `TextFull` comes only where they would be more than
+    /// `MAX_CHARS`.
+    pub fn with_line(self, alloc: Global, bytes: &[u8]) -> Result<Filling, LinesError>
+        requires line { IsLine bytes.now }
+        ensures filling { IfOk result (λ filling. filling ≡ self ++ bytes.now) }
+        ensures full { IsErrOf result LinesError.TextFull → MAX_CHARS < length (self ++ bytes.now) }
+    {
+        let Filling {
+            mut lines,
+            mut line,
+        } = self;
+        line.reserve(bytes.len())?;
+        let mut line = with_bytes(line, bytes);
+        lines.push(alloc, line.as_slice())?;
+        line.clear();
+        Ok(Filling { lines, line })
     }
 
     /// The lines of these characters, with a newline at the end where it lacks. `TextFull` comes only

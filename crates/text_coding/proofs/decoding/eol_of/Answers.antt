@@ -1,4 +1,4 @@
-use Rattle.std.proofs.Common.{◌≡◌, chars, sym, ap, ◌∙◌, map-id, refl}
+use Rattle.std.proofs.Common.{chars, sym, ◌∙◌, map-id, refl}
 use Rattle.std.proofs.lemmas.Iterator.{YieldsList-from_chars}
 use Rattle.std.proofs.lemmas.Iterator.Consumers.{YieldsList-end, YieldsList-turn, YieldsList-so_far}
 use Rattle.text_coding.proofs.FormLemmas.{returned-other, returned-newline, ends-bare, ends-returned}

@@ -10,7 +10,7 @@ loop-n-init c = begun c.args.eol (mark_of c.args.bom) _ _ c.in_ok-extend_from_sl
 pub loop-n-preserved : goal.loop-n-preserved
 loop-n-preserved c =
     let inside : c.loop-n.n < length (lines_of c.args.lines.now) = omega (arith, c.loop-n-test.true, c.line_count-n-end.ensures.value) in
-    line-more c.args.eol (lines_of c.args.lines.now) c.loop-n.n _ (mark_of c.args.bom) _ _ inside c.line.ensures.value c.loop-n.invariant c.in_ok-push_line.ensures
+    line-more c.args.eol (lines_of c.args.lines.now) c.loop-n.n _ (mark_of c.args.bom) _ _ inside c.line.ensures.value c.loop-n.invariant c.in_ok-bytes-2.ensures
 
 pub returns : goal.returns
 returns c =
