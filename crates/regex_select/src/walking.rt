@@ -1,12 +1,12 @@
 //! Going over the characters of a selection up to a byte of theirs.
 
-ghost use Rattle.std.specs.Prelude.{◌≡◌, ℕ, ◌+◌, ◌<◌, ◌≤◌, List, length};
+ghost use Rattle.std.specs.Prelude.{◌≡◌, ℕ, ◌+◌, ◌-◌, ◌*◌, ◌<◌, ◌≤◌, List, length, IsTrue, IsAscii};
 ghost use Rattle.text_model.specs.declared.TheConstants.{MAX_CHARS};
+ghost use Rattle.text_model.specs.Texts.{IsPlace, IsPlaceOrEnd, offset, nth_line};
 ghost use Rattle.selection_set.specs.Inside.{IsInside};
 ghost use Rattle.regex_select.specs.Selecting.{chars_before};
 ghost use Rattle.regex_select.specs.Walks.{bytes_before, own_chars, IsWalk};
 
-use crate::searching::behind;
 use kak_text::Coord;
 use line_buffer::Lines;
 use selection_set::Sel;
@@ -44,25 +44,121 @@ fn not_beyond(sel: Sel, from: Walk, byte: usize) -> Walk
     start(sel)
 }
 
-// One character further.
-fn step(lines: &Lines, sel: Sel, walk: Walk) -> Walk
+// Whether all characters are ASCII. Each is looked at, in a loop that has no other way out.
+fn is_ascii(chars: &[char]) -> bool
+    ensures { IsTrue result → IsAscii chars.now }
+{
+    let mut ascii = true;
+    for c in chars {
+        if (*c as u32) >= 128 {
+            ascii = false;
+        }
+    }
+    ascii
+}
+
+// Goes over characters from a byte on, of which there are no more than bytes up to another one, as far as they begin
+// before that: how many they are, and the byte behind them.
+fn pass(run: &[char], from: usize, byte: usize) -> (usize, usize)
+    requires some { 0 < length run.now }
+    requires few { from + length run.now ≤ byte }
+    requires short { length run.now ≤ MAX_CHARS }
+    requires small { from ≤ 4 * MAX_CHARS }
+    ensures some { 0 < result.0 }
+    ensures inside { result.0 ≤ length run.now }
+    ensures bytes { result.1 ≡ from + bytes_before run.now result.0 }
+    ensures begun { from + bytes_before run.now (result.0 - 1) < byte }
+    ensures small { result.1 ≤ from + 4 * result.0 }
+{
+    let count = run.len();
+    if is_ascii(run) {
+        return (count, from + count);
+    }
+    let mut bytes = from;
+    for (i, c) in run.iter().enumerate() {
+        if byte <= bytes {
+            return (i, bytes);
+        }
+        bytes += c.len_utf8();
+    }
+    (count, bytes)
+}
+
+// The column behind a selection's part of the line of a place in it.
+fn part_end(line: &[char], sel: Sel, at: Coord) -> usize
+    requires at { at.column < length line.now }
+    requires high { at.line ≡ sel.high.line → (at.column ≤ sel.high.column) × (sel.high.column < length line.now) }
+    ensures some { at.column < result }
+    ensures line { result ≤ length line.now }
+    ensures high { at.line ≡ sel.high.line → result ≤ sel.high.column + 1 }
+{
+    if at.line == sel.high.line {
+        return sel.high.column as usize + 1;
+    }
+    line.len()
+}
+
+// A column that is behind another one, but no further than so many characters.
+fn at_most(end: usize, column: usize, most: usize) -> usize
+    requires behind { column < end }
+    requires some { 0 < most }
+    ensures behind { column < result }
+    ensures end { result ≤ end }
+    ensures most { result ≤ column + most }
+{
+    if most < end - column {
+        return column + most;
+    }
+    end
+}
+
+// The place so many characters further, which is on the same line or behind its newline.
+fn further(lines: &Lines, at: Coord, count: usize) -> Coord
+    requires place { IsPlace lines.now at }
+    requires there { at.column + count ≤ length (nth_line lines.now at.line) }
+    ensures place { IsPlaceOrEnd lines.now result }
+    ensures offset { offset lines.now result ≡ offset lines.now at + count }
+{
+    // its contract says that there are not too many lines
+    let _count = lines.line_count();
+    let line = lines.line(at.line as usize);
+    let column = at.column as usize + count;
+    if column < line.len() {
+        return Coord {
+            line: at.line,
+            column: column as u32,
+        };
+    }
+    Coord {
+        line: at.line + 1,
+        column: 0,
+    }
+}
+
+// Goes on by at least one character that begins before a byte, and by all such ones on a line of ASCII.
+fn pass_line(lines: &Lines, sel: Sel, walk: Walk, byte: usize) -> Walk
     requires inside { IsInside lines.now sel }
     requires walk { IsWalk lines.now sel walk }
     requires there { walk.passed < length (own_chars lines.now sel) }
+    requires before { walk.bytes < byte }
     requires small { length lines.now ≤ MAX_CHARS }
     ensures walk { IsWalk lines.now sel result }
-    ensures passed { result.passed ≡ walk.passed + 1 }
+    ensures further { walk.passed < result.passed }
+    ensures begun { bytes_before (own_chars lines.now sel) (result.passed - 1) < byte }
 {
-    let bytes = lines.char_at(walk.at).len_utf8();
+    let line = lines.line(walk.at.line as usize);
+    let column = walk.at.column as usize;
+    let end = at_most(part_end(line, sel, walk.at), column, byte - walk.bytes);
+    let (count, bytes) = pass(&line[column..end], walk.bytes, byte);
     Walk {
-        at: behind(lines, walk.at),
-        passed: walk.passed + 1,
-        bytes: walk.bytes + bytes,
+        at: further(lines, walk.at, count),
+        passed: walk.passed + count,
+        bytes,
     }
 }
 
 /// The walk over the characters that begin before a byte; a walk up to a byte that isn't behind that one shortens the
-/// way. It costs the characters between the two.
+/// way. It costs the characters between the two, which it goes over a line at a time.
 pub(crate) fn walk_to(lines: &Lines, sel: Sel, from: Walk, byte: usize) -> Walk
     requires inside { IsInside lines.now sel }
     requires walk { IsWalk lines.now sel from }
@@ -75,7 +171,7 @@ pub(crate) fn walk_to(lines: &Lines, sel: Sel, from: Walk, byte: usize) -> Walk
         if byte <= walk.bytes {
             return walk;
         }
-        walk = step(lines, sel, walk);
+        walk = pass_line(lines, sel, walk, byte);
     }
     walk
 }
