@@ -35,11 +35,10 @@ fn select<P: Pattern>(
 {
     // its contract says that the lines are a text's
     let _stored = lines.len();
-    let mut text = String::new(alloc);
     let mut list = SmallVec::new(alloc);
     for n in 0..sels.len() {
         let sel = sels.at(n);
-        let matches = spans(alloc, lines, sel, pattern, &mut text)?;
+        let matches = spans(alloc, lines, sel, pattern)?;
         push_taken(what, lines, sel, matches.as_slice(), &mut list)?;
     }
     if list.is_empty() {

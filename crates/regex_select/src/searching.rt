@@ -5,7 +5,7 @@ ghost use Rattle.text_model.specs.Texts.{IsPlace, IsPlaceOrEnd, offset};
 ghost use Rattle.selection_set.specs.Inside.{range_of, IsInside};
 ghost use Rattle.regex_select.specs.Rows.{chars_of, spans_in};
 
-use crate::writing::write;
+use crate::writing::written;
 use kak_text::Coord;
 use line_buffer::Lines;
 use regex_ports::{Pattern, Span};
@@ -27,18 +27,16 @@ pub(crate) fn behind(lines: &Lines, at: Coord) -> Coord
     }
 }
 
-/// The matches of a pattern in a selection, which is searched by itself, in bytes of its characters. These are written to
-/// a string.
+/// The matches of a pattern in a selection, which is searched by itself, in bytes of its characters.
 pub(crate) fn spans<P: Pattern>(
     alloc: Global,
     lines: &Lines,
     sel: Sel,
     pattern: &P,
-    text: &mut String,
 ) -> Result<Vec<Span>, AllocError>
     requires { IsInside lines.now sel }
     ensures { IfOk result (λ v. v.items ≡ spans_in (P.source pattern.now) (chars_of lines.now (range_of lines.now sel))) }
 {
-    write(lines, sel, text)?;
+    let text = written(alloc, lines, sel)?;
     pattern.matches(alloc, text.as_str())
 }

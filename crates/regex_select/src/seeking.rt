@@ -1,6 +1,6 @@
 //! The match that is found from one selection, without a list of all.
 
-ghost use Rattle.std.specs.Prelude.{◌≡◌, ◌<◌, ◌≤◌, length, string_bytes, encode_utf8_all, option_to_list, IfOk, IfSome, OnOk};
+ghost use Rattle.std.specs.Prelude.{◌≡◌, ◌<◌, ◌≤◌, length, string_bytes, encode_utf8_all, option_to_list, IfOk, IfSome};
 ghost use Rattle.text_model.specs.declared.TheConstants.{MAX_CHARS};
 ghost use Rattle.text_model.specs.Texts.{IsPlace, offset};
 ghost use Rattle.selection_set.specs.Inside.{range_of, IsInside};
@@ -15,43 +15,44 @@ use crate::taking::found;
 use crate::walking::{start, walk_to};
 use crate::way::Way;
 use crate::whole::whole;
+use crate::writing::{text_of, with_part};
 use kak_text::Coord;
 use line_buffer::Lines;
 use regex_ports::{Pattern, Span};
 use selection_set::Sel;
 use std::alloc::{AllocError, Global};
 
-// Makes a string the text, and gives the byte at which a place of it begins.
-fn write_around(lines: &Lines, at: Coord, text: &mut String) -> Result<usize, AllocError>
+// The text, and the byte at which a place of it begins.
+fn written_around(alloc: Global, lines: &Lines, at: Coord) -> Result<(String, usize), AllocError>
     requires { IsPlace lines.now at }
-    ensures bytes { OnOk result (string_bytes text.new ≡ encode_utf8_all lines.now) }
-    ensures byte { IfOk result (λ b. b ≡ bytes_before lines.now (offset lines.now at)) }
-    ensures inside { IfOk result (λ b. b < length (encode_utf8_all lines.now)) }
+    ensures bytes { IfOk result (λ w. string_bytes w.0 ≡ encode_utf8_all lines.now) }
+    ensures byte { IfOk result (λ w. w.1 ≡ bytes_before lines.now (offset lines.now at)) }
+    ensures inside { IfOk result (λ w. w.1 < length (encode_utf8_all lines.now)) }
 {
     let sel = whole(lines);
-    text.clear();
-    lines.push_slice(text, sel.low, at)?;
-    let byte = text.as_str().len();
-    lines.push_slice(text, at, behind(lines, sel.high))?;
-    Ok(byte)
+    let room = Vec::with_capacity(alloc, lines.len())?;
+    let before = with_part(room, lines, sel.low, at)?;
+    let byte = before.len();
+    let bytes = with_part(before, lines, at, behind(lines, sel.high))?;
+    Ok((text_of(bytes), byte))
 }
 
-// Makes a string the text, and gives the byte before which what begins before a place of it does.
-fn write_before(lines: &Lines, at: Coord, text: &mut String) -> Result<usize, AllocError>
+// The text, and the byte before which what begins before a place of it does.
+fn written_before(alloc: Global, lines: &Lines, at: Coord) -> Result<(String, usize), AllocError>
     requires { IsPlace lines.now at }
-    ensures bytes { OnOk result (string_bytes text.new ≡ encode_utf8_all lines.now) }
-    ensures byte { IfOk result (λ b. b ≡ byte_bound lines.now (offset lines.now at)) }
+    ensures bytes { IfOk result (λ w. string_bytes w.0 ≡ encode_utf8_all lines.now) }
+    ensures byte { IfOk result (λ w. w.1 ≡ byte_bound lines.now (offset lines.now at)) }
 {
     match lines.prev(at) {
         None => {
-            write_around(lines, at, text)?;
-            Ok(0)
+            let (text, _byte) = written_around(alloc, lines, at)?;
+            Ok((text, 0))
         }
         Some(former) => {
-            let byte = write_around(lines, former, text)?;
+            let (text, byte) = written_around(alloc, lines, former)?;
             // it lies before the string's end, so there is a number behind it
             let _end = text.len();
-            Ok(byte + 1)
+            Ok((text, byte + 1))
         }
     }
 }
@@ -66,8 +67,7 @@ fn span_behind<P: Pattern>(
     requires { IsInside lines.now from }
     ensures { IfOk result (λ span. span ≡ span_sought Way.Forward lines.now (spans_in (P.source pattern.now) lines.now) (range_of lines.now from)) }
 {
-    let mut text = String::new(alloc);
-    let byte = write_around(lines, from.high, &mut text)?;
+    let (text, byte) = written_around(alloc, lines, from.high)?;
     pattern.first_behind(alloc, text.as_str(), byte)
 }
 
@@ -81,8 +81,7 @@ fn span_before<P: Pattern>(
     requires { IsInside lines.now from }
     ensures { IfOk result (λ span. span ≡ span_sought Way.Backward lines.now (spans_in (P.source pattern.now) lines.now) (range_of lines.now from)) }
 {
-    let mut text = String::new(alloc);
-    let byte = write_before(lines, from.low, &mut text)?;
+    let (text, byte) = written_before(alloc, lines, from.low)?;
     pattern.last_before(alloc, text.as_str(), byte)
 }
 

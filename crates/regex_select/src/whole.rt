@@ -40,7 +40,6 @@ pub(crate) fn all_matches<P: Pattern>(
     ensures ranges { IfOk result (λ v. ranges_of lines.now v.items ≡ all_matches (P.source pattern.now) lines.now) }
 {
     let sel = whole(lines);
-    let mut text = String::new(alloc);
-    let spans = spans(alloc, lines, sel, pattern, &mut text)?;
+    let spans = spans(alloc, lines, sel, pattern)?;
     selected(alloc, lines, sel, spans.as_slice())
 }
