@@ -15,7 +15,7 @@ use Rattle.session_events.specs.Entries.{is_join, is_leave, has_joined}
 use Rattle.session_events.specs.Legal.{Away, is_here, presence_from}
 use Rattle.session_events.specs.Seats.{Refuses as SeatRefuses, IsWhole}
 use Rattle.kak_engine.specs.Held.{refused_at, refused_by}
-use Rattle.kak_engine.specs.Steps.{run, is_full}
+use Rattle.kak_engine.specs.Steps.{run, is_full, crowded_by}
 use Rattle.engine_desk.specs.Sharing.{Frame, Answers, marked_behind}
 use Rattle.engine_desk.specs.Sitting.{told_behind}
 use Rattle.engine_desk.proofs.SeatLemmas.{whose}
@@ -49,18 +49,18 @@ not-and true b e = cc
 not-and false b e = (refl, e)
 
 plain-reason : (limit : ℕ) (h : List Entry) (who : ℕ) (event : Event) (fault : StepFault) (mark : Option ℕ) (others : Option (List Entry)) → refused_by h limit who event ≡ Some fault
-    → IsPlain fault × SeatRefuses fault (record { number = who; limit = limit; mark = mark; seen = h; others = others }) event
+    → IsPlain fault × SeatRefuses crowded_by fault (record { number = who; limit = limit; mark = mark; seen = h; others = others }) event
 plain-reason limit h who event fault mark others e =
-    chain (λ f. IsPlain f × SeatRefuses f (record { number = who; limit = limit; mark = mark; seen = h; others = others }) event) who
+    chain (λ f. IsPlain f × SeatRefuses crowded_by f (record { number = who; limit = limit; mark = mark; seen = h; others = others }) event) who
     (not (is_join event) && not (is_here (presence_from who Away h))) (is_join event && has_joined who h) (not (is_leave event) && nat_le limit (length h)) (is_join event && is_full (run h)) fault
     (λ a. let s = both-not (is_join event) (is_here (presence_from who Away h)) a in (tt, (refl, s.0, s.1)))
     (λ b. let s = both (is_join event) (has_joined who h) b in (tt, (refl, s.0, s.1)))
     (λ c. let s = not-and (is_leave event) (nat_le limit (length h)) c in (tt, (s.0, leb-true limit (length h) s.1)))
-    (λ d. let s = both (is_join event) (is_full (run h)) d in (tt, s.0)) e
+    (λ d. (tt, both (is_join event) (is_full (run h)) d)) e
 
 -- What a refusal is to the client.
 pub record IsRefusal (limit : ℕ) (h : List Entry) (who : ℕ) (event : Event) (fault : StepFault) (told told' mark' : Option ℕ) : Type 0 where
-  pub why : SeatRefuses fault (record { number = who; limit = limit; mark = told'; seen = h; others = None }) event
+  pub why : SeatRefuses crowded_by fault (record { number = who; limit = limit; mark = told'; seen = h; others = None }) event
   pub met : Met told' mark'
   pub whole : IsWhole {A = Output} (Err fault) (record { number = who; limit = limit; mark = told'; seen = h; others = None })
   pub marked : IfSome told (λ at. told' ≡ Some at)
@@ -88,7 +88,7 @@ module _ (limit : ℕ) (h : List Entry) (who : ℕ) (event : Event) where
   behind-wanting (Some k) mark' e l m = cc
 
   -- one that is whole
-  behind-plain : (fault : StepFault) (told mark' : Option ℕ) → told ≡ None → IsPlain fault × SeatRefuses fault (record { number = who; limit = limit; mark = None; seen = h; others = None }) event → Behind fault told mark'
+  behind-plain : (fault : StepFault) (told mark' : Option ℕ) → told ≡ None → IsPlain fault × SeatRefuses crowded_by fault (record { number = who; limit = limit; mark = None; seen = h; others = None }) event → Behind fault told mark'
   behind-plain (NoClient k) None mark' e p = record { why = p.1; met = inl refl; whole = refl; marked = tt; broken = tt }
   behind-plain (Joined k) None mark' e p = record { why = p.1; met = inl refl; whole = refl; marked = tt; broken = tt }
   behind-plain HistoryFull None mark' e p = record { why = p.1; met = inl refl; whole = refl; marked = tt; broken = tt }

@@ -138,3 +138,7 @@ AllAsked history = AllAskedFrom opening history
 -- what an entry gives its client, behind the entries before it
 abbrev pub given_by : List Entry → Entry → Output
 given_by before entry = output_of entry.who entry.event entry.answers (run before)
+
+-- whether no further client may come, behind some entries
+abbrev pub crowded_by : List Entry → Bool
+crowded_by history = is_full (run history)

@@ -71,9 +71,11 @@ impl<F: Files, M: PatternMaker> EngineSeats<F, M> {
 impl<F: Files, M: PatternMaker> Seat for EngineSeats<F, M> {
     ghost use Rattle.kak_engine.specs.Honesty.{Outside};
     ghost use Rattle.kak_engine.specs.Seating.{seat_of};
-    ghost use Rattle.kak_engine.specs.Steps.{given_by};
+    ghost use Rattle.kak_engine.specs.Steps.{given_by, crowded_by};
 
     ghost gives = { given_by };
+
+    ghost crowded = { crowded_by };
 
     ghost seated = { seat_of };
 

@@ -114,17 +114,17 @@ bare-row : (g : Service) (k : ℕ) (h : List Entry) (a : Wire) (e : Ended) → P
 bare-row g k h a e parts w = record { front = h; served = w.0; received = subst (λ bs. Appends a.received a.received bs) (sym w.1) (Appends-nil a.received); parting = parts }
 
 -- how a serving ended where the client couldn't come
-pub refused-over : (g : Service) (a : Wire) (e : Ended) (seat : Seated) → JoinsNot g.gives e seat → WasServedOver g seat.number seat.seen a a e
-refused-over g a HistoryFull seat j =
+pub refused-over : (g : Service) (crowded : List Entry → Bool) (a : Wire) (e : Ended) (seat : Seated) → JoinsNot g.gives crowded e seat → WasServedOver g seat.number seat.seen a a e
+refused-over g crowded a HistoryFull seat j =
     bare-row g seat.number seat.seen a HistoryFull refl (nothing-full g seat.number seat.seen a.outlet (inlet_of a) j.0)
-refused-over g a Full seat j =
-    bare-row g seat.number seat.seen a Full refl (nothing-full g seat.number seat.seen a.outlet (inlet_of a) j)
-refused-over g a (Broken at) seat j =
+refused-over g crowded a Full seat j =
+    bare-row g seat.number seat.seen a Full refl (nothing-full g seat.number seat.seen a.outlet (inlet_of a) j.0)
+refused-over g crowded a (Broken at) seat j =
     bare-row g seat.number seat.seen a (Broken at) refl (nothing-lost g seat.number seat.seen a.outlet (inlet_of a) (stop.Broken at) refl j.0)
-refused-over g a NoMemory seat j =
+refused-over g crowded a NoMemory seat j =
     bare-row g seat.number seat.seen a NoMemory refl (nothing-lost g seat.number seat.seen a.outlet (inlet_of a) stop.NoMemory refl j)
-refused-over g a Left seat j = absurd j
-refused-over g a Closed seat j = absurd j
-refused-over g a LinkRead seat j = absurd j
-refused-over g a LinkWrite seat j = absurd j
-refused-over g a InputFull seat j = absurd j
+refused-over g crowded a Left seat j = absurd j
+refused-over g crowded a Closed seat j = absurd j
+refused-over g crowded a LinkRead seat j = absurd j
+refused-over g crowded a LinkWrite seat j = absurd j
+refused-over g crowded a InputFull seat j = absurd j

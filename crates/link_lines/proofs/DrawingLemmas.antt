@@ -186,16 +186,16 @@ gone-draws g x y k e w d =
 never-draws : (g : Gives) (k n : ℕ) (h : List Entry) → n ≡ k → own (rules g) n h ≡ [] → DrawsOnlyMissed k h
 never-draws g k n h e none = all-asked g k [] h (subst (λ m. AreAsked (own (rules g) m h)) e (none-asked _ none))
 
-pub refused-draws : (g : Gives) (e : Ended) (seat : Seated) (k : ℕ) → seat.number ≡ k → JoinsNot g e seat → DrawsOnlyMissed k seat.seen
-refused-draws g HistoryFull seat k n j = never-draws g k seat.number seat.seen n j.0
-refused-draws g Full seat k n j = never-draws g k seat.number seat.seen n j
-refused-draws g (Broken at) seat k n j = never-draws g k seat.number seat.seen n j.0
-refused-draws g NoMemory seat k n j = never-draws g k seat.number seat.seen n j
-refused-draws g Left seat k n j = absurd j
-refused-draws g Closed seat k n j = absurd j
-refused-draws g LinkRead seat k n j = absurd j
-refused-draws g LinkWrite seat k n j = absurd j
-refused-draws g InputFull seat k n j = absurd j
+pub refused-draws : (g : Gives) (crowded : List Entry → Bool) (e : Ended) (seat : Seated) (k : ℕ) → seat.number ≡ k → JoinsNot g crowded e seat → DrawsOnlyMissed k seat.seen
+refused-draws g crowded HistoryFull seat k n j = never-draws g k seat.number seat.seen n j.0
+refused-draws g crowded Full seat k n j = never-draws g k seat.number seat.seen n j.0
+refused-draws g crowded (Broken at) seat k n j = never-draws g k seat.number seat.seen n j.0
+refused-draws g crowded NoMemory seat k n j = never-draws g k seat.number seat.seen n j
+refused-draws g crowded Left seat k n j = absurd j
+refused-draws g crowded Closed seat k n j = absurd j
+refused-draws g crowded LinkRead seat k n j = absurd j
+refused-draws g crowded LinkWrite seat k n j = absurd j
+refused-draws g crowded InputFull seat k n j = absurd j
 
 -- the client by its number
 pub draws-as : (n k : ℕ) (h : List Entry) → n ≡ k → DrawsOnlyMissed n h → DrawsOnlyMissed k h

@@ -1,5 +1,5 @@
 -- A whole connection over a link: how it ended, why, and what stands in the history and went over the link then.
-use Rattle.std.specs.Prelude.{◌≡◌, ℕ, ◌<◌, ◌⊎◌, true, List, [], ◌∷◌, ◌++◌, length, ⊤, Ok, Err, None, Some}
+use Rattle.std.specs.Prelude.{◌≡◌, ℕ, ◌<◌, ◌⊎◌, Bool, true, List, [], ◌∷◌, ◌++◌, length, ⊤, Ok, Err, None, Some}
 use Rattle.std.specs.declared.result.Result.{Result}
 use Rattle.std.specs.Io.KnownBytes.{Appends}
 use Rattle.kak_ports.specs.Ports.{Rose}
@@ -102,15 +102,16 @@ SendingFailed before now = (now.read_faults ≡ before.read_faults) × Rose befo
 abbrev pub HasNoRoom : Gives → Seated → Type 0
 HasNoRoom gives seat = (seat.limit < length seat.seen) ⊎ (NeverCame gives seat.number seat.seen × IsFull seat)
 
--- Why a serving ended. Where the session is full, nothing was received or sent. That a session is broken may be seen in
--- the leaving, behind any other end.
-abbrev pub EndsFor : Gives → Ended → Seated → Wire → Wire → Type 0
-EndsFor gives LinkRead seat before now = ReceivingFailed before now
-EndsFor gives LinkWrite seat before now = SendingFailed before now
-EndsFor gives HistoryFull seat before now = HasNoRoom gives seat × NothingFailed before now
-EndsFor gives Full seat before now = now ≡ before
-EndsFor gives (Broken at) seat before now = (seat.mark ≡ Some at) × (NothingFailed before now ⊎ (ReceivingFailed before now ⊎ SendingFailed before now))
-EndsFor gives _ seat before now = NothingFailed before now
+-- Why a serving ended, where it is told whether no further client may come behind some entries. Where the session is full,
+-- that is so behind those that were seen, and nothing was received or sent. That a session is broken may be seen in the
+-- leaving, behind any other end.
+abbrev pub EndsFor : Gives → (List Entry → Bool) → Ended → Seated → Wire → Wire → Type 0
+EndsFor gives crowded LinkRead seat before now = ReceivingFailed before now
+EndsFor gives crowded LinkWrite seat before now = SendingFailed before now
+EndsFor gives crowded HistoryFull seat before now = HasNoRoom gives seat × NothingFailed before now
+EndsFor gives crowded Full seat before now = (crowded seat.seen ≡ true) × (now ≡ before)
+EndsFor gives crowded (Broken at) seat before now = (seat.mark ≡ Some at) × (NothingFailed before now ⊎ (ReceivingFailed before now ⊎ SendingFailed before now))
+EndsFor gives crowded _ seat before now = NothingFailed before now
 
 -- the session isn't seen to be broken, unless that is told, or memory was wanting
 abbrev pub IsUnbroken : Ended → Seated → Type 0
@@ -119,9 +120,9 @@ IsUnbroken NoMemory seat = ⊤
 IsUnbroken _ seat = seat.mark ≡ None
 
 -- why the client couldn't come, of which the history has no entry then
-abbrev pub JoinsNot : Gives → Ended → Seated → Type 0
-JoinsNot gives HistoryFull seat = NeverCame gives seat.number seat.seen × IsFull seat
-JoinsNot gives Full seat = NeverCame gives seat.number seat.seen
-JoinsNot gives (Broken at) seat = NeverCame gives seat.number seat.seen × (seat.mark ≡ Some at)
-JoinsNot gives NoMemory seat = NeverCame gives seat.number seat.seen
-JoinsNot gives _ seat = ⊥
+abbrev pub JoinsNot : Gives → (List Entry → Bool) → Ended → Seated → Type 0
+JoinsNot gives crowded HistoryFull seat = NeverCame gives seat.number seat.seen × IsFull seat
+JoinsNot gives crowded Full seat = NeverCame gives seat.number seat.seen × (crowded seat.seen ≡ true)
+JoinsNot gives crowded (Broken at) seat = NeverCame gives seat.number seat.seen × (seat.mark ≡ Some at)
+JoinsNot gives crowded NoMemory seat = NeverCame gives seat.number seat.seen
+JoinsNot gives crowded _ seat = ⊥

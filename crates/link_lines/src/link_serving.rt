@@ -32,7 +32,7 @@ fn come<S: Seat>(alloc: Global, seat: &mut S) -> Result<(), Ended>
     ensures ready { OnOk result (IsReady (S.seated seat.new)) }
     ensures new { OnOk result (own (rules S.gives) (S.seated seat.new).number (S.seated seat.new).seen ≡ Join ∷ []) }
     ensures unbroken { OnOk result ((S.seated seat.new).mark ≡ None) }
-    ensures refused { IfErr result (λ ended. JoinsNot S.gives ended (S.seated seat.new)) }
+    ensures refused { IfErr result (λ ended. JoinsNot S.gives S.crowded ended (S.seated seat.new)) }
     ensures whole { IfErr result (λ ended. IsUnbroken ended (S.seated seat.new)) }
 {
     match seat.step(alloc, Event::Join) {
@@ -68,7 +68,7 @@ pub fn serve_over<R: Wait, S: LiveSeat, L: Link, G: Gate>(
     ensures served { WasServedOver (service S.gives keys.now) who (S.seated seat.new).seen (L.wire link.old) (L.wire link.new) result }
     ensures left { HasLeftAt S.gives result who (S.seated seat.new).seen }
     ensures drawn { DrawsOnlyMissed who (S.seated seat.new).seen }
-    ensures cause { EndsFor S.gives result (S.seated seat.new) (L.wire link.old) (L.wire link.new) }
+    ensures cause { EndsFor S.gives S.crowded result (S.seated seat.new) (L.wire link.old) (L.wire link.new) }
     ensures no_more { TellsNoMore (L.wire link.old) (L.wire link.new) }
 {
     if let Err(ended) = come(alloc, seat) {

@@ -23,6 +23,8 @@ struct FragileSeat {
 impl Seat for FragileSeat {
     ghost gives = { λ _ _. record { drawing = None; leaving = false } };
 
+    ghost crowded = { λ _. false };
+
     ghost seated = { λ s. record {
       number = s.who;
       limit = 10;

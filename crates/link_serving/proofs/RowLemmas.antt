@@ -1,6 +1,7 @@
 -- Rows of served links: how they come of what a seat shows, and that they stay.
-use Rattle.std.proofs.Common.{◌≡◌, ⊎_elim, inl, inr, ◌⊎◌, ◌≤◌, ◌<◌, ◌+◌, ℕ, Bool, true, List, [], ◌∷◌, ◌++◌, length, Option, Some, None, refl, sym, ap, ◌∙◌, subst, arith, append-nil, length-append, if◌then◌else◌, ◌==◌, eq-eqb}
+use Rattle.std.proofs.Common.{◌≡◌, ⊎_elim, inl, inr, ◌⊎◌, ◌≤◌, ◌<◌, ◌+◌, ◌||◌, ℕ, Bool, true, false, List, [], ◌∷◌, ◌++◌, length, Option, Some, None, refl, sym, ap, ◌∙◌, subst, arith, append-nil, length-append, if◌then◌else◌, ◌==◌, eq-eqb}
 use Rattle.client_links.specs.Wires.{Wire, IsFresh, TellsNoMore}
+use Rattle.kak_world.specs.Flat.{Flat, opening}
 use Rattle.session_desk.specs.Histories.{Met}
 use Rattle.session_desk.specs.Tokens.{PassView, IsSamePass}
 use Rattle.session_turns.specs.Histories.{own}
@@ -18,16 +19,16 @@ use Rattle.link_lines.specs.Drawings.{DrawsOnlyMissed}
 use Rattle.link_lines.specs.Endings.{WasServedOver, EndsInLeaving, HasLeftAt, HasNoRoom, EndsFor, NeverCame}
 use Rattle.link_lines.proofs.LaterLemmas.{over-later}
 use Rattle.link_lines.proofs.DrawingLemmas.{others-draw}
-use Rattle.kak_engine.specs.Steps.{given_by}
+use Rattle.kak_engine.specs.Steps.{given_by, crowded_by, is_full, after_entry, run_from}
 use Rattle.engine_desk.specs.Sharing.{Frame}
-use Rattle.link_serving.specs.Rows.{opening_keys, seat_by, LeavesLast, HasLeftBy, Row, Serves}
+use Rattle.link_serving.specs.Rows.{opening_keys, seat_by, was_crowded_from, was_crowded, LeavesLast, HasLeftBy, Row, Serves}
 
 -- a mark that a client was told is the one that its pass has met
 ends-broken : (at : ℕ) (told mark : Option ℕ) → Met told mark → told ≡ Some at → mark ≡ Some at
 ends-broken at told mark met is = ⊎_elim (λ (none : told ≡ None). let e : None ≡ Some at = sym none ∙ is in cc) (λ (same : told ≡ mark). sym same ∙ is) met
 
 -- why a serving ended, by the mark that the pass has met
-pub ends-met : (e : Ended) (limit who : ℕ) (seen : List Entry) (told mark : Option ℕ) (a b : Wire) → Met told mark → EndsFor given_by e (seat_by limit who seen told) a b → EndsFor given_by e (seat_by limit who seen mark) a b
+pub ends-met : (e : Ended) (limit who : ℕ) (seen : List Entry) (told mark : Option ℕ) (a b : Wire) → Met told mark → EndsFor given_by crowded_by e (seat_by limit who seen told) a b → EndsFor given_by crowded_by e (seat_by limit who seen mark) a b
 ends-met Left limit who seen told mark a b met f = f
 ends-met Closed limit who seen told mark a b met f = f
 ends-met LinkRead limit who seen told mark a b met f = f
@@ -37,6 +38,44 @@ ends-met HistoryFull limit who seen told mark a b met f = f
 ends-met Full limit who seen told mark a b met f = f
 ends-met (Broken at) limit who seen told mark a b met f = (ends-broken at told mark met f.0, f.1)
 ends-met NoMemory limit who seen told mark a b met f = f
+
+or-right : (a b : Bool) → b ≡ true → (a || b) ≡ true
+or-right true b e = refl
+or-right false b e = e
+
+-- a session that is full was full
+full-once : (flat : Flat) (h : List Entry) → is_full (run_from flat h) ≡ true → was_crowded_from flat h ≡ true
+full-once flat [] e = e
+full-once flat (x ∷ h) e = or-right (is_full flat) (was_crowded_from (after_entry x flat) h) (full-once (after_entry x flat) h e)
+
+full-first : (flat : Flat) (more : List Entry) → is_full flat ≡ true → was_crowded_from flat more ≡ true
+full-first flat [] e = e
+full-first flat (x ∷ more) e = ap (λ (b : Bool). b || was_crowded_from (after_entry x flat) more) e
+
+-- and one that was full was so
+full-later : (flat : Flat) (h more : List Entry) → was_crowded_from flat h ≡ true → was_crowded_from flat (h ++ more) ≡ true
+full-later flat [] more e = full-first flat more e
+full-later flat (x ∷ h) more e = by (is_full flat) e (full-later (after_entry x flat) h more)
+  where
+    by : (b : Bool) → (b || was_crowded_from (after_entry x flat) h) ≡ true → (was_crowded_from (after_entry x flat) h ≡ true → was_crowded_from (after_entry x flat) (h ++ more) ≡ true) → (b || was_crowded_from (after_entry x flat) (h ++ more)) ≡ true
+    by true e next = refl
+    by false e next = next e
+
+-- why a serving ended, by all that the session ever was
+ends-once : (e : Ended) (limit who : ℕ) (h : List Entry) (mark : Option ℕ) (a b : Wire) → EndsFor given_by crowded_by e (seat_by limit who h mark) a b → EndsFor given_by was_crowded e (seat_by limit who h mark) a b
+ends-once Left limit who h mark a b f = f
+ends-once Closed limit who h mark a b f = f
+ends-once LinkRead limit who h mark a b f = f
+ends-once LinkWrite limit who h mark a b f = f
+ends-once InputFull limit who h mark a b f = f
+ends-once HistoryFull limit who h mark a b f = f
+ends-once Full limit who h mark a b f = (full-once opening h f.0, f.1)
+ends-once (Broken at) limit who h mark a b f = f
+ends-once NoMemory limit who h mark a b f = f
+
+-- where the session is said to be full, it is
+said-full : (e : Ended) (limit who : ℕ) (h : List Entry) (mark : Option ℕ) (a b : Wire) → EndsFor given_by crowded_by e (seat_by limit who h mark) a b → e ≡ Full → crowded_by h ≡ true
+said-full e limit who h mark a b f is = let said : EndsFor given_by crowded_by Full (seat_by limit who h mark) a b = subst (λ (r : Ended). EndsFor given_by crowded_by r (seat_by limit who h mark) a b) is f in said.0
 
 -- entries of others are none of the client's own
 own-stays : (who : ℕ) (h more : List Entry) → own (rules given_by) who more ≡ [] → own (rules given_by) who (h ++ more) ≡ own (rules given_by) who h
@@ -68,7 +107,7 @@ left-by NoMemory who h l = leaves-or-not who h l
 
 -- the row of a link that was served and closed
 pub row-served : (limit : ℕ) (file : Option (List ℕ)) (pass given : PassView Entry Frame) (e : Ended) (came now closed : Wire) → IsFresh came → IsSamePass pass given → closed ≡ now → TellsNoMore came now
-    → WasServedOver (service given_by (opening_keys file)) pass.number given.seen came now e → HasLeftAt given_by e pass.number given.seen → DrawsOnlyMissed pass.number given.seen → EndsFor given_by e (seat_by limit pass.number given.seen given.mark) came now
+    → WasServedOver (service given_by (opening_keys file)) pass.number given.seen came now e → HasLeftAt given_by e pass.number given.seen → DrawsOnlyMissed pass.number given.seen → EndsFor given_by crowded_by e (seat_by limit pass.number given.seen given.mark) came now
     → Serves limit file pass e given closed
 row-served limit file pass given e came now closed fresh same is tells served left drawn cause = record {
   same = same;
@@ -79,8 +118,9 @@ row-served limit file pass given e came now closed fresh same is tells served le
     served = subst (λ (w : Wire). WasServedOver (service given_by (opening_keys file)) pass.number given.seen came w e) (sym is) served;
     left = left-by e pass.number given.seen left;
     drawn = drawn;
-    cause = subst (λ (w : Wire). EndsFor given_by e (seat_by limit pass.number given.seen given.mark) came w) (sym is) cause;
+    cause = subst (λ (w : Wire). EndsFor given_by was_crowded e (seat_by limit pass.number given.seen given.mark) came w) (sym is) (ends-once e limit pass.number given.seen given.mark came now cause);
   };
+  full = said-full e limit pass.number given.seen given.mark came now cause;
 }
 
 -- that there is no room stays so
@@ -89,14 +129,14 @@ room-later limit who h more mark later none r =
     ⊎_elim (λ (l : limit < length h). inl (omega (arith, length-append h more)))
     (λ (n : NeverCame given_by who h × (limit ≤ length h)). inr (own-stays who h more none ∙ n.0, omega (arith, n.1, length-append h more))) r
 
-ends-later : (e : Ended) (limit who : ℕ) (h more : List Entry) (mark later : Option ℕ) (a b : Wire) → own (rules given_by) who more ≡ [] → Met mark later → EndsFor given_by e (seat_by limit who h mark) a b → EndsFor given_by e (seat_by limit who (h ++ more) later) a b
+ends-later : (e : Ended) (limit who : ℕ) (h more : List Entry) (mark later : Option ℕ) (a b : Wire) → own (rules given_by) who more ≡ [] → Met mark later → EndsFor given_by was_crowded e (seat_by limit who h mark) a b → EndsFor given_by was_crowded e (seat_by limit who (h ++ more) later) a b
 ends-later Left limit who h more mark later a b none met f = f
 ends-later Closed limit who h more mark later a b none met f = f
 ends-later LinkRead limit who h more mark later a b none met f = f
 ends-later LinkWrite limit who h more mark later a b none met f = f
 ends-later InputFull limit who h more mark later a b none met f = f
 ends-later HistoryFull limit who h more mark later a b none met f = (room-later limit who h more mark later none f.0, f.1)
-ends-later Full limit who h more mark later a b none met f = f
+ends-later Full limit who h more mark later a b none met f = (full-later opening h more f.0, f.1)
 ends-later (Broken at) limit who h more mark later a b none met f = (ends-broken at mark later met f.0, f.1)
 ends-later NoMemory limit who h more mark later a b none met f = f
 

@@ -7,7 +7,7 @@ ghost use Rattle.session_events.specs.Legal.{IsLegal};
 ghost use Rattle.session_lines.specs.Serving.{service};
 ghost use Rattle.link_lines.specs.Drawings.{DrawsOnlyMissed};
 ghost use Rattle.link_lines.specs.Endings.{WasServedOver, EndsFor, HasLeftAt, NeverCame};
-ghost use Rattle.kak_engine.specs.Steps.{given_by};
+ghost use Rattle.kak_engine.specs.Steps.{given_by, crowded_by};
 ghost use Rattle.link_serving.specs.Rows.{opening_keys, seat_by};
 
 use client_links::Link;
@@ -53,7 +53,7 @@ pub fn serve_link<R: Wait, L: Link, G: Gate, F: Files + Drop, M: PatternMaker + 
     ensures served { WasServedOver (service given_by (opening_keys (option_map (λ name. name.now) file.entry))) pass.number result.1.seen (L.wire link.old) (L.wire link.new) result.0 }
     ensures left { HasLeftAt given_by result.0 pass.number result.1.seen }
     ensures drawn { DrawsOnlyMissed pass.number result.1.seen }
-    ensures cause { EndsFor given_by result.0 (seat_by desk.now.frame.limit pass.number result.1.seen result.1.mark) (L.wire link.old) (L.wire link.new) }
+    ensures cause { EndsFor given_by crowded_by result.0 (seat_by desk.now.frame.limit pass.number result.1.seen result.1.mark) (L.wire link.old) (L.wire link.new) }
     ensures no_more { TellsNoMore (L.wire link.old) (L.wire link.new) }
 {
     let Ok(keys) = opening_keys(alloc, file) else {

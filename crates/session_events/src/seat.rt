@@ -1,6 +1,6 @@
 //! Where the events of one client are taken.
 
-ghost use Rattle.std.specs.Prelude.{◌≡◌, List, ℕ, Err, IfOk, IfErr, IfSome, OnOk, OnErr, Some, true, false};
+ghost use Rattle.std.specs.Prelude.{◌≡◌, List, ℕ, Bool, Err, IfOk, IfErr, IfSome, OnOk, OnErr, Some, true, false};
 ghost use Rattle.session_events.specs.declared.event.Entry.{Entry};
 ghost use Rattle.session_events.specs.declared.event.Output.{Output};
 ghost use Rattle.session_events.specs.declared.fault.StepFault.TheVariants.{Broken};
@@ -16,6 +16,9 @@ use std::alloc::Global;
 pub trait Seat {
     // What an entry gives its client, behind the entries before it.
     ghost gives: { List Entry → Entry → Output };
+
+    // Whether no further client may come, behind some entries.
+    ghost crowded: { List Entry → Bool };
 
     // The client's number, how many entries the history may have, the session's mark, the entries that were seen, and those
     // of others among them where no other client plays.
@@ -36,7 +39,7 @@ pub trait Seat {
         ensures stays { OnErr result (IsIn (seated self.old) → IsIn (seated self.new)) }
         ensures ok { IfOk result (λ output. Steps gives (seated self.old) (seated self.new) event output) }
         ensures err { OnErr result (Sees gives (seated self.old) (seated self.new)) }
-        ensures why { IfErr result (λ fault. Refuses fault (seated self.new) event) }
+        ensures why { IfErr result (λ fault. Refuses crowded fault (seated self.new) event) }
         ensures whole { IsWhole result (seated self.new) }
         ensures marked { IfSome (seated self.old).mark (λ at. (seated self.new).mark ≡ Some at) }
         ensures broken { IfSome (seated self.old).mark (λ at. result ≡ Err (Broken at)) };

@@ -1,10 +1,11 @@
 //! One client of a replay: it comes, its connection is opened, its lines are played, and it goes.
 
-ghost use Rattle.std.specs.Prelude.{◌≡◌, ◌⊎◌, ℕ, List, ◌∷◌, ◌++◌, [], OnOk, OnErr, IfErr, IfOk, Err};
+ghost use Rattle.std.specs.Prelude.{◌≡◌, ◌⊎◌, ℕ, Bool, List, ◌∷◌, ◌++◌, [], OnOk, OnErr, IfErr, IfOk, Err};
 ghost use Rattle.std.specs.declared.option.Option.{Option};
 ghost use Rattle.ui_board.specs.Boards.{shown_at, IsTaken, OthersStay, left_at, report_at};
 ghost use Rattle.session_turns.specs.Histories.{own};
 ghost use Rattle.session_turns.specs.Growth.{How, Whole};
+ghost use Rattle.session_events.specs.declared.event.Entry.{Entry};
 ghost use Rattle.session_events.specs.declared.event.Event.TheVariants.{Join};
 ghost use Rattle.session_events.specs.declared.event.Output.{Output};
 ghost use Rattle.session_events.specs.Meaning.{rules};
@@ -23,7 +24,7 @@ use ui_board::{Board, Ui};
 
 // Why a coming is refused. A client comes once, and there are no more clients than may be here.
 fn stop_of(fault: StepFault) -> Stop
-    ensures stops { (seat : Seated) → Refuses fault seat Join → StopsFor result seat }
+    ensures stops { (crowded : List Entry → Bool) → (seat : Seated) → Refuses crowded fault seat Join → StopsFor result seat }
     ensures whole { (before : Option ℕ) → (seat : Seated) → IsWhole {A = Output} (Err fault) seat → StaysWholeFor result before seat.mark }
 {
     match fault {

@@ -10,7 +10,9 @@ pub returns-in-Ok-clause-new : goal.returns-in-Ok-clause-new
 returns-in-Ok-clause-new g c = joined-own _ _ _ _ c.step.ensures.same c.requires c.in-Ok.ensures.ok
 
 pub returns-in-Err-Full-clause-refused : goal.returns-in-Err-Full-clause-refused
-returns-in-Err-Full-clause-refused g c = never-yet _ _ _ c.step.ensures.same c.requires c.in-Err-Full.ensures.err
+returns-in-Err-Full-clause-refused g c =
+    let why = rw c.in-Err-Full.field-0-is at c.in-Err-Full.ensures.why in
+    (never-yet _ _ _ c.step.ensures.same c.requires c.in-Err-Full.ensures.err, why.1)
 
 pub returns-in-Err-HistoryFull-clause-refused : goal.returns-in-Err-HistoryFull-clause-refused
 returns-in-Err-HistoryFull-clause-refused g c =

@@ -6,7 +6,7 @@ use Rattle.link_lines.proofs.EndLemmas.{as-who, left-over, lost-over}
 use Rattle.link_lines.proofs.link_serving.serve_over.Goals as goal
 
 pub returns-in-Err-clause-served : goal.returns-in-Err-clause-served
-returns-in-Err-clause-served g c = as-who _ _ _ _ _ _ _ (c.come.ensures.same.number ∙ c.requires.number) (refused-over _ _ _ _ c.in-Err.ensures.refused)
+returns-in-Err-clause-served g c = as-who _ _ _ _ _ _ _ (c.come.ensures.same.number ∙ c.requires.number) (refused-over _ _ _ _ _ c.in-Err.ensures.refused)
 
 pub returns-in-Ok-clause-served : goal.returns-in-Ok-clause-served
 returns-in-Ok-clause-served g c =
@@ -20,7 +20,7 @@ returns-in-Err-Broken-clause-served g c =
     (lost-over c.play_link-played.result _ _ _ _ _ _ _ refl (unseen-same c.play_link-played.ensures.stays.same) c.play_link-played.ensures.plays l))
 
 pub returns-in-Err-clause-drawn : goal.returns-in-Err-clause-drawn
-returns-in-Err-clause-drawn g c = refused-draws g.S.Seat.gives _ _ _ (c.come.ensures.same.number ∙ c.requires.number) c.in-Err.ensures.refused
+returns-in-Err-clause-drawn g c = refused-draws g.S.Seat.gives _ _ _ _ (c.come.ensures.same.number ∙ c.requires.number) c.in-Err.ensures.refused
 
 pub returns-in-Ok-clause-drawn : goal.returns-in-Ok-clause-drawn
 returns-in-Ok-clause-drawn g c =

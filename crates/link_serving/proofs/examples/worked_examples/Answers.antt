@@ -5,6 +5,7 @@ use Rattle.session_events.specs.declared.event.Event.TheVariants.{Join, Refresh,
 use Rattle.session_events.specs.Entries.{is_leave}
 use Rattle.session_events.specs.Meaning.{rules}
 use Rattle.link_lines.specs.Endings.{NeverCame}
+use Rattle.kak_world.specs.Flat.{joined_by, left_by, with_own, with_view, with_list_of}
 use Rattle.kak_engine.specs.Steps.{given_by}
 use Rattle.link_serving.specs.Rows.{LeavesLast}
 use Rattle.link_serving.specs.Examples.{one_went}
@@ -28,7 +29,7 @@ not_none : (events : List Event) → Join ∷ events ≡ [] → ⊥
 not_none events e = cc
 
 pub returns : goal.returns
-unfolding chars
+unfolding chars joined_by left_by with_own with_view with_list_of
 returns c = record {
   file = refl;
   no_file = refl;
@@ -40,5 +41,10 @@ returns c = record {
   full = inl (record { before = Join ∷ Refresh true ∷ []; stands = refl });
   full_never_came = inr refl;
   full_here = λ l. ⊎_elim (λ (e : LeavesLast 1 one_went). not_left (Join ∷ []) e.before refl e.stands) (λ (n : NeverCame given_by 1 one_went). not_none [] n) l;
+  last_place = refl;
+  no_place = refl;
+  place_again = refl;
+  refused = λ link. (refl, refl);
+  refused_early = λ link f. let no : false ≡ true = f.0 in cc;
   broken = tt;
 }
