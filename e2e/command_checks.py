@@ -28,6 +28,8 @@ STATUSES = {
     "spaces at both ends": ("", ": echo a <ret>", "a"),
     "an unknown command": ("", ":x y<ret>", "no such command: x"),
     "of two words in one": ("", ":'a b' c<ret>", "no such command: a b"),
+    "an expansion waits for its command's turn": ("", ":reg a x; echo %reg{a}<ret>", "x"),
+    "and takes what stands then": ("", ":decl int x 3; echo %opt{x}; set global x 4; echo %opt{x}<ret>", "4"),
     "an error ends the commands": ("", ":x; reg a b<ret>:echo c %reg{a}<ret>", "c"),
     "and is told whatever was echoed": ("", ":echo a; x<ret>", "no such command: x"),
     "the register of commands": ("", ":echo %reg{colon}<ret>", "echo %reg{colon}"),
