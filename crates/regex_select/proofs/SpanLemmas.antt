@@ -1,13 +1,13 @@
 -- The match that a search finds, by the bytes at which matches begin.
 use Rattle.std.proofs.Common.{◌≡◌, ℕ, zero, suc, ◌+◌, ◌-◌, ◌<◌, ◌≤◌, ◌⊎◌, inl, inr, Bool, true, false, cond, ltb, List, [], ◌∷◌, ◌++◌, length, get_or, take, drop, filter, reverse, Option, None, Some, refl, sym, ap, ap₂, ◌∙◌, arith, append-nil, append_assoc, length-append, length-drop, take_all, take-append-drop, slice_range, subst}
-use Rattle.std.specs.Prelude.{min, ◌&&◌, encode_utf8, encode_utf8_all, IsAscii, IsUtf8}
+use Rattle.std.specs.Prelude.{min, ◌&&◌, encode_utf8, encode_utf8_all}
 use Rattle.std.specs.Option.{option_or}
 use Rattle.std.proofs.Math.Seq.{drop-cons}
 use Rattle.std.proofs.Math.ListN.{drop_of_length-le}
 use Rattle.std.proofs.lemmas.Bool.{lt-ltb, le-ltb, false≢true, cases_Bool}
 use Rattle.std.proofs.lemmas.List.{reverse-append}
 use Rattle.std.proofs.lemmas.List.Elements.{filter-append}
-use Rattle.std.proofs.lemmas.Str.{encodes-append, encode_ascii, encodes-IsAscii, IsUtf8-append, IsUtf8-from_ascii}
+use Rattle.std.proofs.lemmas.Str.{encodes-append, encode_ascii}
 use Rattle.text_model.specs.Texts.{IsText}
 use Rattle.list_model.specs.Ranges.{Range}
 use Rattle.regex_ports.specs.declared.pattern.Span.{Span}
@@ -336,16 +336,6 @@ pub found-selects : (cs : List ℕ) (way : Way) (ss : List Span) (r : Range) (s 
 found-selects cs way ss r s t o h e f = absurd (omega (arith, ap length (f ∙ one-selected cs t s (some-there cs way ss r s t o h e).0)))
 
 -- ---- the text with one of its places
-
--- bytes with a run of characters behind them, of which the front is ASCII
-pub run-written : (chars rest old mid front new : List ℕ) (n : ℕ) → mid ≡ old → IsAscii (take n chars) → front ≡ mid ++ take n chars → rest ≡ drop n chars → new ≡ front ++ encode_utf8_all rest → new ≡ old ++ encode_utf8_all chars
-run-written chars rest old mid front new n same ascii begun left added =
-    added ∙ ap₂ (λ x y. x ++ encode_utf8_all y) (begun ∙ ap₂ (λ x y. x ++ y) same (sym (encodes-IsAscii (take n chars) ascii))) left
-    ∙ append_assoc old (encode_utf8_all (take n chars)) (encode_utf8_all (drop n chars))
-    ∙ ap (λ t. old ++ t) (sym (encodes-append (take n chars) (drop n chars)) ∙ ap encode_utf8_all (take-append-drop n chars))
-
-pub front-utf8 : (part old mid front : List ℕ) → mid ≡ old → IsAscii part → front ≡ mid ++ part → IsUtf8 old → IsUtf8 front
-front-utf8 part old mid front same ascii begun known = subst IsUtf8 (sym begun) (IsUtf8-append mid part (subst IsUtf8 (sym same) known) (IsUtf8-from_ascii part ascii))
 
 pub written-before : (cs old bytes : List ℕ) (low p : ℕ) → old ≡ [] → low ≡ 0 → bytes ≡ old ++ encode_utf8_all (slice_range cs low p) → bytes ≡ encode_utf8_all (take p cs)
 written-before cs old bytes low p n z e =

@@ -4,6 +4,7 @@
 
 pub mod error;
 pub mod finding;
+mod gathering;
 pub mod keeping;
 pub mod laws;
 pub mod matching;

@@ -10,12 +10,13 @@ ghost use Rattle.regex_select.specs.Selecting.{selected_by};
 ghost use Rattle.regex_select.specs.Spans.{byte_bound, span_sought};
 ghost use Rattle.regex_select.specs.Walks.{bytes_before};
 
+use crate::gathering::Gathered;
 use crate::searching::behind;
 use crate::taking::found;
 use crate::walking::{start, walk_to};
 use crate::way::Way;
 use crate::whole::whole;
-use crate::writing::{text_of, with_part};
+use crate::writing::with_part;
 use kak_text::Coord;
 use line_buffer::Lines;
 use regex_ports::{Pattern, Span};
@@ -30,11 +31,11 @@ fn written_around(alloc: Global, lines: &Lines, at: Coord) -> Result<(String, us
     ensures inside { IfOk result (λ w. w.1 < length (encode_utf8_all lines.now)) }
 {
     let sel = whole(lines);
-    let room = Vec::with_capacity(alloc, lines.len())?;
-    let before = with_part(room, lines, sel.low, at)?;
+    let none = Gathered::with_room(alloc, lines.len())?;
+    let before = with_part(none, lines, sel.low, at)?;
     let byte = before.len();
-    let bytes = with_part(before, lines, at, behind(lines, sel.high))?;
-    Ok((text_of(bytes), byte))
+    let all = with_part(before, lines, at, behind(lines, sel.high))?;
+    Ok((all.finish()?, byte))
 }
 
 // The text, and the byte before which what begins before a place of it does.

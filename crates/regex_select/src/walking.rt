@@ -1,12 +1,13 @@
 //! Going over the characters of a selection up to a byte of theirs.
 
-ghost use Rattle.std.specs.Prelude.{◌≡◌, ℕ, ◌+◌, ◌-◌, ◌*◌, ◌<◌, ◌≤◌, List, length, IsTrue, IsAscii};
+ghost use Rattle.std.specs.Prelude.{◌≡◌, ℕ, ◌+◌, ◌-◌, ◌*◌, ◌<◌, ◌≤◌, List, length};
 ghost use Rattle.text_model.specs.declared.TheConstants.{MAX_CHARS};
 ghost use Rattle.text_model.specs.Texts.{IsPlace, IsPlaceOrEnd, offset, nth_line};
 ghost use Rattle.selection_set.specs.Inside.{IsInside};
 ghost use Rattle.regex_select.specs.Selecting.{chars_before};
 ghost use Rattle.regex_select.specs.Walks.{bytes_before, own_chars, IsWalk};
 
+use crate::gathering::is_ascii;
 use kak_text::Coord;
 use line_buffer::Lines;
 use selection_set::Sel;
@@ -42,19 +43,6 @@ fn not_beyond(sel: Sel, from: Walk, byte: usize) -> Walk
         return from;
     }
     start(sel)
-}
-
-// Whether all characters are ASCII. Each is looked at, in a loop that has no other way out.
-fn is_ascii(chars: &[char]) -> bool
-    ensures { IsTrue result → IsAscii chars.now }
-{
-    let mut ascii = true;
-    for c in chars {
-        if (*c as u32) >= 128 {
-            ascii = false;
-        }
-    }
-    ascii
 }
 
 // Goes over characters from a byte on, of which there are no more than bytes up to another one, as far as they begin

@@ -9,8 +9,7 @@ use Rattle.regex_select.proofs.writing.with_part.Goals as goal
 
 pub loop-n-init : goal.loop-n-init
 loop-n-init c = record {
-  so_far = added-none-yet c.args.lines.now c.args.bytes.items (offset c.args.lines.now c.args.from);
-  utf8 = λ known. known;
+  so_far = added-none-yet c.args.lines.now c.args.gathered (offset c.args.lines.now c.args.from);
   after = omega arith;
   before = c.requires.ordered;
   inside = λ more. from-in-line c.args.lines.now c.args.from c.args.to c.requires.from c.requires.to more;
@@ -22,22 +21,21 @@ loop-n-preserved c =
     let below : c.loop-n.n < length (lines_of text) = omega (arith, c.loop-n-test.true, line-le-count text c.args.to c.requires.to) in
     let inside : c.loop-n.start < length (get_or (lines_of text) c.loop-n.n []) = c.loop-n.invariant.inside c.loop-n-test.true in
     record {
-      so_far = added-line text c.args.bytes.items c.loop-n.bytes.items _ c.line.result.now (offset text c.args.from) c.loop-n.n c.loop-n.start c.loop-n.invariant.so_far (c.in_ok-bytes.ensures.items ∙ ap (λ t. c.loop-n.bytes.items ++ encode_utf8_all t) (take_rest c.line.result.now c.loop-n.start)) c.line.ensures.value below inside c.loop-n.invariant.after;
-      utf8 = λ known. c.in_ok-bytes.ensures.utf8 (c.loop-n.invariant.utf8 known);
+      so_far = added-line text c.args.gathered c.loop-n.all _ c.line.result.now (offset text c.args.from) c.loop-n.n c.loop-n.start c.loop-n.invariant.so_far (c.in_ok-all.ensures ∙ ap (λ t. c.loop-n.all ++ encode_utf8_all t) (take_rest c.line.result.now c.loop-n.start)) c.line.ensures.value below inside c.loop-n.invariant.after;
       after = omega (arith, c.loop-n.invariant.after, start-more (lines_of text) c.loop-n.n below);
       before = start-le-offset text (c.loop-n.n + 1) c.args.to (omega (arith, c.loop-n-test.true));
       inside = λ more. (next_line_place text (c.loop-n.n + 1) c.line.ensures.valid (omega (arith, line-le-count text c.args.to c.requires.to))).in_line;
     }
 
-pub returns-then-column-start-clause-items : goal.returns-then-column-start-clause-items
-returns-then-column-start-clause-items c =
+pub returns-then-column-start : goal.returns-then-column-start
+returns-then-column-start c =
     let text = c.args.lines.now in
     let at_end : c.loop-n.n ≡ c.args.to.line = omega (arith, c.loop-n-test.false, c.loop-n.auto.n-end, ordered_lines text c.args.from c.args.to c.requires.from c.requires.to c.requires.ordered) in
-    added-all text c.args.bytes.items c.loop-n.bytes.items (offset text c.args.from) c.loop-n.n c.loop-n.start c.args.to c.loop-n.invariant.so_far at_end (omega (arith, c.if-column-start.true)) c.loop-n.invariant.before
+    added-all text c.args.gathered c.loop-n.all (offset text c.args.from) c.loop-n.n c.loop-n.start c.args.to c.loop-n.invariant.so_far at_end (omega (arith, c.if-column-start.true)) c.loop-n.invariant.before
 
-pub returns-clause-items : goal.returns-clause-items
-returns-clause-items c =
+pub returns : goal.returns
+returns c =
     let text = c.args.lines.now in
     let at_end : c.loop-n.n ≡ c.args.to.line = omega (arith, c.loop-n-test.false, c.loop-n.auto.n-end, ordered_lines text c.args.from c.args.to c.requires.from c.requires.to c.requires.ordered) in
     let place : IsPlace text c.args.to = place_by_column text c.args.to c.requires.to (omega (arith, c.if-column-start.false)) in
-    IfOk-weaker c.with_run-2.result _ _ (λ new added. added-part text c.args.bytes.items c.loop-n.bytes.items new.items c.line-2.result.now _ (offset text c.args.from) c.loop-n.n c.loop-n.start c.args.to c.loop-n.invariant.so_far added refl c.line-2.ensures.value at_end place (omega (arith, c.if-column-start.false)) c.loop-n.invariant.after) c.with_run-2.ensures.items
+    IfOk-weaker c.with_run-2.result _ _ (λ new added. added-part text c.args.gathered c.loop-n.all new c.line-2.result.now _ (offset text c.args.from) c.loop-n.n c.loop-n.start c.args.to c.loop-n.invariant.so_far added refl c.line-2.ensures.value at_end place (omega (arith, c.if-column-start.false)) c.loop-n.invariant.after) c.with_run-2.ensures
