@@ -1,7 +1,8 @@
-use crate::given::{at, lines, whole};
+use crate::given::{lines, whole};
 use kak_text::{Chars, Coord};
 use line_buffer::Lines;
 use std::alloc::Global;
+use std::process::Abort;
 use std::test::Fail;
 
 // The lines as a string, with a bar behind each.
@@ -51,6 +52,22 @@ const fn make_row(
     }
 }
 
+// A text gets the characters of a row, and its shift says where they end.
+fn assert_inserted<R: Abort>(rt: &R, alloc: Global, row: &Row) -> Result<(), Fail> {
+    let mut text = lines(alloc, row.before)?;
+    let put = Chars::from_str(alloc, row.put)?;
+    assert!(rt; row.at <= text.len());
+    let at = text.coord_of(row.at);
+    let shift = text.insert(alloc, at, put.as_slice())?;
+    assert_eq!(rt; whole(alloc, &text)?.as_str(), row.after);
+    assert!(rt; shift.insert);
+    assert_eq!(rt; shift.begin, at);
+    assert_eq!(rt; shift.end, row.end);
+    assert_eq!(rt; shift.last, row.last);
+    assert_eq!(rt; text.last_place(), row.last);
+    Ok(())
+}
+
 #[test]
 fn insertions_follow_the_rule_of_the_last_newline(rt: HostRuntime) -> Result<(), Fail> {
     let alloc = rt.alloc();
@@ -91,51 +108,8 @@ fn insertions_follow_the_rule_of_the_last_newline(rt: HostRuntime) -> Result<(),
         ),
     ];
     for row in &rows {
-        let mut text = lines(alloc, row.before)?;
-        let put = Chars::from_str(alloc, row.put)?;
-        assert!(rt; row.at <= text.len());
-        let at = text.coord_of(row.at);
-        let shift = text.insert(alloc, at, put.as_slice())?;
-        assert_eq!(rt; whole(alloc, &text)?.as_str(), row.after);
-        assert!(rt; shift.insert);
-        assert_eq!(rt; shift.begin, at);
-        assert_eq!(rt; shift.end, row.end);
-        assert_eq!(rt; shift.last, row.last);
-        assert_eq!(rt; text.last_place(), row.last);
+        assert_inserted(&rt, alloc, row)?;
     }
-    Ok(())
-}
-
-#[test]
-fn steps_go_over_lines(rt: HostRuntime) -> Result<(), Fail> {
-    let text = lines(rt.alloc(), "ab\n\nc\n")?;
-    assert_eq!(rt; text.len(), 6);
-    assert_eq!(rt; text.line_count(), 3);
-    let places = [at(0, 0), at(0, 1), at(0, 2), at(1, 0), at(2, 0), at(2, 1)];
-    for (i, place) in places.iter().enumerate() {
-        assert!(rt; i < text.len());
-        let at = text.coord_of(i);
-        assert_eq!(rt; at, *place);
-        assert_eq!(rt; text.next(at), places.get(i + 1).copied());
-        if i > 0 {
-            assert_eq!(rt; text.prev(at), places.get(i - 1).copied());
-        }
-    }
-    let first = text.coord_of(0);
-    assert_eq!(rt; text.prev(first), None);
-    assert_eq!(rt; text.char_at(first), 'a');
-    assert_eq!(rt; text.line(1), ['\n'].as_slice());
-    Ok(())
-}
-
-#[test]
-fn offsets_and_coordinates_lead_to_each_other(rt: HostRuntime) -> Result<(), Fail> {
-    let text = lines(rt.alloc(), "ab\ncd\n")?;
-    assert_eq!(rt; text.len(), 6);
-    assert_eq!(rt; text.coord_of(4), at(1, 1));
-    assert_eq!(rt; text.coord_of(6), at(2, 0));
-    let at = text.coord_of(4);
-    assert_eq!(rt; text.offset_of(at), 4);
     Ok(())
 }
 
@@ -199,6 +173,24 @@ const fn make_taken(
     }
 }
 
+// A text loses the range of a row, and its shift says where what was taken had ended.
+fn assert_erased<R: Abort>(rt: &R, alloc: Global, row: &Taken) -> Result<(), Fail> {
+    let mut text = lines(alloc, row.before)?;
+    assert!(rt; row.from <= row.to);
+    assert!(rt; row.to <= text.len());
+    let from = text.coord_of(row.from);
+    let to = text.coord_of(row.to);
+    let (shift, taken) = text.erase(alloc, from, to)?;
+    assert_eq!(rt; whole(alloc, &text)?.as_str(), row.after);
+    let expected = Chars::from_str(alloc, row.taken)?;
+    assert_eq!(rt; taken.as_slice(), expected.as_slice());
+    assert!(rt; !shift.insert);
+    assert_eq!(rt; shift.begin, from);
+    assert_eq!(rt; shift.end, row.end);
+    assert_eq!(rt; shift.last, row.last);
+    Ok(())
+}
+
 #[test]
 fn erasures_keep_the_last_newline(rt: HostRuntime) -> Result<(), Fail> {
     let alloc = rt.alloc();
@@ -240,47 +232,7 @@ fn erasures_keep_the_last_newline(rt: HostRuntime) -> Result<(), Fail> {
         ),
     ];
     for row in &rows {
-        let mut text = lines(alloc, row.before)?;
-        assert!(rt; row.from <= row.to);
-        assert!(rt; row.to <= text.len());
-        let from = text.coord_of(row.from);
-        let to = text.coord_of(row.to);
-        let (shift, taken) = text.erase(alloc, from, to)?;
-        assert_eq!(rt; whole(alloc, &text)?.as_str(), row.after);
-        let expected = Chars::from_str(alloc, row.taken)?;
-        assert_eq!(rt; taken.as_slice(), expected.as_slice());
-        assert!(rt; !shift.insert);
-        assert_eq!(rt; shift.begin, from);
-        assert_eq!(rt; shift.end, row.end);
-        assert_eq!(rt; shift.last, row.last);
-    }
-    Ok(())
-}
-
-#[test]
-fn newlines_go_in_and_out_at_places_that_rise_and_fall(rt: HostRuntime) -> Result<(), Fail> {
-    let alloc = rt.alloc();
-    let mut text = lines(alloc, "ab\ncd\nef\n")?;
-    let steps = [
-        (1, 1, "a\nb\ncd\nef\n"),
-        (5, 5, "a\nb\nc\nd\nef\n"),
-        (9, 9, "a\nb\nc\nd\ne\nf\n"),
-        (0, 0, "\na\nb\nc\nd\ne\nf\n"),
-        (10, 11, "\na\nb\nc\nd\nef\n"),
-        (6, 8, "\na\nb\nc\nef\n"),
-        (0, 1, "a\nb\nc\nef\n"),
-    ];
-    for (from, to, after) in &steps {
-        assert!(rt; *from <= *to);
-        assert!(rt; *to < text.len());
-        let from = text.coord_of(*from);
-        let to = text.coord_of(*to);
-        if from == to {
-            text.insert(alloc, from, &['\n'])?;
-        } else {
-            text.erase(alloc, from, to)?;
-        }
-        assert_eq!(rt; whole(alloc, &text)?.as_str(), *after);
+        assert_erased(&rt, alloc, row)?;
     }
     Ok(())
 }

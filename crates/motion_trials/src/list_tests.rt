@@ -109,15 +109,6 @@ fn whole_lines_are_left(rt: HostRuntime) -> Result<(), Fail> {
 }
 
 #[test]
-fn parts_of_lines_leave_nothing(rt: HostRuntime) -> Result<(), Fail> {
-    let text = lines(rt.alloc(), "ab\ncd\n\nef\ngh\n")?;
-    let pairs = [pair(&rt, &text, 0, 1), pair(&rt, &text, 4, 5)];
-    let sels = listed(&rt, rt.alloc(), &text, pairs.as_slice(), 0)?;
-    assert!(rt; changed(rt.alloc(), &text, &sels, ListChange::Cut(Cut::WholeLines))?.is_none());
-    Ok(())
-}
-
-#[test]
 fn blanks_are_trimmed(rt: HostRuntime) -> Result<(), Fail> {
     let text = lines(rt.alloc(), "\t\u{3000}ab \n\n c\n \n")?;
     let pairs = [pair(&rt, &text, 9, 0), pair(&rt, &text, 11, 10)];
@@ -158,57 +149,6 @@ fn parts_end_where_lines_end(rt: HostRuntime) -> Result<(), Fail> {
 }
 
 #[test]
-fn ends_are_single_characters(rt: HostRuntime) -> Result<(), Fail> {
-    let text = lines(rt.alloc(), "ab\n\ncd\nef\n")?;
-    let pairs = [pair(&rt, &text, 5, 1), pair(&rt, &text, 7, 7)];
-    let sels = listed(&rt, rt.alloc(), &text, pairs.as_slice(), 0)?;
-    let both = changed(rt.alloc(), &text, &sels, ListChange::Split(Split::IntoEnds))?;
-    let expected = [
-        sel((0, 1), (0, 1), false),
-        sel((2, 1), (2, 1), false),
-        sel((3, 0), (3, 0), false),
-    ];
-    assert_left(&rt, &both, expected.as_slice(), 2);
-    Ok(())
-}
-
-#[test]
-fn copies_lie_below(rt: HostRuntime) -> Result<(), Fail> {
-    let text = lines(rt.alloc(), "abc\nabc\nabc\n")?;
-    let pairs = [pair(&rt, &text, 1, 0), pair(&rt, &text, 4, 6)];
-    let sels = listed(&rt, rt.alloc(), &text, pairs.as_slice(), 0)?;
-    let below = changed(
-        rt.alloc(),
-        &text,
-        &sels,
-        ListChange::Copied(Direction::Forward),
-    )?;
-    let expected = [
-        sel((0, 0), (0, 1), true),
-        sel((1, 0), (1, 2), false),
-        sel((2, 0), (2, 2), false),
-    ];
-    assert_left(&rt, &below, expected.as_slice(), 1);
-    Ok(())
-}
-
-#[test]
-fn copies_lie_above(rt: HostRuntime) -> Result<(), Fail> {
-    let text = lines(rt.alloc(), "abc\n\nab\nabc\n")?;
-    let pairs = [pair(&rt, &text, 3, 2), pair(&rt, &text, 11, 11)];
-    let sels = listed(&rt, rt.alloc(), &text, pairs.as_slice(), 1)?;
-    let above = changed(
-        rt.alloc(),
-        &text,
-        &sels,
-        ListChange::Copied(Direction::Backward),
-    )?;
-    let expected = [sel((0, 2), (0, 3), true), sel((3, 3), (3, 3), false)];
-    assert_left(&rt, &above, expected.as_slice(), 0);
-    Ok(())
-}
-
-#[test]
 fn copies_pass_over_short_lines(rt: HostRuntime) -> Result<(), Fail> {
     let text = lines(rt.alloc(), "abc\nabc\n\nab\nabc\nabc\n")?;
     let pairs = [pair(&rt, &text, 6, 2)];
@@ -221,25 +161,6 @@ fn copies_pass_over_short_lines(rt: HostRuntime) -> Result<(), Fail> {
     )?;
     let expected = [sel((0, 2), (1, 2), true), sel((3, 2), (4, 2), true)];
     assert_left(&rt, &below, expected.as_slice(), 1);
-    Ok(())
-}
-
-#[test]
-fn main_one_stands_alone(rt: HostRuntime) -> Result<(), Fail> {
-    let text = lines(rt.alloc(), "abcdef\n")?;
-    let pairs = [pair(&rt, &text, 0, 0), pair(&rt, &text, 3, 2)];
-    let sels = listed(&rt, rt.alloc(), &text, pairs.as_slice(), 1)?;
-    let alone = changed(rt.alloc(), &text, &sels, ListChange::MainAlone)?;
-    assert_left(&rt, &alone, [sel((0, 2), (0, 3), true)].as_slice(), 0);
-    Ok(())
-}
-
-#[test]
-fn main_one_alone_is_not_dropped(rt: HostRuntime) -> Result<(), Fail> {
-    let text = lines(rt.alloc(), "abcdef\n")?;
-    let pairs = [pair(&rt, &text, 3, 2)];
-    let sels = listed(&rt, rt.alloc(), &text, pairs.as_slice(), 0)?;
-    assert!(rt; changed(rt.alloc(), &text, &sels, ListChange::WithoutMain)?.is_none());
     Ok(())
 }
 
@@ -268,30 +189,6 @@ fn main_one_goes_round_the_ends(rt: HostRuntime) -> Result<(), Fail> {
     let on_last = listed(&rt, rt.alloc(), &text, pairs.as_slice(), 1)?;
     assert_eq!(rt; main_beside(&on_last, Direction::Forward), 0);
     assert_eq!(rt; main_beside(&on_last, Direction::Backward), 0);
-    Ok(())
-}
-
-#[test]
-fn whole_text_is_one_selection(rt: HostRuntime) -> Result<(), Fail> {
-    let text = lines(rt.alloc(), "ab\nc\n")?;
-    let pairs = [pair(&rt, &text, 0, 1), pair(&rt, &text, 3, 3)];
-    let sels = listed(&rt, rt.alloc(), &text, pairs.as_slice(), 1)?;
-    let whole = changed(rt.alloc(), &text, &sels, ListChange::WholeText)?;
-    assert_left(&rt, &whole, [sel((0, 0), (1, 1), false)].as_slice(), 0);
-    Ok(())
-}
-
-#[test]
-fn too_many_parts_are_refused(rt: HostRuntime) -> Result<(), Fail> {
-    let text = empty_lines(rt.alloc(), MAX_SELECTIONS + 1)?;
-    let whole = whole_text(&rt, rt.alloc(), &text)?;
-    let refused = changed(
-        rt.alloc(),
-        &text,
-        &whole,
-        ListChange::Split(Split::AtLineEnds),
-    );
-    assert!(rt; matches!(refused, Err(SelsError::TooMany)));
     Ok(())
 }
 
