@@ -99,7 +99,7 @@ impl Gathered {
         self.text.len() + self.waiting.len()
     }
 
-    // These characters with others behind them.
+    // These characters with others behind them, which needn't be ASCII: what waited goes before them.
     fn with_wide(self, chars: &[char]) -> Result<Gathered, AllocError>
         ensures { IfOk result (λ g. g ≡ self ++ encode_utf8_all chars.now) }
     {
