@@ -18,6 +18,11 @@ ROWS = {
     "what is erased side by side becomes one": ("abcd", ["L<a-S>d"], "<c>d\n", "1:1 normal 1/1", ""),
     "all lines, each by itself": ("a<ret>b", ["%<a-s>d"], "<\n>", "1:1 normal 1/1", ""),
     "an erased text is put elsewhere": ("abc", ["dlp"], "bc<a>\n", "1:3 normal 1/1", ""),
+    "two characters, which the register has": ("abcd", ["lLd:echo %reg{dquote}<ret>"], "a<d>\n", "1:2 normal 1/1", "bc"),
+    "up to the newline of the text": ("ab", ["lLd"], "a<\n>", "1:2 normal 1/1", ""),
+    "all lines at once": ("a<ret>b", ["%d"], "<\n>", "1:1 normal 1/1", ""),
+    "from one line to another": ("ab<ret>cd<ret>ef<ret>gh", [":select 1.2,3.1<ret>d"], "a<f>\ngh\n", "1:2 normal 1/1", ""),
+    "the last two lines": ("ab<ret>cd<ret>ef", ["jJxd"], "ab<\n>", "1:3 normal 1/1", ""),
     "without the register": ("abc", ["yl<a-d>p"], "ac<a>\n", "1:3 normal 1/1", ""),
     "changed": ("abc", ["lcxy<esc>"], "axy<c>\n", "1:4 normal 1/1", ""),
     "while it is being changed": ("abc", ["lcxy"], "axy<c>\n", "1:4 insert 1/1", ""),
@@ -40,6 +45,7 @@ ROWS = {
     "the register, then a count": ("ab", ["\"ay", "\"a3p"], "aaa<a>b\n", "1:4 normal 1/1", ""),
     "put before, twice": ("ab", ["yl2P"], "a<a>ab\n", "1:2 normal 1/1", ""),
     "put behind the last newline": ("ab", ["ygep"], "ab\n[a]<\n>", "2:2 normal 1/1", ""),
+    "lines that don't end in one are put in a line": ("x<ret>y<ret>z<ret>ab<ret>cd", ["JJyjp"], "x\ny\nz\na[x\ny\n]<z>b\ncd\n", "6:1 normal 1/1", ""),
     "a line goes below": ("ab<ret>c", ["xyp"], "ab\n[ab]<\n>c\n", "2:3 normal 1/1", ""),
     "a line goes above": ("ab<ret>c", ["lxyP"], "[ab]<\n>ab\nc\n", "1:3 normal 1/1", ""),
     "a line below the last": ("ab", ["xyp"], "ab\n[ab]<\n>", "2:3 normal 1/1", ""),
@@ -47,11 +53,21 @@ ROWS = {
     "and each has its newline at the text's end": ("ab", ["x<a-S>yp"], "ab\n(a)<\n><\n>", "3:1 normal 2/2", ""),
     "nothing is put": ("ab", ["\"zp"], "a<b>\n", "1:2 normal 1/1", ""),
     "nothing is put before": ("ab", ["l\"zP"], "a<b>\n", "1:2 normal 1/1", ""),
+    "nothing is put behind the last newline": ("ab", ["ge\"zp"], "ab<\n>", "1:3 normal 1/1", ""),
     "one cursor puts the first of two": ("a<ret>b", ["%<a-s>_y,p"], "a\nb<a>\n", "2:2 normal 1/1", ""),
     "each replaced by its own text": ("ab<ret>cd", ["%<a-s>ghylR"], "a<a>\nc<c>\n", "2:2 normal 2/2", ""),
     "the last text again where no more are": ("ab<ret>cd<ret>ef", ["Cy", "%<a-s>ghR"], "<a>b\n<c>d\n<c>f\n", "3:1 normal 3/3", ""),
     "replaced by itself": ("ab", ["%y%R"], "[ab]<\n>", "1:3 normal 1/1", ""),
     "replaced by nothing": ("abc", ["l\"zR"], "a<c>\n", "1:2 normal 1/1", ""),
+    "each replaced by its own string": ("abcd", [":reg a x é<ret>:select 1.1,1.1 1.2,1.2 1.4,1.3<ret>\"aR"], "<xéé>\n", "1:1 normal 1/3", ""),
+    "by two characters, a newline and nothing": ("ab<ret>cd", ["glly:reg a xy '<c-r>\"' ''<ret>:select 1.1,1.1 1.2,1.2 2.2,2.2<ret>\"aR"], "[x]<y><\n>\nc<\n>", "1:2 normal 1/3", ""),
+    "by nothing and one line": ("ab<ret>cd", ["glly:reg a '' 'z<c-r>\"'<ret>:select 1.1,1.1 1.2,2.3<ret>\"aR"], "[z]<\n>", "1:2 normal 1/1", ""),
+    # before 32 characters, which wait beside a change of their line, before 33, which do not, and 40 at once
+    "put before 32 characters": (f"a{'x' * 31}", [":reg a yz<ret>l\"aP"], f"a[y]<z>{'x' * 31}\n", "1:3 normal 1/1", ""),
+    "put before 33 characters": (f"a{'x' * 32}", [":reg a yz<ret>l\"aP"], f"a[y]<z>{'x' * 32}\n", "1:3 normal 1/1", ""),
+    "erased before 32 characters": (f"ay{'x' * 31}", ["ld"], f"a<x>{'x' * 30}\n", "1:2 normal 1/1", ""),
+    "erased before 33 characters": (f"ay{'x' * 32}", ["ld"], f"a<x>{'x' * 31}\n", "1:2 normal 1/1", ""),
+    "40 characters are put": ("ab", [f":reg a {'y' * 40}<ret>\"ap"], f"a[{'y' * 39}]<y>b\n", "1:41 normal 1/1", ""),
     # registers
     "a register of its own": ("ab", ["\"ayl\"ap"], "ab<a>\n", "1:3 normal 1/1", ""),
     "which is no other": ("ab", ["\"aylp"], "ab<\n>", "1:3 normal 1/1", ""),
@@ -61,6 +77,10 @@ ROWS = {
     "their numbers": ("a<ret>b", ["%<a-s>_\"#p"], "a<1>\nb<2>\n", "2:2 normal 2/2", ""),
     "the buffer's name": ("ab", ["\"%p"], "a[*scratch]<*>b\n", "1:10 normal 1/1", ""),
     "what was asked for": ("ab", [":nosuch<ret>", "\":p"], "a[nosuc]<h>b\n", "1:7 normal 1/1", ""),
+    "a text over lines": ("añb<ret>c<ret>de", [":select -codepoint 1.2,3.1<ret>y:echo %reg{dquote}<ret>"], "a[ñb\nc\n]<d>e\n", "3:1 normal 1/1", "ñb\nc\nd"),
+    "the whole text": ("añb<ret>c<ret>de", ["%y:echo %reg{dquote}<ret>"], "[añb\nc\nde]<\n>", "3:3 normal 1/1", "añb\nc\nde\n"),
+    "one character": ("añb<ret>c<ret>de", ["jy:echo %reg{dquote}<ret>"], "añb\n<c>\nde\n", "2:1 normal 1/1", "c"),
+    "the texts of two selections": ("aé<ret>cd", [":select 1.1,1.1 2.1,1.2<ret>y:echo %reg{dquote}<ret>"], "<aé>(\nc)d\n", "1:1 normal 1/2", "a é\nc"),
     "a capital is no register": ("ab", ["\"Ay"], "<a>b\n", "1:1 normal 1/1", "no such register: A"),
     "nor a digit": ("ab", ["3\"3y"], "<a>b\n", "1:1 normal 1/1", "no such register: 3"),
     "nor a mark": ("ab", ["\"!y"], "<a>b\n", "1:1 normal 1/1", "no such register: !"),
@@ -77,10 +97,13 @@ ROWS = {
     "three lines, the last newline aside": ("a<ret>b<ret>c", ["%<a-j>"], "[a b c]<\n>", "1:6 normal 1/1", ""),
     "the last line has none to be joined": ("a<ret>b", ["j<a-j>"], "a\n<b>\n", "2:1 normal 1/1", ""),
     "one newline for two selections": ("ab<ret>c", ["x<a-S><a-j>"], "<a>b <c>\n", "1:4 normal 2/2", ""),
+    "of three selections one is on the last line": ("a<ret> <tab>b<ret>c<ret><ret>d", [":select 2.4,1.1 3.1,3.1 5.1,5.2<ret><a-j>"], "<a>[ b\n]<c> \n(d)<\n>", "1:1 normal 1/3", ""),
     "lines are indented, but no empty one": ("a<ret><ret>b", ["%>"], "    [a\n\n    b]<\n>", "3:6 normal 1/1", ""),
     "an empty line isn't indented": ("a<ret><ret>b", ["j>"], "a\n<\n>b\n", "2:1 normal 1/1", ""),
     "a newline belongs to its line": ("a<ret>b", ["L>"], "    [a]<\n>b\n", "1:6 normal 1/1", ""),
     "a line is indented once": ("ab", ["x<a-S>3>"], "    <a>b<\n>", "1:7 normal 2/2", ""),
+    "touched lines are indented by three columns": ("ab<ret><ret>c<ret>d", [":set window indentwidth 3<ret>:select 1.1,1.1 3.1,1.2<ret>>"], "   <ab>(\n\n   c)\nd\n", "1:4 normal 1/2", ""),
+    "or by a tab": ("ab<ret><ret>c<ret>d", [":set window indentwidth 0<ret>:select 1.1,1.1 3.1,1.2<ret>>"], "        <ab>(\n\n        c)\nd\n", "1:2 normal 1/2", ""),
     "the indentation is taken away": ("      a", ["gl<lt>"], "  <a>\n", "1:3 normal 1/1", ""),
     "a tab is too wide to be taken": ("<tab>a", ["<lt>"], "<        >a\n", "1:1 normal 1/1", ""),
     "the spaces before a tab are taken": ("  <tab>a", ["<lt>"], "<        >a\n", "1:1 normal 1/1", ""),
@@ -88,6 +111,7 @@ ROWS = {
     "cursors are aligned by cells": ("<tab>b<ret>aab", ["lC&"], "        <b>\na       <a>b\n", "2:9 normal 2/2", ""),
     "and not the other ends": ("a<ret>bcd", ["%<a-s>_&"], "  <a>\n[bc]<d>\n", "2:3 normal 2/2", ""),
     "two on one line aren't aligned": ("ab", ["x<a-S>&"], "<a>b<\n>", "1:3 normal 2/2", "align needs one selection per line"),
+    "nor are two that begin on one": ("<tab>b<ret>aab", [":select 1.2,1.2 1.3,2.2<ret>&"], "        <b>(\na)<a>b\n", "1:2 normal 1/2", "align needs one selection per line"),
     # going round
     "the ends of a line change places": ("abc", ["<a-l><a-S><a-)>"], "<c>b<a>\n", "1:3 normal 2/2", ""),
     "each text goes on": ("a<ret>b<ret>c", ["%<a-s>gh<a-)>"], "<c>\n<a>\n<b>\n", "3:1 normal 3/3", ""),
@@ -104,6 +128,9 @@ ROWS = {
     "back over a newline, but not from the first": ("a<ret>b", ["%<a-s>ghi<backspace><esc>"], "<ab>\n", "1:2 normal 2/2", ""),
     "a register while typing": ("xy", ["<a-l>d", "i<c-r>\"Z"], "xyZ<\n>", "1:4 insert 1/1", ""),
     "to each cursor its own text": ("a<ret>b", ["%<a-s>ghyi<c-r>\"<esc>"], "a<a>\nb<b>\n", "2:2 normal 2/2", ""),
+    "nothing at each cursor": ("abcd", [":select 1.1,1.1 1.2,1.2 1.4,1.3<ret>i<c-r>z"], "<abc>(d)\n", "1:1 insert 1/3", ""),
+    "a line while typing": ("x<ret>ab<ret>cd", ["xygei<c-r>\"<esc>"], "x\nab\ncdx\n<\n>", "4:1 normal 1/1", ""),
+    "a newline before a line": ("ab<ret>cd", ["ji<ret><esc>"], "ab\n\n<c>d\n", "3:1 normal 1/1", ""),
     "no such register while typing": ("ab", ["i<c-r>!"], "<a>b\n", "1:1 insert 1/1", "no such register: !"),
     "typing goes on then": ("ab", ["i<c-r>!x<esc>"], "x<a>b\n", "1:2 normal 1/1", ""),
     "no register after all": ("ab", ["i<c-r><esc>x"], "x<a>b\n", "1:2 insert 1/1", ""),
@@ -122,16 +149,22 @@ ROWS = {
     "before the first of two indented lines": ("<tab>a<ret> b", ["%Ix<esc>"], "        x<a>\n b\n", "1:3 normal 1/1", ""),
     "before the end of blanks": ("  ", ["Ix<esc>"], "  x<\n>", "1:4 normal 1/1", ""),
     "behind an indented line": ("  ab<ret>c", ["Ax<esc>"], "  abx<\n>c\n", "1:6 normal 1/1", ""),
+    "a character of two bytes behind a line": ("ab", ["Aé<esc>"], "abé<\n>", "1:4 normal 1/1", ""),
     "behind the last of two lines": ("  ab<ret>c", ["%Ax<esc>"], "  ab\ncx<\n>", "2:3 normal 1/1", ""),
     "a line below": ("a", ["oc<esc>"], "a\nc<\n>", "2:2 normal 1/1", ""),
     "a line below an indented one": ("  ab<ret>c", ["ox<esc>"], "  ab\nx<\n>c\n", "2:2 normal 1/1", ""),
     "a line above an indented one": ("a<ret>  b", ["jOx<esc>"], "a\nx<\n>  b\n", "2:2 normal 1/1", ""),
     "two lines above one": ("ab", ["x<a-S>O"], "<\n><\n>ab\n", "2:1 insert 2/2", ""),
     "two lines below one": ("ab", ["x<a-S>ox<esc>"], "ab\nx<\n>x<\n>", "3:2 normal 2/2", ""),
+    "a line below one and below two": ("ab<ret>c", [":select 1.1,1.1 2.1,1.2<ret>o"], "ab\n<\n>c\n<\n>", "2:1 insert 1/2", ""),
+    "and above them": ("ab<ret>c", [":select 1.1,1.1 2.1,1.2<ret>O"], "<\n><\n>ab\nc\n", "1:1 insert 1/2", ""),
     # each of these taken back: a cursor for each change, and the main one at the last
     "erased, and back": ("abc", ["ldu"], "a<b>c\n", "1:2 normal 1/1", ""),
     "erased, back and again": ("abc", ["lduU"], "a<c>\n", "1:2 normal 1/1", ""),
     "all erased, and back": ("abc", ["%du"], "[ab]<c>\n", "1:3 normal 1/1", ""),
+    "all lines erased, and back": ("a<ret>b", ["%du"], "[a\n]<b>\n", "2:1 normal 1/1", ""),
+    "erased from one line to another, and back": ("ab<ret>cd<ret>ef<ret>gh", [":select 1.2,3.1<ret>du"], "a[b\ncd\n]<e>f\ngh\n", "3:1 normal 1/1", ""),
+    "the last two lines erased, and back": ("ab<ret>cd<ret>ef", ["jJxdu"], "ab\n[cd\nef]<\n>", "3:3 normal 1/1", ""),
     "a last line erased, and back": ("a<ret>b", ["jxdu"], "a\n[b]<\n>", "2:2 normal 1/1", ""),
     "erased without the register, and back": ("abc", ["l<a-d>u"], "a<b>c\n", "1:2 normal 1/1", ""),
     "changed, and back": ("abc", ["lcx<esc>u"], "a<bc>\n", "1:2 normal 1/2", ""),
@@ -142,8 +175,12 @@ ROWS = {
     "put behind, and back": ("ab", ["ypu"], "a<b>\n", "1:2 normal 1/1", ""),
     "put before, and back": ("ab", ["yPu"], "<a>b\n", "1:1 normal 1/1", ""),
     "put behind the last newline, and back": ("ab", ["ygepu"], "ab<\n>", "1:3 normal 1/1", ""),
+    "and again": ("ab", ["ygepuU"], "ab\n[a]<\n>", "2:2 normal 1/1", ""),
+    "lines put in a line, and back": ("x<ret>y<ret>z<ret>ab<ret>cd", ["JJyjpu"], "x\ny\nz\na<b>\ncd\n", "4:2 normal 1/1", ""),
+    "back and again": ("x<ret>y<ret>z<ret>ab<ret>cd", ["JJyjpuU"], "x\ny\nz\na[x\ny\n]<z>b\ncd\n", "6:1 normal 1/1", ""),
     "a put for each count is one group": ("ab", ["y3pu"], "a<b>\n", "1:2 normal 1/1", ""),
     "replaced, and back": ("abc", ["ylRu"], "a<bc>\n", "1:2 normal 1/2", ""),
+    "the newline of the text replaced by one makes no group": ("ab", ["gllr<ret>u"], "<\n>", "1:1 normal 1/1", ""),
     "joined, and back": ("a<ret>b", ["<a-j>u"], "a<\n><b>\n", "1:2 normal 1/2", ""),
     "indented, and back": ("a", [">u"], "<a>\n", "1:1 normal 1/1", ""),
     "unindented, and back": ("      a", ["<lt>u"], "[   ]< >  a\n", "1:4 normal 1/1", ""),
@@ -157,6 +194,28 @@ ROWS = {
     "a line above, and back": ("a", ["Ox<esc>u"], "<a>\n", "1:1 normal 1/1", ""),
     "a register while typing, and back": ("ab", ["yi<c-r>\"<esc>u"], "<a>b\n", "1:1 normal 1/1", ""),
     "erased while typing, and back": ("abc", ["li<backspace><esc>u"], "<a>bc\n", "1:1 normal 1/1", ""),
+    "two letters are one group": ("", ["iab<esc>u"], "<\n>", "1:1 normal 1/1", ""),
+    # ways in the history: node 1 is the text with an `a`, node 2 that with a `b`
+    "over the common ancestor": ("", ["ia<esc>uib<esc><c-k>"], "<a><\n>", "1:1 normal 1/2", ""),
+    "to the ancestor": ("", ["ia<esc>uib<esc>2<c-k>"], "<\n>", "1:1 normal 1/1", ""),
+    "to where it was come back from last": ("", ["ia<esc>uib<esc>2<c-k>U"], "<a>\n", "1:1 normal 1/1", ""),
+    "over the ancestor the other way": ("", ["ia<esc>uib<esc>2<c-k>U<c-j>"], "<b><\n>", "1:1 normal 1/2", ""),
+    "undone there": ("", ["ia<esc>uib<esc>2<c-k>U<c-j>u"], "<\n>", "1:1 normal 1/1", ""),
+    "and made again": ("", ["ia<esc>uib<esc>2<c-k>U<c-j>uU"], "<b>\n", "1:1 normal 1/1", ""),
+    "above the last node is none": ("", ["ia<esc>uib<esc><c-j>"], "b<\n>", "1:2 normal 1/1", "no such undo node"),
+}
+
+# a text that is typed; keys and the text that is then drawn, one line of keys after another
+TABLES = {
+    "lines are joined and split": ("abcdef<ret>gh<ret>ij<ret>kl", {
+        "ggglld": "abcdef<g>h\nij\nkl\n",
+        ":select 1.3,2.1<ret>d": "ab<j>\nkl\n",
+        "hix<ret>yz<ret><esc>": "ax\nyz\n<b>j\nkl\n",
+        "jli<ret><esc>": "ax\nyz\nbj\nk\n<l>\n",
+        ":select 2.3,4.2<ret>d": "ax\nyz<l>\n",
+        "ggi<ret><ret><esc>": "\n\n<a>x\nyzl\n",
+        "ggJd": "<a>x\nyzl\n",
+    }),
 }
 
 MARKS = {("white", "blue"): "[]", ("black", "blue"): "()", ("black", "white"): "<>", ("black", "cyan"): "<>"}
@@ -174,13 +233,18 @@ def marked(lines):
     return text + before[1:]
 
 
-def last_drawing(output):
-    """The marked text, the mode line and the status of the last drawing."""
-    requests = [json.loads(line) for line in output.splitlines()[-4:]]
+def read_drawing(lines):
+    """The marked text, the mode line and the status of the lines of a drawing."""
+    requests = [json.loads(line) for line in lines]
     plain = lambda atoms: "".join(atom["contents"] for atom in atoms)
     named = {request["method"]: request["params"] for request in requests}
     status, mode, _ = named["draw_status"]
     return marked(named["draw"][0]), plain(mode), plain(status)
+
+
+def last_drawing(output):
+    """The last drawing of an output."""
+    return read_drawing(output.splitlines()[-4:])
 
 
 def play(kind, rows, program, report):
@@ -191,5 +255,16 @@ def play(kind, rows, program, report):
         report.check(f"{kind}: {name}: {''.join(keys)}", (drawn, f"*scratch* {mode} - client0", status), found)
 
 
+def play_tables(kind, tables, program, report):
+    """Each table in a process of its own, in which a text is typed, and then the keys of its rows, each in a line of its own. No status is told."""
+    for name, (text, rows) in tables.items():
+        ended = run_whole(program, ["-ui", "json"], b"".join([keys_line(f"i{text}<esc>"), *map(keys_line, rows)]))
+        lines = ended.output.splitlines()[-4 * len(rows):]
+        for place, (keys, drawn) in enumerate(rows.items()):
+            found = read_drawing(lines[4 * place:][:4])[::2] if ended.status == 0 else ended.status
+            report.check(f"{kind}: {name}: {keys}", (drawn, ""), found)
+
+
 def run(program, report):
     play("edits", ROWS, program, report)
+    play_tables("edits", TABLES, program, report)

@@ -38,6 +38,14 @@ ROWS = {
     "below the first node is none": ("", ["<c-k>"], "1:1 normal 1/1", "no such undo node"),
     "what changed on both sides of a way is selected": ("", ["ia<esc>uib<esc>", "<c-k>"], "1:1 normal 1/2", ""),
     "wide characters and tabs": ("漢字<ret><tab>b", ["lj"], "2:1 normal 1/1", ""),
+    # the window has 24 lines; it follows the cursor when it is drawn, and doesn't see before that that lines are gone
+    "the window's first line": ("<ret>" * 29, ["ge", "gt"], "7:1 normal 1/1", ""),
+    "its middle line": ("<ret>" * 29, ["ge", "gc"], "19:1 normal 1/1", ""),
+    "its last line": ("<ret>" * 29, ["ge", "gt", "gb"], "30:1 normal 1/1", ""),
+    "the middle line of a window that the text ends in": ("<ret>" * 39, ["ge", "gt3jGed", "gtgc"], "19:1 normal 1/1", ""),
+    "its last one": ("<ret>" * 39, ["ge", "gt3jGed", "gtgb"], "19:1 normal 1/1", ""),
+    "and its first one": ("<ret>" * 39, ["ge", "gt3jGed", "gt"], "17:1 normal 1/1", ""),
+    "the first line of a window that the text ends above": ("<ret>" * 39, ["ge", "gg2jGedgggt"], "2:1 normal 1/1", ""),
 }
 
 
@@ -74,6 +82,9 @@ def run(program, report):
     all_lines = newlines(MAX_SELECTIONS - 1)
     is_after(program, report, "as many selections as there may be", [*all_lines, keys_line("%<a-s>")],
              f"{MAX_SELECTIONS}:1 normal {MAX_SELECTIONS}/{MAX_SELECTIONS}", "")
+    for more in ("<a-S>", "C"):
+        is_after(program, report, f"more than that by {more}", [*all_lines, keys_line("%<a-s>"), keys_line(more)],
+                 f"{MAX_SELECTIONS}:1 normal {MAX_SELECTIONS}/{MAX_SELECTIONS}", "too many selections")
     one_more = newlines(MAX_SELECTIONS)
     is_after(program, report, "one more selection", [*one_more, keys_line("%<a-s>")],
              f"{MAX_SELECTIONS + 1}:1 normal 1/1", "too many selections")

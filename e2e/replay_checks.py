@@ -134,6 +134,8 @@ BOTH = {
                                        ("xz<a>yb\n", "*scratch* 1:3 insert 1/1", ""), ("xzay<b>\n", "*scratch* 1:5 insert 1/1", ""), {}),
     "and one is taken back": ({}, [(0, "iab<esc>gg"), (1, "l"), (0, "i"), (1, "i"), (0, "x"), (1, "y"), (0, "z"), (0, "<esc>"), (1, "<esc>"), (0, "u"), (1, "")],
                               ("x<a>yb\n", "*scratch* 1:2 normal 1/1", ""), ("xay<b>\n", "*scratch* 1:4 normal 1/1", ""), {}),
+    "what changes nothing ends nobody's group": ({}, [(0, "ia"), (1, "\"zp"), (0, "b<esc>u"), (1, "")],
+                                                 ("<\n>", "*scratch* 1:1 normal 1/1", ""), ("<\n>", "*scratch* 1:1 normal 1/1", ""), {}),
     "what another is typing is written, and is a change of its own": (TEXT, [(0, ":edit notes<ret>"), (1, ":edit notes<ret>"), (0, "iX"), (1, ":write<ret>"), (0, "Y<esc>u"), (1, "")],
                                                                      ("X<o>ne\ntwo\n", "notes 1:2 normal 1/1", ""), ("X<o>ne\ntwo\n", "notes 1:2 normal 1/1", ""), {"notes": b"Xone\ntwo\n"}),
     "the last client stays with what it changed": (NOTES, [(0, ":edit notes.txt<ret>"), (1, ":edit notes.txt<ret>"), (0, "%s\\bold\\b<ret>c"), (0, "new"), (1, "gei!<esc>"), (0, "<esc>:write<ret>"), (0, QUIT), (1, "i?<esc>" + QUIT)],
