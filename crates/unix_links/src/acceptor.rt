@@ -3,10 +3,10 @@
 ghost use Rattle.std.specs.Prelude.{◌≡◌, IfOk, IfSome, None, option_map};
 ghost use Rattle.kak_ports.specs.Ports.{Rose};
 ghost use Rattle.client_links.specs.Wires.{IsFresh};
-ghost use Rattle.unix_links.specs.Untold.{untold_door};
+ghost use Rattle.unix_links.specs.Streams.{untold_door};
 
 use crate::door::DoorSocket;
-use crate::link::UnixLink;
+use crate::link::{UnixLink, over_socket};
 use client_links::{Acceptor, Bound, Link, Next};
 use kak_ports::small::Utf8Text;
 use std::alloc::Global;
@@ -43,7 +43,7 @@ impl SessionDoor {
         ensures fresh { IfOk result (λ came. IfSome came (λ link. IsFresh (⟦<UnixLink as Link>⟧.wire link))) }
     {
         match self.socket.next()? {
-            Some(stream) => Ok(Some(UnixLink::new(stream)?)),
+            Some(stream) => Ok(Some(over_socket(stream)?)),
             None => Ok(None),
         }
     }

@@ -105,7 +105,7 @@ impl DoorSocket {
     /// Makes the socket of a session and listens to it. An `Err` is of the system, or tells that the name isn't one of a
     /// file, that a server lives, or that something else than a socket stands there. Nothing is left then of what was
     /// made.
-    pub fn open<H: Files<File = File> + Net>(
+    pub(crate) fn open<H: Files<File = File> + Net>(
         rt: &H,
         alloc: Global,
         session: &str,
@@ -140,7 +140,7 @@ impl DoorSocket {
     }
 
     /// Waits a while for the next connection. An `Err` is of the system.
-    pub fn next(&mut self) -> io::Result<Option<net::UnixStream>> {
+    pub(crate) fn next(&mut self) -> io::Result<Option<net::UnixStream>> {
         if let Some(stream) = self.accept()? {
             return Ok(Some(stream));
         }
@@ -150,7 +150,7 @@ impl DoorSocket {
     }
 
     /// Removes the socket and listens no more.
-    pub fn close<H: Files>(self, files: &H) {
+    pub(crate) fn close<H: Files>(self, files: &H) {
         let _ = fs::remove_file(files, self.paths.socket.as_str());
         let _ = fs::remove_file(files, self.paths.lock.as_str());
     }

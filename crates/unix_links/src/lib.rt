@@ -8,7 +8,7 @@ pub mod link;
 mod paths;
 
 pub use acceptor::UnixAcceptor;
-pub use link::{ClosedLink, UnixLink};
+pub use link::{ClosedLink, StreamLink, UnixLink};
 
 #[cfg(test)]
 mod tests;

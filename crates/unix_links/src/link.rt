@@ -1,15 +1,16 @@
-//! A link over a Unix socket.
+//! A link over a reader and a writer, which over a Unix socket are its two directions.
 
 ghost use Rattle.std.specs.Prelude.{◌≡◌, ◌≤◌, length, drop, IfOk};
-ghost use Rattle.kak_ports.specs.Ports.{Rose};
+ghost use Rattle.kak_ports.specs.Ports.{Puts};
 ghost use Rattle.client_links.specs.Wires.{IsFresh};
-ghost use Rattle.unix_links.specs.Untold.{untold_wire};
+ghost use Rattle.unix_links.specs.Streams.{told_since, StaysTold, faultless_outlet, stream_wire};
 
 use client_links::{Heard, Link};
 use kak_ports::Put;
 use std::io;
 use std::io::{ErrorKind, Read, Write};
 use std::os::unix::net::UnixStream;
+use std::snapshot::Snapshot;
 use std::sync::Wait;
 use std::time::Duration;
 
@@ -22,19 +23,34 @@ pub const PAUSE_MILLIS: u64 = 100;
 /// How often a `send` waits at most before it fails.
 pub const MOST_PAUSES: u32 = 100;
 
-/// What is left of a link that was closed: how often it failed. Each count stands still at its end.
-#[derive(Drop, Clone, Debug)]
-pub struct ClosedLink {
+/// What is left of a link that was closed: how often it failed. Each count stands still at its end. Contracts also see
+/// what its streams told.
+#[derive(Drop)]
+pub struct ClosedLink<R, W> {
+    first_reader: Snapshot<R>,
+    first_writer: Snapshot<W>,
+    reader: Snapshot<R>,
+    writer: Snapshot<W>,
     read_faults: u64,
     send_faults: u64,
 }
 
-/// A connection over a Unix socket. It is closed where it is dropped.
-#[derive(Drop, Debug)]
-pub struct UnixLink {
-    stream: UnixStream,
-    faults: ClosedLink,
+/// A connection: what the reader gives is received, and what is sent is written by the writer. It tells what they tell,
+/// which for the directions of a socket is nothing. They are dropped, and so closed, where the link is.
+#[derive(Drop)]
+pub struct StreamLink<R: Read, W: Write> {
+    reader: R,
+    writer: W,
+    first_reader: Snapshot<R>,
+    first_writer: Snapshot<W>,
+    read_faults: u64,
+    send_faults: u64,
+    ghost left: { StaysTold (R.remaining first_reader.value) (R.remaining reader) },
+    ghost sent: { StaysTold (W.contents first_writer.value) (W.contents writer) },
 }
+
+/// A connection over a Unix socket.
+pub type UnixLink = StreamLink<UnixStream, UnixStream>;
 
 // Whether a call would have had to wait for longer, which is no fault.
 pub(crate) fn is_pause(error: &io::Error) -> bool {
@@ -52,70 +68,96 @@ fn all_after(bytes: &[u8], count: usize) -> &[u8]
     &bytes[count..]
 }
 
-impl UnixLink {
-    /// A link over a stream that was just accepted. An `Err` is of the system, and closes the stream.
-    pub fn new(stream: UnixStream) -> io::Result<UnixLink>
-        ensures { IfOk result (λ link. IsFresh (⟦<UnixLink as Link>⟧.wire link)) }
-    {
-        stream.set_nonblocking(false)?;
-        stream.set_read_timeout(Some(Duration::from_millis(HEARING_MILLIS)))?;
-        stream.set_write_timeout(Some(Duration::from_millis(PAUSE_MILLIS)))?;
-        Ok(UnixLink {
-            stream,
-            faults: ClosedLink {
-                read_faults: 0,
-                send_faults: 0,
-            },
-        })
-    }
-
-    // Writes all bytes. It gives up after an error, and after many pauses. Tells whether all were written.
-    fn write_all(&mut self, bytes: &[u8]) -> bool
-        ensures { self.new.faults ≡ self.old.faults }
-    {
-        let mut rest = bytes;
-        let mut pauses = 0;
-        while !rest.is_empty() && pauses < MOST_PAUSES {
-            match self.stream.write(rest) {
-                Ok(0) => return false,
-                Ok(count) => rest = all_after(rest, count),
-                Err(error) if is_pause(&error) => pauses += 1,
-                Err(_) => return false,
-            }
+// Writes all bytes. It gives up after an error, and after many pauses.
+fn write_all<W: Write>(writer: &mut W, bytes: &[u8]) -> Put
+    ensures { Puts result (faultless_outlet (W.contents writer.old)) (faultless_outlet (W.contents writer.new)) bytes.now }
+{
+    let mut rest = bytes;
+    let mut pauses = 0;
+    while !rest.is_empty() {
+        match writer.write(rest) {
+            Ok(0) => return Put::Failed,
+            Ok(count) => rest = all_after(rest, count),
+            Err(error) if is_pause(&error) && pauses < MOST_PAUSES => pauses += 1,
+            Err(_) => return Put::Failed,
         }
-        rest.is_empty()
+    }
+    Put::Done
+}
+
+impl<R: Read + Drop, W: Write + Drop> StreamLink<R, W> {
+    /// A link over a reader and a writer, which has not failed yet.
+    pub fn new(reader: R, writer: W) -> StreamLink<R, W>
+        ensures left { (⟦<StreamLink<R, W> as Link>⟧.wire result).left ≡ R.remaining reader }
+        ensures sent { (⟦<StreamLink<R, W> as Link>⟧.wire result).outlet.told ≡ W.contents writer }
+        ensures read_faults { result.read_faults ≡ 0 }
+        ensures send_faults { result.send_faults ≡ 0 }
+    {
+        StreamLink {
+            first_reader: Snapshot::of(&reader),
+            first_writer: Snapshot::of(&writer),
+            reader,
+            writer,
+            read_faults: 0,
+            send_faults: 0,
+        }
     }
 }
 
-impl Link for UnixLink {
-    type Spent = ClosedLink;
+impl<R: Read + Drop, W: Write + Drop> Link for StreamLink<R, W> {
+    type Spent = ClosedLink<R, W>;
 
-    ghost wire = { λ link. untold_wire link.faults.read_faults link.faults.send_faults };
+    ghost wire = { λ link. stream_wire (told_since (R.remaining link.first_reader.value) (R.remaining link.reader)) (told_since (W.contents link.first_writer.value) (W.contents link.writer)) link.read_faults link.send_faults };
 
-    ghost spent = { λ closed. untold_wire closed.read_faults closed.send_faults };
+    ghost spent = { λ closed. stream_wire (told_since (R.remaining closed.first_reader.value) (R.remaining closed.reader.value)) (told_since (W.contents closed.first_writer.value) (W.contents closed.writer.value)) closed.read_faults closed.send_faults };
 
-    fn recv<R: Wait>(&mut self, _rt: &R, into: &mut [u8]) -> Heard {
-        match self.stream.read(into) {
+    fn recv<H: Wait>(&mut self, _rt: &H, into: &mut [u8]) -> Heard {
+        match self.reader.read(into) {
             Ok(0) => Heard::End,
             Ok(count) => Heard::Got(count),
             Err(error) if is_pause(&error) => Heard::Idle,
             Err(_) => {
-                self.faults.read_faults = self.faults.read_faults.saturating_add(1);
+                self.read_faults = self.read_faults.saturating_add(1);
                 Heard::Failed
             }
         }
     }
 
-    fn send<R: Wait>(&mut self, _rt: &R, bytes: &[u8]) -> Put {
-        if self.write_all(bytes) {
-            return Put::Done;
+    fn send<H: Wait>(&mut self, _rt: &H, bytes: &[u8]) -> Put {
+        let put = write_all(&mut self.writer, bytes);
+        if let Put::Failed = put {
+            self.send_faults = self.send_faults.saturating_add(1);
         }
-        self.faults.send_faults = self.faults.send_faults.saturating_add(1);
-        Put::Failed
+        put
     }
 
-    fn finish(self) -> ClosedLink {
-        let UnixLink { stream: _, faults } = self;
-        faults
+    fn finish(self) -> ClosedLink<R, W> {
+        let StreamLink {
+            reader,
+            writer,
+            first_reader,
+            first_writer,
+            read_faults,
+            send_faults,
+        } = self;
+        ClosedLink {
+            first_reader,
+            first_writer,
+            reader: Snapshot::of(&reader),
+            writer: Snapshot::of(&writer),
+            read_faults,
+            send_faults,
+        }
     }
+}
+
+/// A link over a stream that was just accepted. An `Err` is of the system, and closes the stream.
+pub(crate) fn over_socket(stream: UnixStream) -> io::Result<UnixLink>
+    ensures { IfOk result (λ link. IsFresh (⟦<UnixLink as Link>⟧.wire link)) }
+{
+    stream.set_nonblocking(false)?;
+    stream.set_read_timeout(Some(Duration::from_millis(HEARING_MILLIS)))?;
+    stream.set_write_timeout(Some(Duration::from_millis(PAUSE_MILLIS)))?;
+    let writer = stream.try_clone()?;
+    Ok(StreamLink::new(stream, writer))
 }

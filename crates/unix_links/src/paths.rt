@@ -17,7 +17,7 @@ pub struct Paths {
 
 impl Paths {
     /// The paths of a session. An `Err` is want of memory.
-    pub fn of(alloc: Global, session: &str) -> Result<Paths, AllocError> {
+    pub(crate) fn of(alloc: Global, session: &str) -> Result<Paths, AllocError> {
         Ok(Paths {
             socket: format!(in alloc; "{session}.kak")?,
             lock: format!(in alloc; "{session}.kak.lock")?,
