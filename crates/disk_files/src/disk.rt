@@ -1,7 +1,9 @@
 //! Files of the disk: the edge of what is proved.
 
-ghost use Rattle.std.specs.Prelude.{◌≡◌, None, IfOk};
+ghost use Rattle.std.specs.Prelude.{◌≡◌, None, IfOk, OnOk};
+ghost use Rattle.std.specs.Io.KnownBytes.{Appends};
 ghost use Rattle.kak_files.specs.Files.{IsWithin, one_more};
+ghost use Rattle.disk_files.specs.Whole.{IsWhole};
 
 use kak_files::{FileRead, Files};
 use kak_ports::{Octets, Put};
@@ -94,11 +96,10 @@ impl<R: rt::Files> DiskFiles<R> {
         let mut options = OpenOptions::new();
         options.write(true).truncate(true);
         let mut file = options.open(&self.runtime, path)?;
-        file.write_all(bytes)?;
         if old.is_file() {
-            file.sync_all()?;
+            return fill(&mut file, None, bytes);
         }
-        Ok(())
+        file.write_all(bytes)
     }
 }
 
@@ -134,16 +135,18 @@ fn is_refusal(error: &io::Error) -> bool {
     )
 }
 
-impl<R: rt::Files> DiskFiles<R> {
-    // Fills a file that was opened for a write, and brings it to the disk.
-    fn fill(&self, file: &mut R::File, old: Option<&Metadata>, bytes: &[u8]) -> io::Result<()> {
-        file.write_all(bytes)?;
-        if let Some(old) = old {
-            file.set_permissions(old.permissions())?;
-        }
-        file.sync_all()
+// Fills a file that was opened for a write, gives it the mode of an old one, and brings it to the disk.
+fn fill<F: Write + OpenFile>(file: &mut F, old: Option<&Metadata>, bytes: &[u8]) -> io::Result<()>
+    ensures { OnOk result (Appends (F.contents file.old) (F.contents file.new) bytes.now) }
+{
+    file.write_all(bytes)?;
+    if let Some(old) = old {
+        file.set_permissions(old.permissions())?;
     }
+    file.sync_all()
+}
 
+impl<R: rt::Files> DiskFiles<R> {
     // Fills the file beside and gives it the name; the file is gone again where that fails.
     fn fill_and_rename(
         &self,
@@ -153,7 +156,7 @@ impl<R: rt::Files> DiskFiles<R> {
         old: Option<&Metadata>,
         bytes: &[u8],
     ) -> io::Result<()> {
-        let filled = self.fill(file, old, bytes);
+        let filled = fill(file, old, bytes);
         let renamed = match filled {
             Ok(()) => fs::rename(&self.runtime, beside, path),
             Err(error) => Err(error),
@@ -222,7 +225,8 @@ fn read_all<F: Read + OpenFile>(
     file: &mut F,
     max: usize,
 ) -> Result<FileRead, AllocError>
-    ensures { IfOk result (λ answer. IsWithin max answer) }
+    ensures within { IfOk result (λ answer. IsWithin max answer) }
+    ensures whole { IfOk result (λ answer. IsWhole (F.remaining file.old) answer) }
 {
     let Ok(data) = file.metadata() else {
         return Ok(FileRead::Failed);
