@@ -65,7 +65,7 @@ impl<J: Job> Handle<J> for Thread<J> {
     ghost let_go = { λ t. t.let_go };
 
     fn settle<R: Threads>(&mut self, rt: &R) -> bool {
-        if !self.spent.is_set() {
+        if matches!(self.run, Some(Running::There(_))) && !self.spent.is_set() {
             return false;
         }
         let Some(run) = self.run.take() else {

@@ -15,32 +15,32 @@ pub enum Outcome<J, G> {
 
 /// Whether a job is spent: it was run, or recalled before it was run. Copies stand for the same job.
 #[derive(Drop)]
-pub struct Spent {
+pub(crate) struct Spent {
     spent: Arc<AtomicBool, Global>,
 }
 
 impl Spent {
     /// The job isn't spent yet.
-    pub fn new(alloc: Global) -> Result<Spent, AllocError> {
+    pub(crate) fn new(alloc: Global) -> Result<Spent, AllocError> {
         Ok(Spent {
             spent: Arc::new(alloc, AtomicBool::new(false))?,
         })
     }
 
     /// One more that stands for the same job.
-    pub fn share(&self) -> Result<Spent, AllocError> {
+    pub(crate) fn share(&self) -> Result<Spent, AllocError> {
         Ok(Spent {
             spent: Arc::try_clone(&self.spent)?,
         })
     }
 
     /// The job was run, or is recalled.
-    pub fn set(&self) {
+    pub(crate) fn set(&self) {
         self.spent.store(true, Ordering::SeqCst);
     }
 
     /// Whether the job is spent.
-    pub fn is_set(&self) -> bool {
+    pub(crate) fn is_set(&self) -> bool {
         self.spent.load(Ordering::SeqCst)
     }
 }

@@ -1,6 +1,6 @@
 //! A spawner that runs each job in a thread of its own.
 
-ghost use Rattle.std.specs.Prelude.{◌≡◌, Bool, true, map, IfOk, IsTrue};
+ghost use Rattle.std.specs.Prelude.{◌≡◌, Bool, map, IfOk, IsTrue};
 ghost use Rattle.jobs.specs.Meets.{Meet};
 ghost use Rattle.jobs.specs.Threads.{Begins};
 
@@ -29,10 +29,11 @@ pub trait Handle<J: Job>: Drop {
     // Whether its thread was let go.
     ghost let_go: { Self → Bool };
 
-    /// Tells whether the job has ended. Where it has, its thread is let go, and its result is kept.
+    /// Lets the thread go, and keeps the result, if the job has ended. Tells whether the thread is let go now.
     fn settle<R: Threads>(&mut self, rt: &R) -> bool
         ensures job { job self.new ≡ job self.old }
-        ensures ended { IsTrue result → let_go self.new ≡ true };
+        ensures ended { result ≡ let_go self.new }
+        ensures stays { IsTrue (let_go self.old) → IsTrue (let_go self.new) };
 
     /// Waits for the result.
     fn end<R: Threads + Wait>(self, rt: &R) -> J::Gives
