@@ -4,7 +4,7 @@
 
 pub mod examples;
 pub mod limits;
-pub mod pieces;
+mod pieces;
 pub mod reader;
 
 pub use limits::{MAX_INPUT, MAX_PIECE};

@@ -13,7 +13,7 @@ use std::sync::Wait;
 
 /// Bytes that were taken at once and not looked at yet, seen as their list.
 #[derive(Drop)]
-pub struct Piece {
+pub(crate) struct Piece {
     bytes: [u8; 4096],
     from: usize,
     to: usize,
@@ -31,7 +31,7 @@ impl Model for Piece {
 
 impl Piece {
     /// No bytes.
-    pub fn new() -> Piece
+    pub(crate) fn new() -> Piece
         ensures { result ≡ [] }
     {
         Piece {
@@ -42,14 +42,14 @@ impl Piece {
     }
 
     /// The bytes as a slice.
-    pub fn as_slice(&self) -> &[u8]
+    pub(crate) fn as_slice(&self) -> &[u8]
         ensures { result.now ≡ self.now }
     {
         &self.bytes[self.from..self.to]
     }
 
     /// Leaves out the first bytes.
-    pub fn skip(&mut self, count: usize)
+    pub(crate) fn skip(&mut self, count: usize)
         requires { count ≤ length self.old }
         ensures { self.new ≡ drop count self.old }
     {
@@ -57,7 +57,7 @@ impl Piece {
     }
 
     /// Takes the next bytes of a source in place of those here, at most so many.
-    pub fn fill<I: Source>(&mut self, source: &mut I, room: usize) -> Took
+    pub(crate) fn fill<I: Source>(&mut self, source: &mut I, room: usize) -> Took
         requires some { 0 < room }
         requires inside { room ≤ 4096 }
         ensures fills { Fills result (I.inlet source.old) (I.inlet source.new) room self.new }
@@ -77,7 +77,7 @@ impl Piece {
     }
 
     /// Receives the next bytes of a link in place of those here, at most so many.
-    pub fn hear<R: Wait, L: Link>(&mut self, rt: &R, link: &mut L, room: usize) -> Heard
+    pub(crate) fn hear<R: Wait, L: Link>(&mut self, rt: &R, link: &mut L, room: usize) -> Heard
         requires some { 0 < room }
         requires inside { room ≤ 4096 }
         ensures fills { FillsFrom result (L.wire link.old) (L.wire link.new) room self.new }
