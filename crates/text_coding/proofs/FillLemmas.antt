@@ -1,9 +1,9 @@
 -- The lines that characters which came one behind another are.
-use Rattle.std.proofs.Common.{◌≡◌, ◌≢◌, ℕ, zero, suc, ◌+◌, ◌-◌, ◌<◌, ◌≤◌, take, drop, slice_range, get_or, ap₂, length-drop, get_or-drop, length-take-le, get_or-take, false, ◌==◌, List, [], ◌∷◌, ◌++◌, length, All, append_assoc, append-nil, refl, sym, ap, subst, ◌∙◌, arith}
+use Rattle.std.proofs.Common.{◌≡◌, ◌≢◌, ℕ, zero, suc, ◌+◌, ◌-◌, ◌<◌, take, slice_index, get_or, length-take-le, get_or-take, false, ◌==◌, List, [], ◌∷◌, ◌++◌, length, All, append_assoc, append-nil, refl, sym, ap, subst, ◌∙◌, arith}
+use Rattle.std.proofs.lemmas.List.{take_more, take_all}
+use Rattle.std.proofs.lemmas.Grind.{get_or_default_zero}
 use Rattle.std.proofs.lemmas.List.Elements.{All-append, All-head, All-tail}
 use Rattle.std.proofs.lemmas.Bool.Decides.{nat_tests}
-use Rattle.std.proofs.Math.Seq.{take-add}
-use Rattle.std.proofs.lemmas.Grind.{get_or_default_zero}
 use Rattle.text_model.specs.Texts.{IsText, IsLine}
 use Rattle.text_model.specs.Changes.{ended}
 use Rattle.text_model.proofs.ChangeLemmas.{ended-text, ended-other, text_ends, IsText-append}
@@ -18,7 +18,7 @@ IsOpen cs = All (λ c. c ≢ 10) cs
 pub test-false : (a b : ℕ) → a ≢ b → (a == b) ≡ false
 test-false a b apart = grind (arith, nat_tests)
 
-one-open : (c : ℕ) → c ≢ 10 → IsOpen (c ∷ [])
+pub one-open : (c : ℕ) → c ≢ 10 → IsOpen (c ∷ [])
 one-open c other zero d lt = other
 one-open c other (suc k) d lt = absurd (omega (arith, lt))
 
@@ -75,17 +75,20 @@ whole-alone lines line text none h e =
     let same : lines ++ line ≡ lines = ap (λ l. lines ++ l) none ∙ append-nil lines in
     e ∙ sym (ended-text lines (text_ends lines h)) ∙ sym (ap ended same)
 
--- one more line taken from a text
-pub line-taken : (text line old new : List ℕ) (start after i : ℕ) → start ≤ i → old ≡ take start text → line ≡ slice_range text start (i + 1) → new ≡ old ++ line → after ≡ i + 1 → new ≡ take after text
-line-taken text line old new start after i h before here added a =
-    let n : ℕ = i + 1 - start in
-    let sum : start + n ≡ i + 1 = omega arith in
-    added ∙ ap₂ (λ x y. x ++ y) before here ∙ sym (take-add start n text) ∙ ap (λ m. take m text) (sum ∙ sym a)
+-- what stands before the end of a line
+abbrev pub run_of : List ℕ → List ℕ
+run_of line = take (length line - 1) line
 
--- what stands behind the last newline
-pub rest-open : (text : List ℕ) (start n : ℕ) → length text ≤ n → ((k : ℕ) → start ≤ k → k < n → get_or text k 0 ≢ 10) → IsOpen (slice_range text start (length text))
-rest-open text start n all none k d lt =
-    let m : ℕ = length text - start in
-    let long : length (take m (drop start text)) ≡ m = length-take-le m (drop start text) (omega (arith, length-drop start text)) in
-    let inside : k < m = omega (arith, lt, long) in
-    λ e. none (start + k) (omega arith) (omega (arith, inside)) (sym (get_or-drop start text k 0) ∙ sym (get_or-take m (drop start text) k 0 inside) ∙ sym (get_or_default_zero (take m (drop start text)) k d lt) ∙ e)
+pub run-open : (line : List ℕ) → IsLine line → IsOpen (run_of line)
+run-open line h k d lt =
+    let n : ℕ = length line - 1 in
+    let short : length (run_of line) ≡ n = length-take-le n line (omega arith) in
+    let inside : k < n = omega (arith, lt, short) in
+    let read : get_or (run_of line) k d ≡ slice_index line k = get_or_default_zero (run_of line) k d lt ∙ get_or-take n line k 0 inside in
+    λ e. h.only k (omega (arith, inside)) (sym read ∙ e)
+
+pub run-end : (line : List ℕ) → IsLine line → line ≡ run_of line ++ 10 ∷ []
+run-end line h =
+    let n : ℕ = length line - 1 in
+    let all : n + 1 ≡ length line = omega (arith, h.some) in
+    sym (take_all (n + 1) line (omega (arith, all))) ∙ take_more line n 0 (omega (arith, all)) ∙ ap (λ x. run_of line ++ x ∷ []) h.ended

@@ -1,6 +1,7 @@
 //! Texts from the bytes of files.
 
-ghost use Rattle.std.specs.Prelude.{◌≡◌, ◌+◌, ◌^◌, ◌<◌, ◌≤◌, ℕ, List, ◌++◌, ◌∷◌, [], false, length, chars, IfOk, OnOk, IsTrue};
+ghost use Rattle.std.specs.Prelude.{◌≡◌, ◌≢◌, ◌+◌, ◌^◌, ◌<◌, ◌≤◌, ℕ, List, ◌++◌, ◌∷◌, [], None, false, length, chars, All, IfOk, IfSome, OnOk, IsTrue};
+ghost use Rattle.text_model.specs.Texts.{IsLine};
 ghost use Rattle.text_model.specs.Changes.{ended};
 ghost use Rattle.text_coding.specs.Coding.{mark_of, bom_of, body, eol_of, from_form, text_from, without_returns, fitting, loaded, IsDecoded};
 ghost use Rattle.text_coding.specs.Surveying.{IsSurvey, last_of, waiting};
@@ -9,6 +10,7 @@ use crate::filling::Filling;
 use crate::form::{Bom, DecodeError, Eol, Loaded};
 use kak_text::MAX_CHARS;
 use line_buffer::{Lines, LinesError};
+use memchr::memchr;
 use std::alloc::Global;
 
 // The mark of the byte order in UTF-8.
@@ -149,10 +151,50 @@ fn push_joined(
     filling.push(alloc, c)
 }
 
+// Parts some bytes behind their first newline, if they have one.
+fn first_line(bytes: &[u8]) -> Option<(&[u8], &[u8])>
+    ensures line { IfSome result (λ parts. IsLine parts.0.now) }
+    ensures whole { IfSome result (λ parts. bytes.now ≡ parts.0.now ++ parts.1.now) }
+    ensures none { result ≡ None → All (λ b. b ≢ 10) bytes.now }
+{
+    let newline = memchr(b'\n', bytes)?;
+    Some(bytes.split_at(newline + 1))
+}
+
+// A line without its end: its newline, and the return before it, if there is one.
+fn without_end(line: &[u8]) -> &[u8]
+    requires { IsLine line.now }
+    ensures open { All (λ b. b ≢ 10) result.now }
+    ensures same { (rest : List ℕ) → without_returns (line.now ++ rest) ≡ result.now ++ 10 ∷ without_returns rest }
+{
+    let run = &line[..line.len() - 1];
+    let Some((last, front)) = run.split_last() else {
+        return run;
+    };
+    if *last == b'\r' { front } else { run }
+}
+
+// Characters that are bytes, without the returns that stand before newlines. Each line is copied at once.
+fn joined_ascii(alloc: Global, bytes: &[u8]) -> Result<Filling, LinesError>
+    ensures { IfOk result (λ filling. filling ≡ without_returns bytes.now) }
+{
+    let mut filling = Filling::new(alloc);
+    let mut rest = bytes;
+    while let Some((line, behind)) = first_line(rest) {
+        filling = filling.with_run(without_end(line))?;
+        filling.push(alloc, '\n')?;
+        rest = behind;
+    }
+    Ok(filling.with_run(rest)?)
+}
+
 // The characters of a file without the returns that stand before newlines.
 fn joined_chars(alloc: Global, text: &str) -> Result<Filling, LinesError>
     ensures { IfOk result (λ filling. filling ≡ without_returns (chars text.now)) }
 {
+    if text.is_ascii() {
+        return joined_ascii(alloc, text.as_bytes());
+    }
     let mut filling = Filling::new(alloc);
     let mut before = '\0';
     for c in text.chars() {
@@ -168,14 +210,12 @@ fn ascii_chars(alloc: Global, bytes: &[u8]) -> Result<Filling, LinesError>
     ensures { IfOk result (λ filling. filling ≡ bytes.now) }
 {
     let mut filling = Filling::new(alloc);
-    let mut start = 0;
-    for (i, b) in bytes.iter().enumerate() {
-        if *b == b'\n' {
-            filling = filling.with_line(alloc, &bytes[start..i + 1])?;
-            start = i + 1;
-        }
+    let mut rest = bytes;
+    while let Some((line, behind)) = first_line(rest) {
+        filling = filling.with_line(alloc, line)?;
+        rest = behind;
     }
-    Ok(filling.with_run(&bytes[start..])?)
+    Ok(filling.with_run(rest)?)
 }
 
 // The characters of a file.

@@ -1,6 +1,8 @@
 use Rattle.std.proofs.Common.{sym, ap, ◌∙◌, map-id}
 use Rattle.std.proofs.lemmas.Iterator.{YieldsList-from_chars}
 use Rattle.std.proofs.lemmas.Iterator.Consumers.{YieldsList-end}
+use Rattle.std.proofs.lemmas.Result.{IfOk-weaker}
+use Rattle.std.proofs.lemmas.Str.{chars-IsAscii}
 use Rattle.text_coding.specs.Coding.{without_returns}
 use Rattle.text_coding.proofs.FormLemmas.{last-push}
 use Rattle.text_coding.proofs.decoding.joined_chars.Goals as goal
@@ -12,3 +14,6 @@ pub returns : goal.returns
 returns c =
     let end = YieldsList-end (YieldsList-from_chars c.args.text.now c.utf8.text cc) c.loop-c.yielded _ c.loop-c.yielded_by _ _ c.in-None.is c.next.ensures.steps in
     c.in_ok-release.ensures ∙ sym c.loop-c.invariant.0 ∙ ap without_returns (sym (map-id c.loop-c.yielded) ∙ end.0)
+
+pub returns-then-is_ascii : goal.returns-then-is_ascii
+returns-then-is_ascii c = IfOk-weaker c.joined_ascii.result _ _ (λ filling held. held ∙ ap without_returns (c.as_bytes.ensures.value ∙ sym (chars-IsAscii c.args.text.now c.if-is_ascii.ensures.cases))) c.joined_ascii.ensures

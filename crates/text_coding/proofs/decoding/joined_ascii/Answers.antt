@@ -1,0 +1,6 @@
+use Rattle.std.proofs.Common.{refl, sym, ap, ◌∙◌, ◌++◌}
+use Rattle.text_coding.proofs.ReturnLemmas.{kept-open}
+use Rattle.text_coding.proofs.decoding.joined_ascii.Goals as goal
+
+pub returns : goal.returns
+returns c = c.in_ok-with_run.ensures ∙ sym (c.loop-line.invariant ∙ ap (λ r. c.loop-line.filling ++ r) (kept-open c.loop-line.rest.now (c.in_default.ensures.none refl)))
