@@ -21,7 +21,7 @@ const MAX_LINKS: usize = 40;
 const MAX_TRIES: usize = 1000;
 
 // How many bytes one read asks for.
-const CHUNK_BYTES: usize = 8192;
+const CHUNK_BYTES: usize = 65_536;
 
 /// The files of a runtime, which for that of the host are those of the disk. They tell nothing of what they hold.
 ///
