@@ -1,7 +1,5 @@
 -- The lines that characters which came one behind another are.
-use Rattle.std.proofs.Common.{◌≡◌, ◌≢◌, ℕ, zero, suc, ◌+◌, ◌-◌, ◌<◌, take, slice_index, get_or, length-take-le, get_or-take, false, ◌==◌, List, [], ◌∷◌, ◌++◌, length, All, append_assoc, append-nil, refl, sym, ap, subst, ◌∙◌, arith}
-use Rattle.std.proofs.lemmas.List.{take_more, take_all}
-use Rattle.std.proofs.lemmas.Grind.{get_or_default_zero}
+use Rattle.std.proofs.Common.{◌≡◌, ◌≢◌, ℕ, zero, suc, ◌<◌, false, ◌==◌, List, [], ◌∷◌, ◌++◌, length, All, append_assoc, append-nil, refl, sym, ap, subst, ◌∙◌, arith}
 use Rattle.std.proofs.lemmas.List.Elements.{All-append, All-head, All-tail}
 use Rattle.std.proofs.lemmas.Bool.Decides.{nat_tests}
 use Rattle.text_model.specs.Texts.{IsText, IsLine}
@@ -74,21 +72,3 @@ pub whole-alone : (lines line text : List ℕ) → line ≡ [] → IsText lines 
 whole-alone lines line text none h e =
     let same : lines ++ line ≡ lines = ap (λ l. lines ++ l) none ∙ append-nil lines in
     e ∙ sym (ended-text lines (text_ends lines h)) ∙ sym (ap ended same)
-
--- what stands before the end of a line
-abbrev pub run_of : List ℕ → List ℕ
-run_of line = take (length line - 1) line
-
-pub run-open : (line : List ℕ) → IsLine line → IsOpen (run_of line)
-run-open line h k d lt =
-    let n : ℕ = length line - 1 in
-    let short : length (run_of line) ≡ n = length-take-le n line (omega arith) in
-    let inside : k < n = omega (arith, lt, short) in
-    let read : get_or (run_of line) k d ≡ slice_index line k = get_or_default_zero (run_of line) k d lt ∙ get_or-take n line k 0 inside in
-    λ e. h.only k (omega (arith, inside)) (sym read ∙ e)
-
-pub run-end : (line : List ℕ) → IsLine line → line ≡ run_of line ++ 10 ∷ []
-run-end line h =
-    let n : ℕ = length line - 1 in
-    let all : n + 1 ≡ length line = omega (arith, h.some) in
-    sym (take_all (n + 1) line (omega (arith, all))) ∙ take_more line n 0 (omega (arith, all)) ∙ ap (λ x. run_of line ++ x ∷ []) h.ended

@@ -1,11 +1,11 @@
 -- Characters without the returns that stand before newlines, a line at a time.
-use Rattle.text_model.specs.Texts.{IsLine}
-use Rattle.std.proofs.Common.{◌≡◌, ◌≢◌, ℕ, arith, Bool, true, false, cond, ◌&&◌, ◌==◌, List, [], ◌∷◌, ◌++◌, refl, sym, ap, subst, ◌∙◌, append_assoc}
+use Rattle.std.proofs.Common.{◌≡◌, ◌≢◌, ℕ, arith, Bool, true, false, cond, ◌&&◌, ◌==◌, List, [], ◌∷◌, ◌++◌, refl, sym, ap, subst, ◌∙◌, append_assoc, append-nil, ◌||◌, true≢false}
 use Rattle.std.proofs.lemmas.List.Elements.{All-append, All-head, All-tail}
-use Rattle.text_coding.specs.Coding.{begins_newline, without_returns}
+use Rattle.text_coding.specs.declared.form.Eol.TheVariants.{Lf, Crlf}
+use Rattle.text_coding.specs.Coding.{begins_newline, without_returns, has_newline, each_returned, eol_of}
 use Rattle.text_coding.specs.Surveying.{last_of}
 use Rattle.text_coding.proofs.FormLemmas.{last-push}
-use Rattle.text_coding.proofs.FillLemmas.{IsOpen, one-open, test-false, run_of, run-open, run-end}
+use Rattle.text_coding.proofs.FillLemmas.{IsOpen, one-open, test-false}
 
 and-false : (x : Bool) → (x && false) ≡ false
 and-false true = refl
@@ -46,20 +46,63 @@ plain-run (c ∷ (d ∷ ds)) rest h other =
     let more : IsOpen (d ∷ ds) = All-tail (λ x. x ≢ 10) c (d ∷ ds) h in
     kept-front c (d ∷ (ds ++ 10 ∷ rest)) (test-false d 10 (All-head (λ x. x ≢ 10) d ds more)) ∙ ap (λ t. c ∷ t) (plain-run (d ∷ ds) rest more other)
 
--- A line by what stands before its newline, of which the last character is a return, or is none.
-pub returned-line : (line front rest : List ℕ) → IsLine line → run_of line ≡ front ++ 13 ∷ [] → without_returns (line ++ rest) ≡ front ++ 10 ∷ without_returns rest
-returned-line line front rest h split =
-    let whole : line ++ rest ≡ front ++ 13 ∷ (10 ∷ rest) = ap (λ l. l ++ rest) (run-end line h ∙ ap (λ r. r ++ 10 ∷ []) split) ∙ append_assoc (front ++ 13 ∷ []) (10 ∷ []) rest ∙ append_assoc front (13 ∷ []) (10 ∷ rest) in
-    ap without_returns whole ∙ returned-run front rest (front-open front (13 ∷ []) (subst IsOpen split (run-open line h)))
+-- What stands before a newline, of which the last character is a return, or is none.
+pub returned-end : (run front rest : List ℕ) → IsOpen run → run ≡ front ++ 13 ∷ [] → without_returns (run ++ 10 ∷ rest) ≡ front ++ 10 ∷ without_returns rest
+returned-end run front rest h split =
+    ap (λ r. without_returns (r ++ 10 ∷ rest)) split ∙ ap without_returns (append_assoc front (13 ∷ []) (10 ∷ rest)) ∙ returned-run front rest (front-open front (13 ∷ []) (subst IsOpen split h))
 
-pub plain-line : (line rest : List ℕ) → IsLine line → last_of 0 (run_of line) ≢ 13 → without_returns (line ++ rest) ≡ run_of line ++ 10 ∷ without_returns rest
-plain-line line rest h other =
-    ap (λ l. without_returns (l ++ rest)) (run-end line h) ∙ ap without_returns (append_assoc (run_of line) (10 ∷ []) rest) ∙ plain-run (run_of line) rest (run-open line h) other
+pub plain-end : (run front rest : List ℕ) (c : ℕ) → IsOpen run → run ≡ front ++ c ∷ [] → c ≢ 13 → without_returns (run ++ 10 ∷ rest) ≡ run ++ 10 ∷ without_returns rest
+plain-end run front rest c h split other = plain-run run rest h (λ e. other (sym (last-push 0 front c) ∙ sym (ap (last_of 0) split) ∙ e))
 
-pub unreturned : (run front : List ℕ) (c : ℕ) → run ≡ front ++ c ∷ [] → c ≢ 13 → last_of 0 run ≢ 13
-unreturned run front c split other e = other (sym (last-push 0 front c) ∙ sym (ap (last_of 0) split) ∙ e)
+-- returns before newlines, of what stands before a newline and of what stands behind it
+each-open : (b : ℕ) (run rest : List ℕ) → IsOpen run → each_returned b (run ++ rest) ≡ each_returned (last_of b run) rest
+each-open b [] rest h = refl
+each-open b (c ∷ cs) rest h =
+    ap (λ t. cond t (b == 13) true && each_returned c (cs ++ rest)) (test-false c 10 (All-head (λ x. x ≢ 10) c cs h)) ∙ each-open c cs rest (All-tail (λ x. x ≢ 10) c cs h)
 
-pub empty-run : (run : List ℕ) → run ≡ [] → last_of 0 run ≢ 13
-empty-run run none e = zero-other (sym (ap (last_of 0) none) ∙ e) where
-  zero-other : ◌≢◌ {A = ℕ} 0 13
-  zero-other z = absurd (omega (arith, z))
+each-behind : (rest : List ℕ) → each_returned 10 rest ≡ each_returned 0 rest
+each-behind [] = refl
+each-behind (c ∷ cs) = refl
+
+each-line : (run rest : List ℕ) → IsOpen run → each_returned 0 (run ++ 10 ∷ rest) ≡ (last_of 0 run == 13) && each_returned 0 rest
+each-line run rest h = each-open 0 run (10 ∷ rest) h ∙ ap (λ r. (last_of 0 run == 13) && r) (each-behind rest)
+
+has-line : (run rest : List ℕ) → has_newline (run ++ 10 ∷ rest) ≡ true
+has-line [] rest = refl
+has-line (c ∷ cs) rest = ap (λ t. (c == 10) || t) (has-line cs rest) ∙ or-true (c == 10) where
+  or-true : (x : Bool) → (x || true) ≡ true
+  or-true true = refl
+  or-true false = refl
+
+has-none : (cs : List ℕ) → IsOpen cs → has_newline cs ≡ false
+has-none [] h = refl
+has-none (c ∷ cs) h = ap (λ t. t || has_newline cs) (test-false c 10 (All-head (λ x. x ≢ 10) c cs h)) ∙ has-none cs (All-tail (λ x. x ≢ 10) c cs h)
+
+each-none : (cs : List ℕ) → IsOpen cs → each_returned 0 cs ≡ true
+each-none cs h = ap (each_returned 0) (sym (append-nil cs)) ∙ each-open 0 cs [] h
+
+-- How far the ends of lines are gone over: all newlines so far have returns, and whether there was one.
+pub record Ends (newline : Bool) (bytes rest : List ℕ) : Type 0 where
+  pub each : each_returned 0 bytes ≡ each_returned 0 rest
+  pub some : newline ≡ true → has_newline bytes ≡ true
+  pub none : newline ≡ false → bytes ≡ rest
+
+has-kept : (newline : Bool) (bytes run rest behind : List ℕ) → Ends newline bytes rest → rest ≡ run ++ 10 ∷ behind → has_newline bytes ≡ true
+has-kept true bytes run rest behind e split = e.some refl
+has-kept false bytes run rest behind e split = ap has_newline (e.none refl ∙ split) ∙ has-line run behind
+
+pub ends-more : (newline : Bool) (bytes run rest behind : List ℕ) → Ends newline bytes rest → rest ≡ run ++ 10 ∷ behind → IsOpen run → (last_of 0 run == 13) ≡ true → Ends true bytes behind
+ends-more newline bytes run rest behind e split h returned = record {
+  each = e.each ∙ ap (each_returned 0) split ∙ each-line run behind h ∙ ap (λ t. t && each_returned 0 behind) returned;
+  some = λ now. has-kept newline bytes run rest behind e split;
+  none = λ now. absurd (true≢false now);
+}
+
+pub ends-plain : (newline : Bool) (bytes run rest behind : List ℕ) → Ends newline bytes rest → rest ≡ run ++ 10 ∷ behind → IsOpen run → (last_of 0 run == 13) ≡ false → Lf ≡ eol_of bytes
+ends-plain newline bytes run rest behind e split h plain =
+    let no : each_returned 0 bytes ≡ false = e.each ∙ ap (each_returned 0) split ∙ each-line run behind h ∙ ap (λ t. t && each_returned 0 behind) plain in
+    sym (ap (λ t. cond (has_newline bytes && t) Crlf Lf) no ∙ ap (λ t. cond t Crlf Lf) (and-false (has_newline bytes)))
+
+pub ends-all : (newline : Bool) (bytes rest : List ℕ) → Ends newline bytes rest → IsOpen rest → cond newline Crlf Lf ≡ eol_of bytes
+ends-all true bytes rest e h = sym (ap (λ t. cond (t && each_returned 0 bytes) Crlf Lf) (e.some refl) ∙ ap (λ t. cond t Crlf Lf) (e.each ∙ each-none rest h))
+ends-all false bytes rest e h = sym (ap (λ t. cond (t && each_returned 0 bytes) Crlf Lf) (ap has_newline (e.none refl) ∙ has-none rest h))

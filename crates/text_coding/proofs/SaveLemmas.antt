@@ -1,10 +1,11 @@
 -- What a text is saved as, one part after another.
-use Rattle.std.proofs.Common.{◌≡◌, ◌≢◌, ℕ, ◌+◌, ◌<◌, ◌≤◌, Bool, true, false, cond, ◌==◌, List, [], ◌∷◌, ◌++◌, length, get_or, take, refl, sym, ap, ap₂, ◌∙◌, append_assoc, encode_utf8, encode_utf8_all}
+use Rattle.std.proofs.Common.{◌≡◌, ◌≢◌, ℕ, ◌+◌, ◌-◌, ◌<◌, ◌≤◌, Bool, true, false, cond, ◌==◌, List, [], ◌∷◌, ◌++◌, length, get_or, take, slice_index, refl, sym, ap, ap₂, ◌∙◌, arith, append_assoc, encode_utf8, encode_utf8_all, length-take-le, get_or-take}
 use Rattle.std.proofs.lemmas.Str.{encodes-append}
-use Rattle.std.proofs.lemmas.List.{append-nil, take_more}
+use Rattle.std.proofs.lemmas.List.{append-nil, take_more, take_all}
 use Rattle.std.proofs.lemmas.List.Elements.{All-head, All-tail}
+use Rattle.std.proofs.lemmas.Grind.{get_or_default_zero}
 use Rattle.text_model.specs.Texts.{joined, lines_of, IsLine}
-use Rattle.text_coding.proofs.FillLemmas.{IsOpen, test-false, run_of, run-open, run-end}
+use Rattle.text_coding.proofs.FillLemmas.{IsOpen, test-false}
 use Rattle.line_buffer.proofs.FlatLemmas.{joined-more, joined-all}
 use Rattle.text_coding.specs.declared.form.Eol.{Eol}
 use Rattle.text_coding.specs.declared.form.Eol.TheVariants.{Lf, Crlf}
@@ -42,6 +43,24 @@ with-open (c ∷ cs) h =
 form-open : (eol : Eol) (cs : List ℕ) → IsOpen cs → to_form eol cs ≡ cs
 form-open Lf cs h = refl
 form-open Crlf cs h = with-open cs h
+
+-- what stands before the end of a line
+abbrev pub run_of : List ℕ → List ℕ
+run_of line = take (length line - 1) line
+
+run-open : (line : List ℕ) → IsLine line → IsOpen (run_of line)
+run-open line h k d lt =
+    let n : ℕ = length line - 1 in
+    let short : length (run_of line) ≡ n = length-take-le n line (omega arith) in
+    let inside : k < n = omega (arith, lt, short) in
+    let read : get_or (run_of line) k d ≡ slice_index line k = get_or_default_zero (run_of line) k d lt ∙ get_or-take n line k 0 inside in
+    λ e. h.only k (omega (arith, inside)) (sym read ∙ e)
+
+run-end : (line : List ℕ) → IsLine line → line ≡ run_of line ++ 10 ∷ []
+run-end line h =
+    let n : ℕ = length line - 1 in
+    let all : n + 1 ≡ length line = omega (arith, h.some) in
+    sym (take_all (n + 1) line (omega (arith, all))) ∙ take_more line n 0 (omega (arith, all)) ∙ ap (λ x. run_of line ++ x ∷ []) h.ended
 
 -- the bytes of a line are those of what stands before its end, and those of the end
 pub coded-line : (eol : Eol) (line run old mid new : List ℕ) → IsLine line → run ≡ run_of line → mid ≡ old ++ encode_utf8_all run → new ≡ mid ++ encode_utf8_all (to_form eol (10 ∷ [])) → new ≡ old ++ encode_utf8_all (to_form eol line)

@@ -1,7 +1,6 @@
 //! Texts from the bytes of files.
 
-ghost use Rattle.std.specs.Prelude.{◌≡◌, ◌≢◌, ◌+◌, ◌^◌, ◌<◌, ◌≤◌, ℕ, List, ◌++◌, ◌∷◌, [], None, false, length, chars, All, IfOk, IfSome, OnOk, IsTrue};
-ghost use Rattle.text_model.specs.Texts.{IsLine};
+ghost use Rattle.std.specs.Prelude.{◌≡◌, ◌≢◌, ◌==◌, ◌+◌, ◌^◌, ◌<◌, ◌≤◌, ℕ, List, ◌++◌, ◌∷◌, [], None, false, length, chars, All, IfOk, IfSome, OnOk, IsTrue, IsAscii};
 ghost use Rattle.text_model.specs.Changes.{ended};
 ghost use Rattle.text_coding.specs.Coding.{mark_of, bom_of, body, eol_of, from_form, text_from, without_returns, fitting, loaded, IsDecoded};
 ghost use Rattle.text_coding.specs.Surveying.{IsSurvey, last_of, waiting};
@@ -102,10 +101,50 @@ fn is_too_long(text: &str, eol: Eol) -> bool
     survey_of(text).text_len(eol) > MAX_CHARS
 }
 
+// Parts some bytes at their first newline, if they have one.
+fn first_line(bytes: &[u8]) -> Option<(&[u8], &[u8])>
+    ensures open { IfSome result (λ parts. All (λ b. b ≢ 10) parts.0.now) }
+    ensures whole { IfSome result (λ parts. bytes.now ≡ parts.0.now ++ 10 ∷ parts.1.now) }
+    ensures none { result ≡ None → All (λ b. b ≢ 10) bytes.now }
+{
+    let newline = memchr(b'\n', bytes)?;
+    Some((&bytes[..newline], &bytes[newline + 1..]))
+}
+
+// Whether a return stands at the end.
+fn ends_in_return(run: &[u8]) -> bool
+    ensures { result ≡ (last_of 0 run.now == 13) }
+{
+    match run.split_last() {
+        Some((last, _)) => *last == b'\r',
+        None => false,
+    }
+}
+
+// How the lines of a file end whose characters are bytes. It is gone over up to the first newline without a return.
+fn ascii_eol(bytes: &[u8]) -> Eol
+    ensures { result ≡ eol_of bytes.now }
+{
+    let mut newline = false;
+    let mut rest = bytes;
+    while let Some((run, behind)) = first_line(rest) {
+        if !ends_in_return(run) {
+            return Eol::Lf;
+        }
+        newline = true;
+        rest = behind;
+    }
+    if newline { Eol::Crlf } else { Eol::Lf }
+}
+
 // How the lines of a file end. It is gone over up to the first newline without a return.
-fn eol_of(text: &str) -> Eol
+fn eol_of(text: &str, ascii: bool) -> Eol
+    requires { IsTrue ascii → IsAscii text.now }
     ensures { result ≡ eol_of (chars text.now) }
 {
+    if ascii {
+        return ascii_eol(text.as_bytes());
+    }
     let mut before = '\0';
     let mut newline = false;
     for c in text.chars() {
@@ -151,23 +190,12 @@ fn push_joined(
     filling.push(alloc, c)
 }
 
-// Parts some bytes behind their first newline, if they have one.
-fn first_line(bytes: &[u8]) -> Option<(&[u8], &[u8])>
-    ensures line { IfSome result (λ parts. IsLine parts.0.now) }
-    ensures whole { IfSome result (λ parts. bytes.now ≡ parts.0.now ++ parts.1.now) }
-    ensures none { result ≡ None → All (λ b. b ≢ 10) bytes.now }
-{
-    let newline = memchr(b'\n', bytes)?;
-    Some(bytes.split_at(newline + 1))
-}
-
-// A line without its end: its newline, and the return before it, if there is one.
-fn without_end(line: &[u8]) -> &[u8]
-    requires { IsLine line.now }
+// What stands before a newline, without a return at its end.
+fn without_return(run: &[u8]) -> &[u8]
+    requires { All (λ b. b ≢ 10) run.now }
     ensures open { All (λ b. b ≢ 10) result.now }
-    ensures same { (rest : List ℕ) → without_returns (line.now ++ rest) ≡ result.now ++ 10 ∷ without_returns rest }
+    ensures same { (rest : List ℕ) → without_returns (run.now ++ 10 ∷ rest) ≡ result.now ++ 10 ∷ without_returns rest }
 {
-    let run = &line[..line.len() - 1];
     let Some((last, front)) = run.split_last() else {
         return run;
     };
@@ -180,8 +208,8 @@ fn joined_ascii(alloc: Global, bytes: &[u8]) -> Result<Filling, LinesError>
 {
     let mut filling = Filling::new(alloc);
     let mut rest = bytes;
-    while let Some((line, behind)) = first_line(rest) {
-        filling = filling.with_run(without_end(line))?;
+    while let Some((run, behind)) = first_line(rest) {
+        filling = filling.with_run(without_return(run))?;
         filling.push(alloc, '\n')?;
         rest = behind;
     }
@@ -189,10 +217,11 @@ fn joined_ascii(alloc: Global, bytes: &[u8]) -> Result<Filling, LinesError>
 }
 
 // The characters of a file without the returns that stand before newlines.
-fn joined_chars(alloc: Global, text: &str) -> Result<Filling, LinesError>
+fn joined_chars(alloc: Global, text: &str, ascii: bool) -> Result<Filling, LinesError>
+    requires { IsTrue ascii → IsAscii text.now }
     ensures { IfOk result (λ filling. filling ≡ without_returns (chars text.now)) }
 {
-    if text.is_ascii() {
+    if ascii {
         return joined_ascii(alloc, text.as_bytes());
     }
     let mut filling = Filling::new(alloc);
@@ -211,18 +240,20 @@ fn ascii_chars(alloc: Global, bytes: &[u8]) -> Result<Filling, LinesError>
 {
     let mut filling = Filling::new(alloc);
     let mut rest = bytes;
-    while let Some((line, behind)) = first_line(rest) {
-        filling = filling.with_line(alloc, line)?;
+    while let Some((run, behind)) = first_line(rest) {
+        filling = filling.with_run(run)?;
+        filling.push(alloc, '\n')?;
         rest = behind;
     }
     Ok(filling.with_run(rest)?)
 }
 
 // The characters of a file.
-fn plain_chars(alloc: Global, text: &str) -> Result<Filling, LinesError>
+fn plain_chars(alloc: Global, text: &str, ascii: bool) -> Result<Filling, LinesError>
+    requires { IsTrue ascii → IsAscii text.now }
     ensures { IfOk result (λ filling. filling ≡ chars text.now) }
 {
-    if text.is_ascii() {
+    if ascii {
         return ascii_chars(alloc, text.as_bytes());
     }
     let mut filling = Filling::new(alloc);
@@ -233,12 +264,13 @@ fn plain_chars(alloc: Global, text: &str) -> Result<Filling, LinesError>
 }
 
 // The lines of the text of a file whose lines end so.
-fn text_lines(alloc: Global, text: &str, eol: Eol) -> Result<Lines, LinesError>
+fn text_lines(alloc: Global, text: &str, ascii: bool, eol: Eol) -> Result<Lines, LinesError>
+    requires { IsTrue ascii → IsAscii text.now }
     ensures { IfOk result (λ lines. lines ≡ ended (from_form eol (chars text.now))) }
 {
     let filling = match eol {
-        Eol::Lf => plain_chars(alloc, text)?,
-        Eol::Crlf => joined_chars(alloc, text)?,
+        Eol::Lf => plain_chars(alloc, text, ascii)?,
+        Eol::Crlf => joined_chars(alloc, text, ascii)?,
     };
     filling.finish(alloc)
 }
@@ -280,11 +312,12 @@ fn load_text(alloc: Global, text: &str, bom: Bom) -> Result<Loaded, DecodeError>
     requires { length text.now + 1 < 2 ^ 64 }
     ensures { IsDecoded result (fitting (text_from (chars text.now)) (eol_of (chars text.now)) bom) }
 {
-    let eol = eol_of(text);
+    let ascii = text.is_ascii();
+    let eol = eol_of(text, ascii);
     if is_too_long(text, eol) {
         return Err(DecodeError::TextFull);
     }
-    match text_lines(alloc, text, eol) {
+    match text_lines(alloc, text, ascii, eol) {
         Ok(text) => Ok(Loaded { text, eol, bom }),
         Err(_) => Err(DecodeError::NoMemory),
     }

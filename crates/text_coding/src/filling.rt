@@ -2,7 +2,6 @@
 
 ghost use Rattle.std.specs.Prelude.{◌≡◌, ◌≢◌, ◌+◌, ◌++◌, ◌∷◌, [], ◌<◌, ◌≤◌, length, All, IfOk, OnOk, OnErr, IsErrOf, vec_len};
 ghost use Rattle.std.specs.Vec.{vec_capacity};
-ghost use Rattle.text_model.specs.Texts.{IsLine};
 ghost use Rattle.text_model.specs.declared.TheConstants.{MAX_CHARS};
 ghost use Rattle.text_model.specs.Changes.{ended};
 
@@ -107,24 +106,6 @@ impl Filling {
             lines,
             line: with_bytes(line, bytes),
         })
-    }
-
-    /// These characters with the bytes of a line behind them. `TextFull` comes only where they would be more than
-    /// `MAX_CHARS`.
-    pub fn with_line(self, alloc: Global, bytes: &[u8]) -> Result<Filling, LinesError>
-        requires line { IsLine bytes.now }
-        ensures filling { IfOk result (λ filling. filling ≡ self ++ bytes.now) }
-        ensures full { IsErrOf result LinesError.TextFull → MAX_CHARS < length (self ++ bytes.now) }
-    {
-        let Filling {
-            mut lines,
-            mut line,
-        } = self;
-        line.reserve(bytes.len())?;
-        let mut line = with_bytes(line, bytes);
-        lines.push(alloc, line.as_slice())?;
-        line.clear();
-        Ok(Filling { lines, line })
     }
 
     /// The lines of these characters, with a newline at the end where it lacks. `TextFull` comes only

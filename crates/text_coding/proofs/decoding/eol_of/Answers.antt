@@ -1,4 +1,6 @@
-use Rattle.std.proofs.Common.{chars, sym, ◌∙◌, map-id, refl}
+use Rattle.std.proofs.Common.{chars, sym, ap, ◌∙◌, map-id, refl}
+use Rattle.std.proofs.lemmas.Str.{chars-IsAscii}
+use Rattle.text_coding.specs.Coding.{eol_of}
 use Rattle.std.proofs.lemmas.Iterator.{YieldsList-from_chars}
 use Rattle.std.proofs.lemmas.Iterator.Consumers.{YieldsList-end, YieldsList-turn, YieldsList-so_far}
 use Rattle.text_coding.proofs.FormLemmas.{returned-other, returned-newline, ends-bare, ends-returned}
@@ -26,3 +28,6 @@ pub returns-else-newline : goal.returns-else-newline
 returns-else-newline c =
     let end = YieldsList-end (YieldsList-from_chars c.args.text.now c.utf8.text cc) c.loop-c.yielded _ c.loop-c.yielded_by _ _ c.in-None.is c.next.ensures.steps in
     ends-returned c.loop-c.newline c.loop-c.before c.loop-c.yielded _ _ c.loop-c.invariant (sym (map-id c.loop-c.yielded) ∙ end.0) (rw c.if-newline.false refl)
+
+pub returns-then-ascii : goal.returns-then-ascii
+returns-then-ascii c = c.ascii_eol.ensures ∙ ap eol_of (c.as_bytes.ensures.value ∙ sym (chars-IsAscii c.args.text.now (c.requires c.if-ascii.true)))

@@ -3,4 +3,4 @@ use Rattle.text_coding.proofs.ReturnLemmas.{kept-open}
 use Rattle.text_coding.proofs.decoding.joined_ascii.Goals as goal
 
 pub returns : goal.returns
-returns c = c.in_ok-with_run.ensures ∙ sym (c.loop-line.invariant ∙ ap (λ r. c.loop-line.filling ++ r) (kept-open c.loop-line.rest.now (c.in_default.ensures.none refl)))
+returns c = c.in_ok-with_run.ensures ∙ sym (c.loop-run.invariant ∙ ap (λ r. c.loop-run.filling ++ r) (kept-open c.loop-run.rest.now (c.in_default.ensures.none refl)))

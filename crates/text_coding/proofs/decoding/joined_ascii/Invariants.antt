@@ -3,8 +3,8 @@ use Rattle.text_coding.specs.Coding.{without_returns}
 use Rattle.text_coding.proofs.decoding.joined_ascii.Given as goal
 
 -- the lines so far are there, and the rest is to come
-abbrev pub invariant-loop-line : goal.invariant-loop-line
-invariant-loop-line l = without_returns l.bytes ≡ l.filling ++ without_returns l.rest
+abbrev pub invariant-loop-run : goal.invariant-loop-run
+invariant-loop-run l = without_returns l.bytes ≡ l.filling ++ without_returns l.rest
 
-abbrev pub decreases-loop-line : goal.decreases-loop-line
-decreases-loop-line l = length l.rest
+abbrev pub decreases-loop-run : goal.decreases-loop-run
+decreases-loop-run l = length l.rest

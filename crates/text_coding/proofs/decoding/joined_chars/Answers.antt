@@ -15,5 +15,5 @@ returns c =
     let end = YieldsList-end (YieldsList-from_chars c.args.text.now c.utf8.text cc) c.loop-c.yielded _ c.loop-c.yielded_by _ _ c.in-None.is c.next.ensures.steps in
     c.in_ok-release.ensures ∙ sym c.loop-c.invariant.0 ∙ ap without_returns (sym (map-id c.loop-c.yielded) ∙ end.0)
 
-pub returns-then-is_ascii : goal.returns-then-is_ascii
-returns-then-is_ascii c = IfOk-weaker c.joined_ascii.result _ _ (λ filling held. held ∙ ap without_returns (c.as_bytes.ensures.value ∙ sym (chars-IsAscii c.args.text.now c.if-is_ascii.ensures.cases))) c.joined_ascii.ensures
+pub returns-then-ascii : goal.returns-then-ascii
+returns-then-ascii c = IfOk-weaker c.joined_ascii.result _ _ (λ filling held. held ∙ ap without_returns (c.as_bytes.ensures.value ∙ sym (chars-IsAscii c.args.text.now (c.requires c.if-ascii.true)))) c.joined_ascii.ensures

@@ -5,8 +5,8 @@ use Rattle.std.proofs.lemmas.Result.{IfOk-weaker}
 use Rattle.std.proofs.lemmas.Str.{chars-IsAscii}
 use Rattle.text_coding.proofs.decoding.plain_chars.Goals as goal
 
-pub returns-then-is_ascii : goal.returns-then-is_ascii
-returns-then-is_ascii c = IfOk-weaker c.ascii_chars.result _ _ (λ filling held. held ∙ c.as_bytes.ensures.value ∙ sym (chars-IsAscii c.args.text.now c.if-is_ascii.ensures.cases)) c.ascii_chars.ensures
+pub returns-then-ascii : goal.returns-then-ascii
+returns-then-ascii c = IfOk-weaker c.ascii_chars.result _ _ (λ filling held. held ∙ c.as_bytes.ensures.value ∙ sym (chars-IsAscii c.args.text.now (c.requires c.if-ascii.true))) c.ascii_chars.ensures
 
 pub returns : goal.returns
 returns c =
