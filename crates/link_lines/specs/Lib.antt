@@ -1,3 +1,4 @@
+pub mod Talks
 pub mod Talking
 pub mod Endings
 pub mod Drawings

@@ -34,8 +34,8 @@ pub fn play_turns<R: Wait, S: LiveSeat, L: Link, G: Gate>(
     talk: &mut Talk,
 ) -> Result<InputEnd, Stop>
     requires ready { IsReady (S.seated seat.old) }
-    requires taken { talk.old.taken ≡ 0 }
-    requires pending { talk.old.pending ≡ [] }
+    requires taken { talk.old.reading.taken ≡ 0 }
+    requires pending { talk.old.reading.pending ≡ [] }
     ensures stays { Stays (S.seated seat.old) (S.seated seat.new) }
     ensures kept { S.kept seat.new ≡ S.kept seat.old }
     ensures whole { StaysWhole result (S.seated seat.old).mark (S.seated seat.new).mark }
@@ -80,8 +80,8 @@ pub fn play_link<R: Wait, S: LiveSeat, L: Link, G: Gate>(
 ) -> Result<InputEnd, Stop>
     requires ready { IsReady (S.seated seat.old) }
     requires new { own (rules S.gives) (S.seated seat.old).number (S.seated seat.old).seen ≡ Join ∷ [] }
-    requires taken { talk.old.taken ≡ 0 }
-    requires pending { talk.old.pending ≡ [] }
+    requires taken { talk.old.reading.taken ≡ 0 }
+    requires pending { talk.old.reading.pending ≡ [] }
     ensures stays { Stays (S.seated seat.old) (S.seated seat.new) }
     ensures kept { S.kept seat.new ≡ S.kept seat.old }
     ensures whole { StaysWhole result (S.seated seat.old).mark (S.seated seat.new).mark }

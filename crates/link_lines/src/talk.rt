@@ -1,6 +1,6 @@
 //! What is kept of a connection from one line to the next.
 
-ghost use Rattle.std.specs.Prelude.{◌≡◌, ◌∷◌, [], List};
+ghost use Rattle.std.specs.Prelude.{◌≡◌, ◌∷◌, [], List, OnOk, OnErr};
 ghost use Rattle.key_names.specs.declared.key.Key.{Key};
 ghost use Rattle.client_links.specs.Wires.{IsSameHearing, TellsNoMore};
 ghost use Rattle.session_turns.specs.Histories.{own};
@@ -10,6 +10,7 @@ ghost use Rattle.session_events.specs.Meaning.{rules};
 ghost use Rattle.session_lines.specs.Serving.{service, Serves, how_of, line_phases, unseen};
 ghost use Rattle.session_lines.specs.Stops.{IsReady, Stays, Causes, StaysWhole};
 ghost use Rattle.line_reading.specs.Hearing.{HearsLine, ReadFaultIsTold};
+ghost use Rattle.link_lines.specs.Talks.{one_line_more};
 ghost use Rattle.link_lines.specs.Talking.{DrawsMissed};
 
 use crate::telling::tell;
@@ -23,7 +24,8 @@ use std::alloc::{AllocError, Global};
 use std::marker::Model;
 use std::sync::Wait;
 
-/// What is kept of a connection from one of its lines to the next. Contracts see what its reader is seen as.
+/// What is kept of a connection from one of its lines to the next. Contracts see what its reader is
+/// seen as, its client's number, and how many lines were played.
 #[derive(Drop)]
 pub struct Talk {
     alloc: Global,
@@ -37,18 +39,20 @@ pub struct Talk {
 }
 
 impl Model for Talk {
-    ghost use Rattle.line_reading.specs.Reading.{Reading};
+    ghost use Rattle.link_lines.specs.Talks.{Talked};
 
-    ghost Value = { Reading };
+    ghost Value = { Talked };
 
-    ghost view = { λ t. t.reader };
+    ghost view = { λ t. record { reading = t.reader; who = t.who; lines = t.lines } };
 }
 
 impl Talk {
     /// That of a client whose link has said nothing yet.
     pub fn new(alloc: Global, who: u32) -> Talk
-        ensures taken { result.taken ≡ 0 }
-        ensures pending { result.pending ≡ [] }
+        ensures taken { result.reading.taken ≡ 0 }
+        ensures pending { result.reading.pending ≡ [] }
+        ensures who { result.who ≡ who }
+        ensures lines { result.lines ≡ 0 }
     {
         Talk {
             alloc,
@@ -61,10 +65,12 @@ impl Talk {
 
     /// Hears the next line. Where memory is wanting, nothing that was received is lost.
     pub fn hear<R: Wait, L: Link>(&mut self, rt: &R, link: &mut L) -> Result<Came, AllocError>
-        ensures hears { HearsLine result self.old self.new (L.wire link.old) (L.wire link.new) }
+        ensures hears { HearsLine result self.old.reading self.new.reading (L.wire link.old) (L.wire link.new) }
         ensures fault { ReadFaultIsTold result (L.wire link.old) (L.wire link.new) }
         ensures sent { (L.wire link.new).outlet ≡ (L.wire link.old).outlet }
         ensures no_more { TellsNoMore (L.wire link.old) (L.wire link.new) }
+        ensures who { self.new.who ≡ self.old.who }
+        ensures lines { self.new.lines ≡ self.old.lines }
     {
         self.reader.hear(rt, link)
     }
@@ -87,7 +93,7 @@ impl Talk {
         ensures cause { Causes result (S.seated seat.new) (L.wire link.old).outlet (L.wire link.new).outlet }
         ensures heard { IsSameHearing (L.wire link.old) (L.wire link.new) }
         ensures no_more { TellsNoMore (L.wire link.old) (L.wire link.new) }
-        ensures reading { self.new ≡ self.old }
+        ensures same { self.new ≡ self.old }
     {
         let reply = answer_opening(self.alloc, seat, keys)?;
         tell(rt, link, &mut self.out, &reply.telling)?;
@@ -107,11 +113,14 @@ impl Talk {
         ensures stays { Stays (S.seated seat.old) (S.seated seat.new) }
         ensures kept { S.kept seat.new ≡ S.kept seat.old }
         ensures whole { StaysWhole result (S.seated seat.old).mark (S.seated seat.new).mark }
-        ensures serves { (opens : List Key) → Serves (service S.gives opens) (S.seated seat.old) (S.seated seat.new) (L.wire link.old).outlet (L.wire link.new).outlet (how_of result) (line_phases (self.old.line ∷ [])) }
+        ensures serves { (opens : List Key) → Serves (service S.gives opens) (S.seated seat.old) (S.seated seat.new) (L.wire link.old).outlet (L.wire link.new).outlet (how_of result) (line_phases (self.old.reading.line ∷ [])) }
         ensures cause { Causes result (S.seated seat.new) (L.wire link.old).outlet (L.wire link.new).outlet }
         ensures heard { IsSameHearing (L.wire link.old) (L.wire link.new) }
         ensures no_more { TellsNoMore (L.wire link.old) (L.wire link.new) }
-        ensures reading { self.new ≡ self.old }
+        ensures reading { self.new.reading ≡ self.old.reading }
+        ensures who { self.new.who ≡ self.old.who }
+        ensures lines { OnOk result (self.new.lines ≡ one_line_more self.old.lines) }
+        ensures stopped { OnErr result (self.new.lines ≡ self.old.lines) }
     {
         let number = self.lines;
         gate.hold(rt, self.who, number);
@@ -137,7 +146,7 @@ impl Talk {
         ensures cause { Causes result (S.seated seat.new) (L.wire link.old).outlet (L.wire link.new).outlet }
         ensures heard { IsSameHearing (L.wire link.old) (L.wire link.new) }
         ensures no_more { TellsNoMore (L.wire link.old) (L.wire link.new) }
-        ensures reading { self.new ≡ self.old }
+        ensures same { self.new ≡ self.old }
     {
         match seat.look() {
             Missed::Something => {

@@ -13,7 +13,7 @@ loop-init g c = record {
   stays = stays-still _ c.requires.ready;
   kept = refl;
   whole = λ none. none;
-  so_far = λ opens. begin-hearing _ _ _ c.args.talk.now c.requires.taken c.requires.pending;
+  so_far = λ opens. begin-hearing _ _ _ c.args.talk.now.reading c.requires.taken c.requires.pending;
   faults = refl;
   counted = refl;
   drawn = λ d. d;
@@ -64,7 +64,7 @@ loop-preserved g c = record {
   stays = stays-then c.loop.invariant.stays c.draw_missed.ensures.stays;
   kept = c.draw_missed.ensures.kept ∙ c.loop.invariant.kept;
   whole = whole-still c.loop.invariant.whole c.in_ok-draw_missed-in-Idle.ensures.whole;
-  so_far = λ opens. heard-still _ _ _ _ _ _ _ c.draw_missed.ensures.reading (idle-heard c.in_ok-draw_missed-in-Idle.field-0 _ _ _ _ _ _ _ _ _ _ c.loop.invariant.stays.same c.hear.ensures.sent c.draw_missed.ensures.heard (heard _ _ _ _ _ _ c.in-Idle.is c.in_ok-hear.ensures.hears) (c.loop.invariant.so_far opens) (unasked _ _ _ _ _ _ (c.in_ok-draw_missed-in-Idle.ensures.draws opens)));
+  so_far = λ opens. heard-still _ _ _ _ _ _ _ (ap (λ t. t.reading) c.draw_missed.ensures.same) (idle-heard c.in_ok-draw_missed-in-Idle.field-0 _ _ _ _ _ _ _ _ _ _ c.loop.invariant.stays.same c.hear.ensures.sent c.draw_missed.ensures.heard (heard _ _ _ _ _ _ c.in-Idle.is c.in_ok-hear.ensures.hears) (c.loop.invariant.so_far opens) (unasked _ _ _ _ _ _ (c.in_ok-draw_missed-in-Idle.ensures.draws opens)));
   faults = c.draw_missed.ensures.heard.1 ∙ (let f = rw c.in-Idle.is at c.in_ok-hear.ensures.fault in f) ∙ c.loop.invariant.faults;
   counted = c.in_ok-draw_missed-in-Idle.ensures.cause ∙ ap (λ o. o.faults) c.hear.ensures.sent ∙ c.loop.invariant.counted;
   drawn = λ d. missed-draws (Ok c.in_ok-draw_missed-in-Idle.field-0) (service g.S.Seat.gives []) (g.S.Seat.seated c.loop.seat) (g.S.Seat.seated c.draw_missed.new.seat) (g.L.Link.wire c.hear.new.link).outlet (g.L.Link.wire c.draw_missed.new.link).outlet _ c.loop.invariant.stays.same.number (c.in_ok-draw_missed-in-Idle.ensures.draws []) (c.loop.invariant.drawn d);

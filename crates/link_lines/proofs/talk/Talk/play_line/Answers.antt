@@ -8,12 +8,12 @@ use Rattle.link_lines.proofs.talk.Talk.play_line.Goals as goal
 pub returns-in_err-reply-clause-serves : goal.returns-in_err-reply-clause-serves
 returns-in_err-reply-clause-serves g c =
     let p = err_from_is_err_and c.from_residual.result c.from_residual.ensures.1 in
-    rw (p.1, p.2) (λ opens. as-line _ _ _ _ _ _ _ _ (c.line.ensures ∙ ap (λ r. r.line) c.self.view_is) (serves-cut _ _ _ _ (During (Line c.line.result.now)) _ _ c.in_err-reply.ensures.stops c.in_err-reply.ensures.answers refl))
+    rw (p.1, p.2) (λ opens. as-line _ _ _ _ _ _ _ _ (c.line.ensures ∙ ap (λ t. t.reading.line) c.self.view_is) (serves-cut _ _ _ _ (During (Line c.line.result.now)) _ _ c.in_err-reply.ensures.stops c.in_err-reply.ensures.answers refl))
 
 pub returns-in_err-tell-clause-serves : goal.returns-in_err-tell-clause-serves
 returns-in_err-tell-clause-serves g c =
     let p = err_from_is_err_and c.from_residual-in_err-tell.result c.from_residual-in_err-tell.ensures.1 in
-    rw (p.1, p.2) (λ opens. as-line _ _ _ _ _ _ _ _ (c.line.ensures ∙ ap (λ r. r.line) c.self.view_is) (answered-untold _ _ _ _ _ (During (Line c.line.result.now)) _ _ _ _ c.in_ok-reply.ensures.answers refl refl c.in_err-tell.ensures.told))
+    rw (p.1, p.2) (λ opens. as-line _ _ _ _ _ _ _ _ (c.line.ensures ∙ ap (λ t. t.reading.line) c.self.view_is) (answered-untold _ _ _ _ _ (During (Line c.line.result.now)) _ _ _ _ c.in_ok-reply.ensures.answers refl refl c.in_err-tell.ensures.told))
 
 pub returns-clause-serves : goal.returns-clause-serves
-returns-clause-serves g c = λ opens. as-line _ _ _ _ _ _ _ _ (c.line.ensures ∙ ap (λ r. r.line) c.self.view_is) (answered-told _ _ _ _ _ (During (Line c.line.result.now)) _ _ c.in_ok-reply.reply c.in_ok-reply.ensures.answers refl refl c.in_ok-tell.ensures.told.0)
+returns-clause-serves g c = λ opens. as-line _ _ _ _ _ _ _ _ (c.line.ensures ∙ ap (λ t. t.reading.line) c.self.view_is) (answered-told _ _ _ _ _ (During (Line c.line.result.now)) _ _ c.in_ok-reply.reply c.in_ok-reply.ensures.answers refl refl c.in_ok-tell.ensures.told.0)
