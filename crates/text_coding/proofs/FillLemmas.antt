@@ -1,20 +1,16 @@
 -- The lines that characters which came one behind another are.
-use Rattle.std.proofs.Common.{◌≡◌, ◌≢◌, ℕ, zero, suc, ◌<◌, false, ◌==◌, List, [], ◌∷◌, ◌++◌, length, All, append_assoc, append-nil, refl, sym, ap, subst, ◌∙◌, arith}
+use Rattle.std.proofs.Common.{◌≡◌, ◌≢◌, ℕ, zero, suc, ◌<◌, List, [], ◌∷◌, ◌++◌, length, All, append_assoc, append-nil, refl, sym, ap, subst, ◌∙◌, arith}
 use Rattle.std.proofs.lemmas.List.Elements.{All-append, All-head, All-tail}
-use Rattle.std.proofs.lemmas.Bool.Decides.{nat_tests}
 use Rattle.text_model.specs.Texts.{IsText, IsLine}
 use Rattle.text_model.specs.Changes.{ended}
 use Rattle.text_model.proofs.ChangeLemmas.{ended-text, ended-other, text_ends, IsText-append}
 use Rattle.text_model.proofs.LineLemmas.{longer_is_line}
 use Rattle.text_coding.specs.Surveying.{last_of}
-use Rattle.text_coding.proofs.FormLemmas.{ends-last}
+use Rattle.text_coding.proofs.FormLemmas.{ends-last, test-false}
 
 -- no newline among characters
 abbrev pub IsOpen : List ℕ → Type 0
 IsOpen cs = All (λ c. c ≢ 10) cs
-
-pub test-false : (a b : ℕ) → a ≢ b → (a == b) ≡ false
-test-false a b apart = grind (arith, nat_tests)
 
 pub one-open : (c : ℕ) → c ≢ 10 → IsOpen (c ∷ [])
 one-open c other zero d lt = other

@@ -109,7 +109,7 @@ pub without-push_last : (cs : List ℕ) → 13 ≡ last_of 0 cs → Joined (with
 without-push_last [] last = absurd (omega (arith, last))
 without-push_last (x ∷ cs) last = without-push_joined x cs (ap (λ n. n == 13) (sym last))
 
-test-false : (a b : ℕ) → a ≢ b → (a == b) ≡ false
+pub test-false : (a b : ℕ) → a ≢ b → (a == b) ≡ false
 test-false a b apart = grind (arith, nat_tests)
 
 -- a survey of one character more, by what it is
@@ -121,11 +121,11 @@ survey-other s c cs other known =
       before = sym (last-push 0 cs c);
     }
 
-or-true : (x : Bool) → (x || true) ≡ true
+pub or-true : (x : Bool) → (x || true) ≡ true
 or-true true = refl
 or-true false = refl
 
-and-false : (x : Bool) → (x && false) ≡ false
+pub and-false : (x : Bool) → (x && false) ≡ false
 and-false true = refl
 and-false false = refl
 

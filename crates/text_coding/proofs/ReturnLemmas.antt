@@ -4,12 +4,8 @@ use Rattle.std.proofs.lemmas.List.Elements.{All-append, All-head, All-tail}
 use Rattle.text_coding.specs.declared.form.Eol.TheVariants.{Lf, Crlf}
 use Rattle.text_coding.specs.Coding.{begins_newline, without_returns, has_newline, each_returned, eol_of}
 use Rattle.text_coding.specs.Surveying.{last_of}
-use Rattle.text_coding.proofs.FormLemmas.{last-push}
-use Rattle.text_coding.proofs.FillLemmas.{IsOpen, one-open, test-false}
-
-and-false : (x : Bool) → (x && false) ≡ false
-and-false true = refl
-and-false false = refl
+use Rattle.text_coding.proofs.FormLemmas.{last-push, and-false, or-true, test-false}
+use Rattle.text_coding.proofs.FillLemmas.{IsOpen, one-open}
 
 -- a character before one that is no newline stays
 kept-front : (c : ℕ) (cs : List ℕ) → begins_newline cs ≡ false → without_returns (c ∷ cs) ≡ c ∷ without_returns cs
@@ -69,10 +65,7 @@ each-line run rest h = each-open 0 run (10 ∷ rest) h ∙ ap (λ r. (last_of 0 
 
 has-line : (run rest : List ℕ) → has_newline (run ++ 10 ∷ rest) ≡ true
 has-line [] rest = refl
-has-line (c ∷ cs) rest = ap (λ t. (c == 10) || t) (has-line cs rest) ∙ or-true (c == 10) where
-  or-true : (x : Bool) → (x || true) ≡ true
-  or-true true = refl
-  or-true false = refl
+has-line (c ∷ cs) rest = ap (λ t. (c == 10) || t) (has-line cs rest) ∙ or-true (c == 10)
 
 has-none : (cs : List ℕ) → IsOpen cs → has_newline cs ≡ false
 has-none [] h = refl

@@ -5,7 +5,8 @@ use Rattle.std.proofs.lemmas.List.{append-nil, take_more, take_all}
 use Rattle.std.proofs.lemmas.List.Elements.{All-head, All-tail}
 use Rattle.std.proofs.lemmas.Grind.{get_or_default_zero}
 use Rattle.text_model.specs.Texts.{joined, lines_of, IsLine}
-use Rattle.text_coding.proofs.FillLemmas.{IsOpen, test-false}
+use Rattle.text_coding.proofs.FormLemmas.{test-false}
+use Rattle.text_coding.proofs.FillLemmas.{IsOpen}
 use Rattle.line_buffer.proofs.FlatLemmas.{joined-more, joined-all}
 use Rattle.text_coding.specs.declared.form.Eol.{Eol}
 use Rattle.text_coding.specs.declared.form.Eol.TheVariants.{Lf, Crlf}
