@@ -49,7 +49,7 @@ fn find_cursor(world: &World, who: u32) -> MainCursor
     MainCursor {
         at,
         column,
-        cells: cells(line[at.column as usize], column, tabstop),
+        cells: cells(line.at(at.column as usize), column, tabstop),
     }
 }
 

@@ -2,16 +2,18 @@
 
 ghost use Rattle.std.specs.Prelude.{◌≡◌, ◌^◌, ◌≤◌};
 ghost use Rattle.kak_text.specs.Cells.{cells_of};
+ghost use Rattle.compact_chars.specs.Rows.{chars_of};
 ghost use Rattle.edit_ops.specs.Blanks.{is_blank, blanks, blanks_within};
 
+use compact_chars::CharsRef;
 use kak_text::{Class, cells, class};
 
 /// How many blanks a line begins with.
-pub(crate) fn blanks(line: &[char]) -> usize
-    ensures { result ≡ blanks line.now }
+pub(crate) fn blanks(line: CharsRef<'_>) -> usize
+    ensures { result ≡ blanks (chars_of line.entry) }
 {
-    for (i, c) in line.iter().enumerate() {
-        if !is_blank(*c) {
+    for i in 0..line.len() {
+        if !is_blank(line.at(i)) {
             return i;
         }
     }
@@ -20,15 +22,16 @@ pub(crate) fn blanks(line: &[char]) -> usize
 
 /// How many of the blanks that a line begins with end at a display column or before, where tabs reach the multiples of
 /// `tabstop`.
-pub(crate) fn blanks_within(line: &[char], tabstop: u32, most: u32) -> usize
-    ensures { result ≡ blanks_within tabstop most 0 line.now }
+pub(crate) fn blanks_within(line: CharsRef<'_>, tabstop: u32, most: u32) -> usize
+    ensures { result ≡ blanks_within tabstop most 0 (chars_of line.entry) }
 {
     let mut column = 0;
-    for (i, c) in line.iter().enumerate() {
-        if !is_blank(*c) {
+    for i in 0..line.len() {
+        let c = line.at(i);
+        if !is_blank(c) {
             return i;
         }
-        column += cells_at(*c, column, tabstop);
+        column += cells_at(c, column, tabstop);
         if u64::from(most) < column {
             return i;
         }

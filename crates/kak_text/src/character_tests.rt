@@ -55,19 +55,3 @@ fn characters_take_their_cells(rt: HostRuntime) -> Result<(), Fail> {
     assert_eq!(rt; cells('\t', 3, 64), 61);
     Ok(())
 }
-
-#[test]
-fn bytes_and_characters_lead_to_each_other(rt: HostRuntime) -> Result<(), Fail> {
-    let line = ['a', 'é', '漢', '😀', '\n'].as_slice();
-    let begins = [0, 1, 3, 6, 10, 11];
-    for (i, begin) in begins.iter().enumerate() {
-        assert!(rt; i <= line.len());
-        assert_eq!(rt; byte_column(line, i), *begin);
-    }
-    let holders = [0, 1, 1, 2, 2, 2, 3, 3, 3, 3, 4, 4, 4];
-    for (byte, holder) in holders.iter().enumerate() {
-        assert_eq!(rt; char_column(line, byte as u64), *holder);
-    }
-    assert_eq!(rt; char_column(line, u64::MAX), 4);
-    Ok(())
-}

@@ -2,7 +2,6 @@
 //! coordinates of the model and the limits.
 #![tactic(auto)]
 
-pub mod bytes;
 pub mod chars;
 pub mod classes;
 pub mod classing;
@@ -10,7 +9,6 @@ pub mod examples;
 pub mod text;
 pub mod widths;
 
-pub use bytes::{byte_column, char_column};
 pub use chars::Chars;
 pub use classes::Class;
 pub use classing::class;

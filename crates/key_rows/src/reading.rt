@@ -14,6 +14,7 @@ ghost use Rattle.key_rows.specs.Edits.{puts_of, keep_row};
 ghost use Rattle.key_rows.specs.Handing.{ArePuts, IsTooMuch, IsRefused};
 
 use buffer_store::Splice;
+use compact_chars::CharsRef;
 use edit_ops::{Put, PutError, put, strings};
 use kak_ports::Words;
 use kak_text::Chars;
@@ -50,9 +51,7 @@ pub fn string_of(alloc: Global, chars: &[char]) -> Result<String, AllocError>
     ensures { IfOk result (λ text. string_bytes text ≡ encode_utf8_all chars.now) }
 {
     let mut text = String::new(alloc);
-    for c in chars {
-        text.push(*c)?;
-    }
+    CharsRef::Wide(chars).push_utf8(&mut text)?;
     Ok(text)
 }
 

@@ -72,11 +72,6 @@ ordered_lines text from to h k o =
       | inr w ↦ elim w [ inl same ↦ omega arith | inr more ↦ omega arith ]
     ]
 
--- one character more, in bytes
-pub encoded-more : (cs : List ℕ) (i c : ℕ) → i < length cs → get_or cs i 0 ≡ c → encode_utf8_all (take (i + 1) cs) ≡ encode_utf8_all (take i cs) ++ encode_utf8 c
-encoded-more cs i c h e =
-    ap encode_utf8_all (take_more cs i 0 h) ∙ encodes-append (take i cs) (get_or cs i 0 ∷ []) ∙ ap (λ t. encode_utf8_all (take i cs) ++ t) (append-nil (encode_utf8 (get_or cs i 0)) ∙ ap encode_utf8 e)
-
 -- the line of a place or of the end
 pub line-le-count : (text : List ℕ) (at : Coord) → IsPlaceOrEnd text at → at.line ≤ length (lines_of text)
 line-le-count text at (inl p) = omega (arith, p.on_line)

@@ -73,11 +73,6 @@ split_rows old front new back some n v l e =
 pub last-front : {X : Type 0} (front back old : List X) (n : ℕ) (d : X) → front ++ reverse back ≡ old → length front ≡ n + 1 → get_or front n d ≡ get_or old n d
 last-front front back old n d v l = sym (get_or_append_left front (reverse back) d n (omega arith)) ∙ ap (λ t. get_or t n d) v
 
--- items put behind a row, and those between a place and its end cut out
-pub ended_as : {X : Type 0} (row end mid new : List X) (from to : ℕ) → from ≤ to → to ≡ length row → mid ≡ row ++ end → new ≡ take from mid ++ drop to mid → new ≡ take from row ++ end
-ended_as row end mid new from to h l m n =
-    n ∙ ap₂ (λ a b. a ++ b) (ap (take from) m ∙ take-append-le from row end (omega arith)) (ap (drop to) m ∙ drop_at row end to (sym l))
-
 -- the last item of one row moved to the end of the other
 pub one_poured : {X : Type 0} (from less onto more : List X) (x : X) → from ≡ less ++ (x ∷ []) → more ≡ onto ++ (x ∷ []) → less ++ reverse more ≡ from ++ reverse onto
 one_poured from less onto more x e m =
@@ -121,18 +116,3 @@ set-back front back old n m x v l h e =
 -- where the gap is, by what stands behind it
 pub gap_at : {X : Type 0} (a b c d : List X) (to : ℕ) → a ++ reverse b ≡ c ++ reverse d → length b ≡ length d - (to - length c) → length c ≤ to → to ≤ length c + length d → length a ≡ to
 gap_at a b c d to e l h k = omega (arith, both a b (c ++ reverse d) e, both c d (c ++ reverse d) refl)
-
--- a row with as many items as before when some are laid on a place
-pub length_laid : (row laid tail : List ℕ) (at : ℕ) → at + length tail ≤ length row → laid ≡ take at row ++ (tail ++ drop (at + length tail) row) → length laid ≡ length row
-length_laid row laid tail at h l =
-    omega (arith, ap length l, length-append (take at row) (tail ++ drop (at + length tail) row), length-append tail (drop (at + length tail) row), length-take-le at row (omega arith), length-drop (at + length tail) row)
-
--- items laid on a place, and others laid behind them up to the end
-pub laid_twice : (row first second chars tail : List ℕ) (at : ℕ) → at + length chars + length tail ≡ length row → first ≡ take at row ++ (chars ++ drop (at + length chars) row) → second ≡ take (at + length chars) first ++ (tail ++ drop (at + length chars + length tail) first) → second ≡ take at row ++ (chars ++ tail)
-laid_twice row first second chars tail at h f s =
-    let rest : List ℕ = drop (at + length chars) row in
-    let front : length (take at row ++ chars) ≡ at + length chars = omega (arith, length-append (take at row) chars, length-take-le at row (omega arith)) in
-    let whole : first ≡ (take at row ++ chars) ++ rest = f ∙ sym (append_assoc (take at row) chars rest) in
-    let long : length first ≡ length row = length_laid row first chars at (omega arith) f in
-    let none : drop (at + length chars + length tail) first ≡ [] = drop_all (at + length chars + length tail) first (omega arith) in
-    s ∙ ap₂ (λ a b. a ++ (tail ++ b)) (ap (take (at + length chars)) whole ∙ take_at (take at row ++ chars) rest (at + length chars) front) none ∙ ap (λ t. (take at row ++ chars) ++ t) (append-nil tail) ∙ append_assoc (take at row) chars tail

@@ -85,7 +85,7 @@ impl Lines {
             self.cut_line(from, to);
             return Ok(());
         }
-        self.join_lines(from, to, gone)
+        self.join_lines(alloc, from, to, gone)
     }
 }
 

@@ -15,7 +15,7 @@ impl Lines {
     {
         let mut all = Vec::with_capacity(alloc, self.len())?;
         for n in 0..self.line_count() {
-            all.extend_from_slice(self.line(n))?;
+            self.line(n).push_onto(&mut all)?;
         }
         Ok(Text::of_vec(all))
     }
@@ -67,11 +67,13 @@ impl Lines {
         let mut chars = Vec::new(alloc);
         let mut start = from.column as usize;
         for n in from.line..to.line {
-            chars.extend_from_slice(&self.line(n as usize)[start..])?;
+            self.line(n as usize).behind(start).push_onto(&mut chars)?;
             start = 0;
         }
         if start < to.column as usize {
-            chars.extend_from_slice(&self.line(to.line as usize)[start..to.column as usize])?;
+            self.line(to.line as usize)
+                .between(start, to.column as usize)
+                .push_onto(&mut chars)?;
         }
         Ok(chars)
     }
@@ -86,15 +88,16 @@ impl Lines {
     {
         let mut start = from.column as usize;
         for n in from.line..to.line {
-            push_all(text, &self.line(n as usize)[start..])?;
+            self.line(n as usize).behind(start).push_utf8(text)?;
             start = 0;
         }
         let column = to.column as usize;
         if column <= start {
             return Ok(());
         }
-        push_all(text, &self.line(to.line as usize)[start..column])?;
-        Ok(())
+        self.line(to.line as usize)
+            .between(start, column)
+            .push_utf8(text)
     }
 
     /// The characters from a place to before another, or to the end, as a string. It costs what it gives.
@@ -108,15 +111,4 @@ impl Lines {
         self.push_slice(&mut text, from, to)?;
         Ok(text)
     }
-}
-
-// Adds characters to a string.
-fn push_all(text: &mut String, chars: &[char]) -> Result<(), AllocError>
-    ensures { OnOk result (string_bytes text.new ≡ string_bytes text.old ++ encode_utf8_all chars.now) }
-{
-    text.reserve(chars.len())?;
-    for c in chars {
-        text.push(*c)?;
-    }
-    Ok(())
 }

@@ -2,10 +2,12 @@
 
 ghost use Rattle.std.specs.Prelude.{◌≡◌, ◌+◌, ◌<◌, ◌++◌, ◌∷◌, ◌↔◌, [], length, OnOk, OnErr, IsErrOf};
 ghost use Rattle.text_model.specs.Texts.{IsLine};
+ghost use Rattle.compact_chars.specs.Rows.{chars_of};
 ghost use Rattle.text_model.specs.declared.TheConstants.{MAX_CHARS};
 
 use crate::line::Line;
 use crate::lines::{Lines, LinesError};
+use compact_chars::CharsRef;
 use kak_text::MAX_CHARS;
 use std::alloc::{AllocError, Global};
 use std::marker::Model;
@@ -58,16 +60,16 @@ impl GrowingLines {
     }
 
     /// Adds a line. `TextFull` comes where there would be more than `MAX_CHARS` characters. An `Err` leaves the lines.
-    pub fn push(&mut self, alloc: Global, line: &[char]) -> Result<(), LinesError>
-        requires { IsLine line.now }
-        ensures ok { OnOk result (self.new ≡ self.old ++ line.now) }
-        ensures full { IsErrOf result LinesError.TextFull ↔ (MAX_CHARS < length self.old + length line.now) }
+    pub fn push(&mut self, alloc: Global, line: CharsRef<'_>) -> Result<(), LinesError>
+        requires { IsLine (chars_of line) }
+        ensures ok { OnOk result (self.new ≡ self.old ++ chars_of line.entry) }
+        ensures full { IsErrOf result LinesError.TextFull ↔ (MAX_CHARS < length self.old + length (chars_of line.entry)) }
         ensures err { OnErr result (self.new ≡ self.old) }
     {
         if line.len() > MAX_CHARS - self.count {
             return Err(LinesError::TextFull);
         }
-        push_line(&mut self.lines, Line::of_slice(alloc, line)?)?;
+        push_line(&mut self.lines, Line::of_chars(alloc, line)?)?;
         self.count += line.len();
         Ok(())
     }

@@ -7,6 +7,7 @@ ghost use Rattle.text_model.specs.Changes.{ended, put_in, inserted, changed, Ins
 
 use crate::cuts::gathered;
 use crate::lines::{Lines, LinesError};
+use compact_chars::CharsRef;
 use kak_text::{Coord, MAX_CHARS, Shift};
 use std::alloc::Global;
 
@@ -68,7 +69,7 @@ impl Lines {
             return Ok(behind);
         }
         let behind = along(at, chars);
-        self.put_on_line(at, chars)?;
+        self.put_on_line(alloc, at, chars)?;
         Ok(behind)
     }
 
@@ -85,7 +86,7 @@ impl Lines {
         if chars.len() >= MAX_CHARS - self.len() {
             return Err(LinesError::TextFull);
         }
-        let lines = gathered(alloc, chars, &['\n'])?;
+        let lines = gathered(alloc, chars, CharsRef::Narrow(b"\n"))?;
         self.put_whole(alloc, lines.as_slice())
     }
 

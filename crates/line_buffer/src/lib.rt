@@ -11,7 +11,6 @@ mod line;
 pub mod lines;
 mod rows;
 pub mod steps;
-mod turns;
 
 pub use growing::GrowingLines;
 pub use lines::{Lines, LinesError};

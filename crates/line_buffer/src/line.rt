@@ -2,16 +2,16 @@
 
 ghost use Rattle.std.specs.Prelude.{◌≡◌, ◌≢◌, ◌<◌, ◌≤◌, ◌++◌, length, take, drop, All, IfOk, OnOk, OnErr};
 ghost use Rattle.text_model.specs.Texts.{IsLine};
+ghost use Rattle.compact_chars.specs.Rows.{chars_of};
 
-use crate::turns::{SHORT, cut_out, put_in};
-use smallvec::SmallVec;
+use compact_chars::{CharsRef, CompactChars};
 use std::alloc::{AllocError, Global};
 use std::marker::Model;
 
-/// A line: its last character is a newline, and no other is. With at most `SHORT` characters it takes no memory of its own.
+/// A line: its last character is a newline, and no other is.
 #[derive(Drop, Debug)]
 pub struct Line {
-    chars: SmallVec<char, SHORT>,
+    chars: CompactChars,
 }
 
 impl Model for Line {
@@ -20,30 +20,31 @@ impl Model for Line {
 
     ghost Value = { List ℕ };
 
-    ghost view = { λ a. a.chars.items };
+    ghost view = { λ a. a.chars };
 
-    ghost invariant = { λ a. IsLine a.chars.items };
+    ghost invariant = { λ a. IsLine a.chars };
 }
 
 impl Line {
     /// A line that holds a copy of these characters.
-    pub fn of_slice(alloc: Global, chars: &[char]) -> Result<Line, AllocError>
-        requires { IsLine chars.now }
-        ensures { IfOk result (λ line. line ≡ chars.now) }
+    pub fn of_chars(alloc: Global, chars: CharsRef<'_>) -> Result<Line, AllocError>
+        requires { IsLine (chars_of chars) }
+        ensures { IfOk result (λ line. line ≡ chars_of chars.entry) }
     {
         Ok(Line {
-            chars: SmallVec::from_slice(alloc, chars)?,
+            chars: CompactChars::of_chars(alloc, chars)?,
         })
     }
 
-    /// Puts characters that are no newlines in at a column. It costs them and what stands behind the column.
-    pub fn put(&mut self, column: usize, chars: &[char]) -> Result<(), AllocError>
+    /// Puts characters that are no newlines in at a column. It costs them and what stands behind the column; where they are
+    /// the first for which a byte isn't enough, it costs the line.
+    pub fn put(&mut self, alloc: Global, column: usize, chars: &[char]) -> Result<(), AllocError>
         requires inside { column < length self.old }
         requires one_line { All (λ c. c ≢ 10) chars.now }
         ensures ok { OnOk result (self.new ≡ take column self.old ++ (chars.now ++ drop column self.old)) }
         ensures err { OnErr result (self.new ≡ self.old) }
     {
-        put_in(&mut self.chars, column, chars)
+        self.chars.put(alloc, column, chars)
     }
 
     /// Takes the characters from a column to before another out; takes no memory.
@@ -52,38 +53,40 @@ impl Line {
         requires inside { to < length self.old }
         ensures { self.new ≡ take from self.old ++ drop to self.old }
     {
-        cut_out(&mut self.chars, from, to);
+        self.chars.cut(from, to);
     }
 
     /// Ends the line at a column as another does. It costs the new end and the old one, and not what stands before the
-    /// column.
-    pub fn end_as(&mut self, column: usize, end: &[char]) -> Result<(), AllocError>
+    /// column, but where in the new end a byte isn't enough for the first time.
+    pub fn end_as(
+        &mut self,
+        alloc: Global,
+        column: usize,
+        end: CharsRef<'_>,
+    ) -> Result<(), AllocError>
         requires inside { column < length self.old }
-        requires line { IsLine end.now }
-        ensures ok { OnOk result (self.new ≡ take column self.old ++ end.now) }
+        requires line { IsLine (chars_of end) }
+        ensures ok { OnOk result (self.new ≡ take column self.old ++ chars_of end.entry) }
         ensures err { OnErr result (self.new ≡ self.old) }
     {
-        let len = self.chars.len();
-        self.chars.extend_from_slice(end)?;
-        cut_out(&mut self.chars, column, len);
-        Ok(())
+        self.chars.end_as(alloc, column, end)
     }
 
     /// What stands from a column on, which is a line too.
-    pub fn rest(&self, column: usize) -> &[char]
+    pub fn rest(&self, column: usize) -> CharsRef<'_>
         requires { column < length self.now }
-        ensures value { result.now ≡ drop column self.now }
-        ensures line { IsLine result.now }
+        ensures value { chars_of result ≡ drop column self.now }
+        ensures line { IsLine (chars_of result) }
         ensures valid { IsLine self.now }
     {
-        &self.chars.as_slice()[column..]
+        self.chars.as_chars().behind(column)
     }
 
     /// The characters.
-    pub fn as_slice(&self) -> &[char]
-        ensures value { result.now ≡ self.now }
+    pub fn as_chars(&self) -> CharsRef<'_>
+        ensures value { chars_of result ≡ self.now }
         ensures valid { IsLine self.now }
     {
-        self.chars.as_slice()
+        self.chars.as_chars()
     }
 }

@@ -4,11 +4,13 @@ ghost use Rattle.std.specs.Prelude.{◌≡◌, ◌≢◌, ℕ, ◌+◌, ◌<◌,
 ghost use Rattle.text_model.specs.Texts.{IsStored, IsText, IsLine, IsPlace, joined, offset, line_count, nth_line};
 ghost use Rattle.text_model.specs.Changes.{changed, Insertion, Erasure};
 ghost use Rattle.line_buffer.specs.Buffer.{IsBuffer};
+ghost use Rattle.compact_chars.specs.Rows.{chars_of};
 ghost use Rattle.line_buffer.specs.declared.lines.LinesError.TheVariants.{NoMemory};
 
 use crate::cuts::cut;
 use crate::line::Line;
 use crate::rows::Rows;
+use compact_chars::CharsRef;
 use kak_text::{Coord, MAX_CHARS, Text};
 use std::alloc::{AllocError, Global};
 use std::marker::Model;
@@ -91,18 +93,23 @@ impl Lines {
     }
 
     /// The n-th line from 0, with its newline.
-    pub fn line(&self, n: usize) -> &[char]
+    pub fn line(&self, n: usize) -> CharsRef<'_>
         requires { n < line_count self.now }
-        ensures value { result.now ≡ nth_line self.now n }
-        ensures line { IsLine result.now }
-        ensures small { length result.now ≤ MAX_CHARS }
+        ensures value { chars_of result ≡ nth_line self.now n }
+        ensures line { IsLine (chars_of result) }
+        ensures small { length (chars_of result) ≤ MAX_CHARS }
         ensures valid { IsStored self.now }
     {
-        self.lines.line(n).as_slice()
+        self.lines.line(n).as_chars()
     }
 
     // Puts characters without a newline in at a place.
-    pub(crate) fn put_on_line(&mut self, at: Coord, chars: &[char]) -> Result<(), AllocError>
+    pub(crate) fn put_on_line(
+        &mut self,
+        alloc: Global,
+        at: Coord,
+        chars: &[char],
+    ) -> Result<(), AllocError>
         requires place { IsPlace self.old at }
         requires room { length self.old + length chars.now ≤ MAX_CHARS }
         requires one_line { All (λ c. c ≢ 10) chars.now }
@@ -110,7 +117,7 @@ impl Lines {
         ensures err { OnErr result (self.new ≡ self.old) }
     {
         self.lines
-            .put_on(at.line as usize, at.column as usize, chars)?;
+            .put_on(alloc, at.line as usize, at.column as usize, chars)?;
         self.count += chars.len();
         Ok(())
     }
@@ -164,6 +171,7 @@ impl Lines {
     // lines, the lines that go, and the lines between here and the change before.
     pub(crate) fn join_lines(
         &mut self,
+        alloc: Global,
         from: Coord,
         to: Coord,
         gone: usize,
@@ -176,6 +184,7 @@ impl Lines {
         ensures err { OnErr result (self.new ≡ self.old) }
     {
         self.lines.join(
+            alloc,
             from.line as usize,
             from.column as usize,
             to.line as usize,

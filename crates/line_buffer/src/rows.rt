@@ -5,9 +5,11 @@
 
 ghost use Rattle.std.specs.Prelude.{◌≡◌, ◌≢◌, ◌+◌, ◌<◌, ◌≤◌, ◌^◌, ◌++◌, ◌∷◌, [], length, take, drop, reverse, slice_index_or, slice_set, vec_capacity, All, IfOk, OnOk, OnErr};
 ghost use Rattle.text_model.specs.Texts.{IsLine, IsText, lines_of};
+ghost use Rattle.compact_chars.specs.Rows.{chars_of};
 
 use crate::cuts::{cut, gathered};
 use crate::line::Line;
+use compact_chars::CharsRef;
 use std::alloc::{AllocError, Global};
 use std::marker::Model;
 
@@ -57,7 +59,13 @@ impl Rows {
     }
 
     /// Puts characters that are no newlines into the n-th line at a column; no line is moved.
-    pub fn put_on(&mut self, n: usize, column: usize, chars: &[char]) -> Result<(), AllocError>
+    pub fn put_on(
+        &mut self,
+        alloc: Global,
+        n: usize,
+        column: usize,
+        chars: &[char],
+    ) -> Result<(), AllocError>
         requires inside { n < length self.old }
         requires column { column < length (slice_index_or self.old n []) }
         requires one_line { All (λ c. c ≢ 10) chars.now }
@@ -66,11 +74,11 @@ impl Rows {
     {
         if n < self.front.len() {
             let line = &mut self.front[n];
-            return line.put(column, chars);
+            return line.put(alloc, column, chars);
         }
         let place = self.back.len() - 1 - (n - self.front.len());
         let line = &mut self.back[place];
-        line.put(column, chars)
+        line.put(alloc, column, chars)
     }
 
     /// Takes the characters of the n-th line from a column to before another out; no line is moved, and it takes no memory.
@@ -95,6 +103,7 @@ impl Rows {
     /// before the first column. After an error the lines are as they were.
     pub fn join(
         &mut self,
+        alloc: Global,
         first: usize,
         column: usize,
         last: usize,
@@ -110,7 +119,7 @@ impl Rows {
         move_gap(&mut self.front, &mut self.back, first + 1)?;
         let place = self.back.len() - (last - first);
         let line = &self.back[place];
-        end_line(&mut self.front, first, column, line.rest(from))?;
+        end_line(alloc, &mut self.front, first, column, line.rest(from))?;
         self.back.truncate(place);
         Ok(())
     }
@@ -156,16 +165,22 @@ impl Rows {
 }
 
 // Ends the n-th line at a column as another does.
-fn end_line(front: &mut Vec<Line>, n: usize, column: usize, end: &[char]) -> Result<(), AllocError>
+fn end_line(
+    alloc: Global,
+    front: &mut Vec<Line>,
+    n: usize,
+    column: usize,
+    end: CharsRef<'_>,
+) -> Result<(), AllocError>
     requires inside { n < length front.old.items }
     requires column { column < length (slice_index_or front.old.items n []) }
-    requires line { IsLine end.now }
-    ensures ok { OnOk result (front.new.items ≡ slice_set front.old.items n (take column (slice_index_or front.old.items n []) ++ end.now)) }
+    requires line { IsLine (chars_of end) }
+    ensures ok { OnOk result (front.new.items ≡ slice_set front.old.items n (take column (slice_index_or front.old.items n []) ++ chars_of end.entry)) }
     ensures err { OnErr result (front.new.items ≡ front.old.items) }
     ensures room { vec_capacity front.new ≡ vec_capacity front.old }
 {
     let line = &mut front[n];
-    line.end_as(column, end)
+    line.end_as(alloc, column, end)
 }
 
 // Puts characters into the last line at a column, which makes lines of it. Room for them is made before.
@@ -184,7 +199,7 @@ fn split_last(
     let mut fresh = split_off(alloc, &front[n], column, chars)?;
     front.reserve(fresh.len())?;
     let first = fresh.remove(0);
-    end_line(front, n, column, first.as_slice())?;
+    end_line(alloc, front, n, column, first.as_chars())?;
     front.append(&mut fresh)?;
     Ok(())
 }

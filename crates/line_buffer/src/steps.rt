@@ -12,7 +12,7 @@ impl Lines {
         requires { IsPlace self.now at }
         ensures { result ≡ slice_index self.now (offset self.now at) }
     {
-        self.line(at.line as usize)[at.column as usize]
+        self.line(at.line as usize).at(at.column as usize)
     }
 
     /// The place of the next character; none at the last one.

@@ -71,11 +71,11 @@ step text s n line k at p h t e l g f =
       ordered = parts-ordered (range_of text at) (offset text (record { line = n; column = 0 })) (length line) p inside.ordered parts;
     }
 
--- the same, where the list was read as a slice
-pub step-read : (text : List ℕ) (s : Listed) (list : List Sel) (n : ℕ) (line : List ℕ) (k : ℕ) (d : Sel) (p : Parts) → list ≡ s.list → IsHeld text s → n < line_count text → line ≡ nth_line text n → k < length list
-    → ArePartsOf (record { line = n; column = 0 }) (length line) (get_or list k d) p → IsStep (selected text s) (offset text (record { line = n; column = 0 })) line k (range_of text (get_or list k d)) p
-step-read text s list n line k d p v h t e l f =
-    step text s n line k (get_or list k d) p h t e (omega (arith, l, ap length v)) (λ x. get_or_default list k d x l ∙ ap (λ xs. get_or xs k x) v) f
+-- the same, where the list was read as a slice and the length of the line was asked
+pub step-read : (text : List ℕ) (s : Listed) (list : List Sel) (n : ℕ) (line : List ℕ) (len k : ℕ) (d : Sel) (p : Parts) → list ≡ s.list → IsHeld text s → n < line_count text → line ≡ nth_line text n → k < length list → len ≡ length line
+    → ArePartsOf (record { line = n; column = 0 }) len (get_or list k d) p → IsStep (selected text s) (offset text (record { line = n; column = 0 })) line k (range_of text (get_or list k d)) p
+step-read text s list n line len k d p v h t e l m f =
+    step text s n line k (get_or list k d) p h t e (omega (arith, l, ap length v)) (λ x. get_or_default list k d x l ∙ ap (λ xs. get_or xs k x) v) (subst (λ (i : ℕ). ArePartsOf (record { line = n; column = 0 }) i (get_or list k d) p) m f)
 
 all-append : {X : Type 0} (P : X → Type 0) (xs : List X) (x : X) → AllByRecursion P xs → P x → AllByRecursion P (xs ++ x ∷ [])
 all-append P [] x a h = (h, tt)

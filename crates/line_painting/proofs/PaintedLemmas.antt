@@ -1,5 +1,5 @@
 -- The parts of a line that a selection makes, drawn one after another.
-use Rattle.std.proofs.Common.{◌≡◌, ◌≢◌, ℕ, ◌+◌, ◌-◌, ◌<◌, ◌≤◌, min, Bool, List, length, drop, get_or, slice_range, refl, sym, ap, ◌∙◌, arith, Ok, Err}
+use Rattle.std.proofs.Common.{◌≡◌, ◌≢◌, ℕ, ◌+◌, ◌-◌, ◌<◌, ◌≤◌, min, Bool, List, length, drop, get_or, slice_range, sym, ap, ◌∙◌, arith, Ok, Err}
 use Rattle.std.specs.Prelude.{IfOk}
 use Rattle.std.specs.declared.result.Result.{Result}
 use Rattle.std.proofs.lemmas.List.{get_or-take, get_or-drop}
@@ -25,27 +25,27 @@ head-slice line a b h = let e : a + 0 ≡ a = omega arith in get_or-take (b - a)
 
 module _ (tabstop : ℕ) where
   -- the cursor is drawn, where it is there
-  pub cursor-drawn : (sels : Selected) (view : View) (o : ℕ) (line : List ℕ) (before old new : List Atom) (colors : Colors) (main : Bool) (r : Range) (a b column behind : ℕ) → colors ≡ colors_of painted main → IsRange r
+  pub cursor-drawn : (sels : Selected) (view : View) (o : ℕ) (line : List ℕ) (before old new : List Atom) (colors : Colors) (main : Bool) (r : Range) (chars : List ℕ) (a b column behind : ℕ) → colors ≡ colors_of painted main → IsRange r
       → IsDrawnTo tabstop sels view o line before old a column → a ≤ b → b ≤ length line → ((i : ℕ) → a ≤ i → i < b → cursor r ≡ o + i) → HasFacesOf sels main r o a b
-      → new ≡ with_all_shown old (shown_in (cursor_face colors (get_or (slice_range line a b) 0 0)) (chars_drawn tabstop view column (slice_range line a b)))
-      → min (right_of view) behind ≡ min (right_of view) (column_behind tabstop column (slice_range line a b)) → IsDrawnTo tabstop sels view o line before new b behind
-  cursor-drawn sels view o line before old new colors main r a b column behind e h d l k at same n m =
-      drawn-more tabstop sels view o line before old new (cursor_face colors (get_or (slice_range line a b) 0 0)) (slice_range line a b) a b column behind d l k refl n m faces
+      → chars ≡ slice_range line a b → new ≡ with_all_shown old (shown_in (cursor_face colors (get_or chars 0 0)) (chars_drawn tabstop view column chars))
+      → min (right_of view) behind ≡ min (right_of view) (column_behind tabstop column chars) → IsDrawnTo tabstop sels view o line before new b behind
+  cursor-drawn sels view o line before old new colors main r chars a b column behind e h d l k at same s n m =
+      drawn-more tabstop sels view o line before old new (cursor_face colors (get_or chars 0 0)) chars a b column behind d l k s n m faces
     where
-      faces : (i : ℕ) → a ≤ i → i < b → face_at sels (o + i) (get_or line i 0) ≡ cursor_face colors (get_or (slice_range line a b) 0 0)
+      faces : (i : ℕ) → a ≤ i → i < b → face_at sels (o + i) (get_or line i 0) ≡ cursor_face colors (get_or chars 0 0)
       faces i x y =
           let first : cursor r ≡ o + a = at a (omega arith) (omega arith) in
           let here : cursor r ≡ o + i = at i x y in
           let i_is : i ≡ a = omega arith in
           same i (get_or line i 0) x y
           ∙ cursor-face colors main r (o + i) (get_or line i 0) e h here
-          ∙ ap (λ c. cursor_face colors c) (ap (λ j. get_or line j 0) i_is ∙ sym (head-slice line a b (omega arith)))
+          ∙ ap (λ c. cursor_face colors c) (ap (λ j. get_or line j 0) i_is ∙ sym (ap (λ t. get_or t 0 0) s ∙ head-slice line a b (omega arith)))
 
   -- the rest of the selection is drawn
-  pub rest-drawn : (sels : Selected) (view : View) (o : ℕ) (line : List ℕ) (before old new : List Atom) (colors : Colors) (main : Bool) (r : Range) (a b column behind : ℕ) → colors ≡ colors_of painted main
+  pub rest-drawn : (sels : Selected) (view : View) (o : ℕ) (line : List ℕ) (before old new : List Atom) (colors : Colors) (main : Bool) (r : Range) (chars : List ℕ) (a b column behind : ℕ) → colors ≡ colors_of painted main
       → IsDrawnTo tabstop sels view o line before old a column → a ≤ b → b ≤ length line → ((i : ℕ) → a ≤ i → i < b → (r.low ≤ o + i) × (o + i ≤ r.high) × (cursor r ≢ o + i)) → HasFacesOf sels main r o a b
-      → new ≡ with_all_shown old (shown_in colors.selected (chars_drawn tabstop view column (slice_range line a b)))
-      → min (right_of view) behind ≡ min (right_of view) (column_behind tabstop column (slice_range line a b)) → IsDrawnTo tabstop sels view o line before new b behind
-  rest-drawn sels view o line before old new colors main r a b column behind e d l k at same n m =
-      drawn-more tabstop sels view o line before old new colors.selected (slice_range line a b) a b column behind d l k refl n m
+      → chars ≡ slice_range line a b → new ≡ with_all_shown old (shown_in colors.selected (chars_drawn tabstop view column chars))
+      → min (right_of view) behind ≡ min (right_of view) (column_behind tabstop column chars) → IsDrawnTo tabstop sels view o line before new b behind
+  rest-drawn sels view o line before old new colors main r chars a b column behind e d l k at same s n m =
+      drawn-more tabstop sels view o line before old new colors.selected chars a b column behind d l k s n m
       (λ i x y. let p = at i x y in same i (get_or line i 0) x y ∙ rest-face colors main r (o + i) (get_or line i 0) e p.0 p.1 p.2)

@@ -34,12 +34,13 @@ take-slice (x ∷ xs) (suc a) (suc b) h = let e : b - a ≡ suc b - suc a = omeg
 shown_in-append : (face : Face) (a b : List ℕ) → shown_in face (a ++ b) ≡ shown_in face a ++ shown_in face b
 shown_in-append face a b = map-append (λ (c : ℕ). let x : Shown = record { char = c; face = face } in x) a b
 
-rest-is : (chars : List ℕ) (done : ℕ) → slice_range chars done (length chars) ≡ drop done chars
+-- the characters up to the end
+pub rest-is : (chars : List ℕ) (done : ℕ) → slice_range chars done (length chars) ≡ drop done chars
 rest-is chars done = take_all (length chars - done) (drop done chars) (omega (arith, length-drop done chars))
 
 -- a run ends within the characters
-pub run-inside : (chars : List ℕ) (done count : ℕ) → done ≤ length chars → count ≤ length (slice_range chars done (length chars)) → done + count ≤ length chars
-run-inside chars done count h k = omega (arith, h, k, ap length (rest-is chars done), length-drop done chars)
+pub run-inside : (chars rest : List ℕ) (done count : ℕ) → done ≤ length chars → rest ≡ drop done chars → count ≤ length rest → done + count ≤ length chars
+run-inside chars rest done count h r k = omega (arith, h, k, ap length r, length-drop done chars)
 
 module _ (tabstop : ℕ) where
   -- characters one after another
@@ -133,45 +134,39 @@ module _ (tabstop : ℕ) where
       whole = ap (λ t. take done chars ++ t) m ∙ sym (take-slice chars done to l)
 
   -- a run of plain characters is
-  pub pushed-run : (view : View) (old mid new : Grown) (face : Face) (chars rest : List ℕ) (column behind next done count : ℕ) → IsPushedTo view old mid face chars column behind done
-      → rest ≡ slice_range chars done (length chars) → count ≤ length rest → AllByRecursion IsPlain (take count rest) → (0 < count → view.left ≤ behind) → (0 < count → behind + count ≤ right_of view)
-      → new ≡ record { atoms = with_all_shown mid.atoms (shown_in mid.face (slice_range chars done (done + count))); face = mid.face }
+  pub pushed-run : (view : View) (old mid new : Grown) (face : Face) (chars rest run : List ℕ) (column behind next done count : ℕ) → IsPushedTo view old mid face chars column behind done
+      → rest ≡ drop done chars → run ≡ slice_range chars done (done + count) → count ≤ length rest → AllByRecursion IsPlain (take count rest) → (0 < count → view.left ≤ behind) → (0 < count → behind + count ≤ right_of view)
+      → new ≡ record { atoms = with_all_shown mid.atoms (shown_in mid.face run); face = mid.face }
       → next ≡ behind + count → IsPushedTo view old new face chars column next (done + count)
-  pushed-run view old mid new face chars rest column behind next done count p r k a left right n b =
-      pushed-more view old mid new face chars run run column behind next done (done + count) p (omega arith) inside refl n
+  pushed-run view old mid new face chars rest run column behind next done count p r s k a left right n b =
+      pushed-more view old mid new face chars run run column behind next done (done + count) p (omega arith) inside s n
       (sym (run-drawn view behind run plain (λ h. left (omega (arith, h, size))) (λ h. let w : 0 < count = omega (arith, h, size) in omega (arith, right w, size))))
       (b ∙ sym (column_behind-plain behind run plain ∙ ap (λ k. behind + k) size))
     where
-      run : List ℕ
-      run = slice_range chars done (done + count)
-
-      all : rest ≡ drop done chars
-      all = r ∙ rest-is chars done
-
       same : run ≡ take count rest
-      same = let e : done + count - done ≡ count = omega arith in ap (λ k. take k (drop done chars)) e ∙ ap (take count) (sym all)
+      same = let e : done + count - done ≡ count = omega arith in s ∙ ap (λ k. take k (drop done chars)) e ∙ ap (take count) (sym r)
 
       size : length run ≡ count
       size = ap length same ∙ (omega (arith, length-take count rest))
 
       inside : done + count ≤ length chars
-      inside = omega (arith, p.inside, k, ap length all, length-drop done chars)
+      inside = omega (arith, p.inside, k, ap length r, length-drop done chars)
 
       plain : AllByRecursion IsPlain run
       plain = subst (AllByRecursion IsPlain) (sym same) a
 
   -- another character is
   pub pushed-one : (view : View) (old mid new : Grown) (face : Face) (chars : List ℕ) (column behind next done c : ℕ) → IsPushedTo view old mid face chars column behind done
-      → done < length chars → c ≡ get_or chars done c → new ≡ record { atoms = with_all_shown mid.atoms (shown_in mid.face (char_drawn view behind (cells_of c behind tabstop) c)); face = mid.face }
+      → done < length chars → c ≡ get_or chars done 0 → new ≡ record { atoms = with_all_shown mid.atoms (shown_in mid.face (char_drawn view behind (cells_of c behind tabstop) c)); face = mid.face }
       → next ≡ behind + cells_of c behind tabstop → IsPushedTo view old new face chars column next (done + 1)
   pushed-one view old mid new face chars column behind next done c p l r n b =
       pushed-more view old mid new face chars (c ∷ []) (char_drawn view behind (cells_of c behind tabstop) c) column behind next done (done + 1) p (omega arith) (omega arith)
       (sym (slice-one chars done c l r)) n (sym (append-nil (char_drawn view behind (cells_of c behind tabstop) c))) b
     where
-      slice-one : (xs : List ℕ) (i x : ℕ) → i < length xs → x ≡ get_or xs i x → slice_range xs i (i + 1) ≡ x ∷ []
+      slice-one : (xs : List ℕ) (i x : ℕ) → i < length xs → x ≡ get_or xs i 0 → slice_range xs i (i + 1) ≡ x ∷ []
       slice-one xs i x h e =
           let n : i + 1 - i ≡ 1 = omega arith in
-          ap (λ k. take k (drop i xs)) n ∙ ap (take 1) (drop-cons xs i x h) ∙ ap (λ y. y ∷ []) (sym e)
+          ap (λ k. take k (drop i xs)) n ∙ ap (take 1) (drop-cons xs i 0 h) ∙ ap (λ y. y ∷ []) (sym e)
 
   -- all of a stretch was drawn, or what is left lies right of the window
   pub pushed-all : (view : View) (old new : Grown) (face : Face) (chars : List ℕ) (column behind done : ℕ) → IsPushedTo view old new face chars column behind done → length chars ≤ done

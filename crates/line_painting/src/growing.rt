@@ -1,9 +1,11 @@
 //! Atoms that grow at their end.
 
 ghost use Rattle.std.specs.Prelude.{◌≡◌, [], ◌++◌, replicate, OnOk, IfOk};
+ghost use Rattle.compact_chars.specs.Rows.{chars_of};
 ghost use Rattle.line_painting.specs.Atoms.{shown_in, with_all_shown};
 
 use crate::atoms::push_run;
+use compact_chars::CharsRef;
 use json_writing::Atom;
 use kak_faces::{Face, StandardFace};
 use kak_text::Chars;
@@ -35,6 +37,16 @@ fn add_times(chars: &mut Chars, c: char, count: u64) -> Result<(), AllocError>
 {
     for _ in 0..count {
         chars.push(c)?;
+    }
+    Ok(())
+}
+
+// Adds the characters whose numbers bytes are.
+fn add_bytes(chars: &mut Chars, bytes: &[u8]) -> Result<(), AllocError>
+    ensures { OnOk result (chars.new ≡ chars.old ++ bytes.now) }
+{
+    for b in bytes {
+        chars.push(*b as char)?;
     }
     Ok(())
 }
@@ -82,10 +94,13 @@ impl Growing {
     }
 
     // Adds characters. An `Err` leaves some of the atoms.
-    pub fn push_chars(&mut self, chars: &[char]) -> Result<(), AllocError>
-        ensures { OnOk result (self.new ≡ grown_by self.old chars.now) }
+    pub fn push_chars(&mut self, chars: CharsRef<'_>) -> Result<(), AllocError>
+        ensures { OnOk result (self.new ≡ grown_by self.old (chars_of chars.entry)) }
     {
-        self.waiting.extend_from_slice(chars)
+        match chars {
+            CharsRef::Narrow(bytes) => add_bytes(&mut self.waiting, bytes),
+            CharsRef::Wide(chars) => self.waiting.extend_from_slice(chars),
+        }
     }
 
     // Adds a character so many times. An `Err` leaves some of the atoms.

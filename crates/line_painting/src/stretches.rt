@@ -4,6 +4,7 @@ ghost use Rattle.std.specs.Prelude.{◌≡◌, ℕ, ◌+◌, ◌*◌, ◌^◌, �
 ghost use Rattle.std.specs.List.{AllByRecursion};
 ghost use Rattle.kak_text.specs.Cells.{cells_of};
 ghost use Rattle.kak_text.specs.declared.widths.TheConstants.{MAX_TABSTOP};
+ghost use Rattle.compact_chars.specs.Rows.{chars_of};
 ghost use Rattle.window_view.specs.Views.{view_of as window_seen};
 ghost use Rattle.line_painting.specs.Cells.{right_of, char_drawn};
 ghost use Rattle.line_painting.specs.Laws.{IsPlain};
@@ -11,6 +12,7 @@ ghost use Rattle.line_painting.specs.Painting.{grown_by, with_stretch, IsBehind}
 
 use crate::cells::{char_drawn, right};
 use crate::growing::Growing;
+use compact_chars::CharsRef;
 use kak_faces::Face;
 use kak_text::{MAX_TABSTOP, cells};
 use std::alloc::AllocError;
@@ -36,9 +38,9 @@ fn is_plain(c: char) -> bool
 }
 
 // How many of the first characters are plain ones inside the window, if the first begins at a display column.
-fn plain_ahead(chars: &[char], window: Window, column: u32) -> usize
-    ensures few { result ≤ length chars.now }
-    ensures plain { AllByRecursion IsPlain (take result chars.now) }
+fn plain_ahead(chars: CharsRef<'_>, window: Window, column: u32) -> usize
+    ensures few { result ≤ length (chars_of chars.entry) }
+    ensures plain { AllByRecursion IsPlain (take result (chars_of chars.entry)) }
     ensures left { 0 < result → window.left ≤ column }
     ensures right { 0 < result → column + result ≤ right_of (window_seen window) }
 {
@@ -48,7 +50,7 @@ fn plain_ahead(chars: &[char], window: Window, column: u32) -> usize
     let room = u32::from(window.columns).saturating_sub(column - window.left);
     let end = chars.len().min(room as usize);
     for i in 0..end {
-        if !is_plain(chars[i]) {
+        if !is_plain(chars.at(i)) {
             return i;
         }
     }
@@ -73,15 +75,15 @@ fn push_one(atoms: &mut Growing, c: char, frame: Frame, column: u32) -> Result<u
 /// some of the atoms.
 pub fn push_stretch(
     atoms: &mut Growing,
-    chars: &[char],
+    chars: CharsRef<'_>,
     frame: Frame,
     column: u32,
     face: Face,
 ) -> Result<u32, AllocError>
-    requires { column + MAX_TABSTOP * length chars.now < 2 ^ 31 }
-    ensures drawn { OnOk result (atoms.new.atoms ≡ with_stretch frame.tabstop (window_seen frame.window) atoms.old.atoms face column chars.now) }
-    ensures column { IfOk result (IsBehind frame.tabstop (window_seen frame.window) column chars.now) }
-    ensures small { IfOk result (λ behind. behind ≤ column + MAX_TABSTOP * length chars.now) }
+    requires { column + MAX_TABSTOP * length (chars_of chars) < 2 ^ 31 }
+    ensures drawn { OnOk result (atoms.new.atoms ≡ with_stretch frame.tabstop (window_seen frame.window) atoms.old.atoms face column (chars_of chars.entry)) }
+    ensures column { IfOk result (IsBehind frame.tabstop (window_seen frame.window) column (chars_of chars.entry)) }
+    ensures small { IfOk result (λ behind. behind ≤ column + MAX_TABSTOP * length (chars_of chars.entry)) }
 {
     if chars.is_empty() {
         return Ok(column);
@@ -90,16 +92,16 @@ pub fn push_stretch(
     let mut behind = column;
     let mut done = 0;
     while done < chars.len() {
-        let to = done + plain_ahead(&chars[done..], frame.window, behind);
+        let to = done + plain_ahead(chars.behind(done), frame.window, behind);
         let next = behind + (to - done) as u32;
-        atoms.push_chars(&chars[done..to])?;
+        atoms.push_chars(chars.between(done, to))?;
         if to >= chars.len() {
             return Ok(next);
         }
         if u64::from(next) >= right(frame.window) {
             return Ok(next);
         }
-        behind = push_one(atoms, chars[to], frame, next)?;
+        behind = push_one(atoms, chars.at(to), frame, next)?;
         done = to + 1;
     }
     Ok(behind)

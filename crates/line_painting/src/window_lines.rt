@@ -4,6 +4,7 @@ ghost use Rattle.std.specs.Prelude.{◌≡◌, ℕ, ◌+◌, ◌*◌, ◌^◌, �
 ghost use Rattle.std.specs.List.{AllByRecursion};
 ghost use Rattle.text_model.specs.declared.TheConstants.{MAX_CHARS};
 ghost use Rattle.text_model.specs.Texts.{line_count};
+ghost use Rattle.compact_chars.specs.Rows.{chars_of};
 ghost use Rattle.selection_set.specs.declared.sel.Sel.{Sel as SelModel};
 ghost use Rattle.window_view.specs.Views.{view_of as window_seen};
 ghost use Rattle.selection_set.specs.Held.{selected, IsHeld};
@@ -16,6 +17,7 @@ use crate::growing::Growing;
 use crate::paint::{Colors, Paint};
 use crate::parts::Parts;
 use crate::stretches::{Frame, push_stretch};
+use compact_chars::CharsRef;
 use json_writing::{Atoms, DrawnLine, DrawnLines};
 use kak_text::{Coord, MAX_TABSTOP};
 use line_buffer::Lines;
@@ -39,26 +41,26 @@ fn first_reaching(sels: &[Sel], from: usize, line: u32) -> usize
 // Adds what a window shows of the cursor of a selection, where it is there: the column behind it.
 fn push_cursor(
     atoms: &mut Growing,
-    chars: &[char],
+    chars: CharsRef<'_>,
     frame: Frame,
     column: u32,
     colors: &Colors,
 ) -> Result<u32, AllocError>
-    requires { column + MAX_TABSTOP * length chars.now < 2 ^ 31 }
-    ensures drawn { OnOk result (atoms.new.atoms ≡ with_stretch frame.tabstop (window_seen frame.window) atoms.old.atoms (first_face colors.now chars.now) column chars.now) }
-    ensures column { IfOk result (IsBehind frame.tabstop (window_seen frame.window) column chars.now) }
-    ensures small { IfOk result (λ behind. behind ≤ column + MAX_TABSTOP * length chars.now) }
+    requires { column + MAX_TABSTOP * length (chars_of chars) < 2 ^ 31 }
+    ensures drawn { OnOk result (atoms.new.atoms ≡ with_stretch frame.tabstop (window_seen frame.window) atoms.old.atoms (first_face colors.now (chars_of chars.entry)) column (chars_of chars.entry)) }
+    ensures column { IfOk result (IsBehind frame.tabstop (window_seen frame.window) column (chars_of chars.entry)) }
+    ensures small { IfOk result (λ behind. behind ≤ column + MAX_TABSTOP * length (chars_of chars.entry)) }
 {
-    match chars.first() {
-        None => Ok(column),
-        Some(c) => push_stretch(atoms, chars, frame, column, colors.cursor_on(*c)),
+    if chars.is_empty() {
+        return Ok(column);
     }
+    push_stretch(atoms, chars, frame, column, colors.cursor_on(chars.at(0)))
 }
 
 // Adds what a window shows of the parts of a line that a selection takes: the column behind them.
 fn push_parts(
     atoms: &mut Growing,
-    line: &[char],
+    line: CharsRef<'_>,
     frame: Frame,
     column: u32,
     parts: Parts,
@@ -66,14 +68,14 @@ fn push_parts(
 ) -> Result<u32, AllocError>
     requires first { parts.low ≤ parts.middle }
     requires second { parts.middle ≤ parts.behind }
-    requires inside { parts.behind ≤ length line.now }
-    requires short { length line.now ≤ MAX_CHARS }
+    requires inside { parts.behind ≤ length (chars_of line) }
+    requires short { length (chars_of line) ≤ MAX_CHARS }
     requires column { column ≤ MAX_TABSTOP * parts.low }
-    ensures drawn { IfOk result (PartsAreDrawn frame.tabstop (window_seen frame.window) line.now parts colors.now atoms.old.atoms atoms.new.atoms column) }
+    ensures drawn { IfOk result (PartsAreDrawn frame.tabstop (window_seen frame.window) (chars_of line.entry) parts colors.now atoms.old.atoms atoms.new.atoms column) }
     ensures small { IfOk result (λ behind. behind ≤ MAX_TABSTOP * parts.behind) }
 {
-    let first = &line[parts.low..parts.middle];
-    let second = &line[parts.middle..parts.behind];
+    let first = line.between(parts.low, parts.middle);
+    let second = line.between(parts.middle, parts.behind);
     if parts.turned {
         let seam = push_cursor(atoms, first, frame, column, colors)?;
         return push_stretch(atoms, second, frame, seam, colors.selected);
@@ -111,12 +113,18 @@ fn push_line(
             return Ok(());
         }
         let parts = Parts::of_sel(begin, line.len(), list[k]);
-        let low = push_stretch(atoms, &line[at..parts.low], frame, column, paint.bare)?;
+        let low = push_stretch(
+            atoms,
+            line.between(at, parts.low),
+            frame,
+            column,
+            paint.bare,
+        )?;
         let colors = paint.colors(k == sels.main());
         column = push_parts(atoms, line, frame, low, parts, &colors)?;
         at = parts.behind;
     }
-    push_stretch(atoms, &line[at..line.len()], frame, column, paint.bare)?;
+    push_stretch(atoms, line.behind(at), frame, column, paint.bare)?;
     Ok(())
 }
 

@@ -38,7 +38,7 @@ fn find_bracket(lines: &Lines, from: Coord) -> Option<Coord>
 {
     let line = lines.line(from.line as usize);
     for column in from.column as usize..line.len() {
-        if kind_of(line[column]).is_some() {
+        if kind_of(line.at(column)).is_some() {
             return Some(Coord {
                 line: from.line,
                 column: column as u32,

@@ -3,11 +3,13 @@
 ghost use Rattle.std.specs.Prelude.{◌≡◌, ◌<◌, ◌≤◌, None, Some, IsNone, IfSome, option_map, length};
 ghost use Rattle.text_model.specs.Texts.{line_count, offset, IsPlace};
 ghost use Rattle.selection_set.specs.Inside.{range_of, IsInside};
+ghost use Rattle.compact_chars.specs.Rows.{chars_of};
 ghost use Rattle.motion_keys.specs.Motions.{line_by, landing, aim, landed, vertical, direction_of, stepped};
 ghost use Rattle.motion_keys.specs.Places.{OffsetsAre};
 
 use crate::direction::Direction;
 use crate::searching::beside_place;
+use compact_chars::CharsRef;
 use kak_text::{Coord, MAX_CHARS, MAX_TABSTOP};
 use line_buffer::Lines;
 use selection_set::{Pair, Sel};
@@ -70,13 +72,13 @@ fn aim(lines: &Lines, sel: &Sel, tabstop: u32) -> u32
 }
 
 // The column of a line at which a vertical move arrives.
-fn landing_column(line: &[char], target: u32, tabstop: u32) -> usize
-    requires line { 0 < length line.now }
-    requires short { length line.now ≤ MAX_CHARS }
+fn landing_column(line: CharsRef<'_>, target: u32, tabstop: u32) -> usize
+    requires line { 0 < length (chars_of line) }
+    requires short { length (chars_of line) ≤ MAX_CHARS }
     requires some { 1 ≤ tabstop }
     requires few { tabstop ≤ MAX_TABSTOP }
-    ensures gives { result ≡ landing line.now target tabstop }
-    ensures inside { result < length line.now }
+    ensures gives { result ≡ landing (chars_of line.entry) target tabstop }
+    ensures inside { result < length (chars_of line.entry) }
 {
     match offset_at(line, target, tabstop) {
         Some(column) => column,

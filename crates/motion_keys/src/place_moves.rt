@@ -48,7 +48,7 @@ fn find_text(lines: &Lines, n: u32) -> Option<Coord>
 {
     let line = lines.line(n as usize);
     for column in 0..line.len() {
-        if !class(line[column]).is(Class::Blank) {
+        if !class(line.at(column)).is(Class::Blank) {
             return Some(Coord {
                 line: n,
                 column: column as u32,

@@ -1,7 +1,8 @@
 -- The characters of selections as texts of bytes.
-use Rattle.std.proofs.Common.{◌≡◌, ℕ, ◌+◌, ◌<◌, ◌≤◌, Bool, List, [], ◌∷◌, length, get_or, map, refl, sym, ap, ap₂, ◌∙◌}
+use Rattle.std.proofs.Common.{◌≡◌, ℕ, ◌+◌, ◌<◌, ◌≤◌, Bool, List, [], ◌∷◌, ◌++◌, length, get_or, map, encode_utf8_all, refl, sym, ap, ap₂, ◌∙◌}
 use Rattle.std.proofs.lemmas.List.{drop_more, drop_all}
-use Rattle.std.specs.Prelude.{not, if◌then◌else◌}
+use Rattle.std.proofs.lemmas.Str.{encodes-IsAscii}
+use Rattle.std.specs.Prelude.{not, if◌then◌else◌, IsAscii}
 use Rattle.list_model.specs.Ranges.{Range}
 use Rattle.selection_set.specs.declared.sel.Sel.{Sel}
 use Rattle.selection_set.specs.Inside.{range_of}
@@ -21,3 +22,7 @@ left-none text sels n h = ap (λ ss. map (bytes_of text) (ranges_of text ss)) (d
 pub kept-flags : (matching : Bool) (source text : List ℕ) (rs : List Range) → map (λ found. if matching then found else not found) (map (is_found_in source) (map (bytes_of text) rs)) ≡ map (is_kept matching source text) rs
 kept-flags matching source text [] = refl
 kept-flags matching source text (r ∷ rs) = ap₂ ◌∷◌ refl (kept-flags matching source text rs)
+
+-- a text with what waited behind it is all that was gathered
+pub waited-added : (old waiting lent new all : List ℕ) → new ≡ old ++ encode_utf8_all lent → lent ≡ waiting → IsAscii waiting → old ++ waiting ≡ all → new ≡ all
+waited-added old waiting lent new all added same ascii both = added ∙ ap (λ t. old ++ t) (ap encode_utf8_all same ∙ encodes-IsAscii waiting ascii) ∙ both

@@ -167,15 +167,14 @@ pub record IsPart (text : List ℕ) (sel : Sel) (w : Walk) (run : List ℕ) : Ty
   pub few : w.passed + length run ≤ length (own_chars text sel)
   pub bytes : (k : ℕ) → k ≤ length run → bytes_before (own_chars text sel) (w.passed + k) ≡ w.bytes + bytes_before run k
 
-pub part-walked : (text : List ℕ) (sel : Sel) (w : Walk) (line : List ℕ) (end last : ℕ) → IsInside text sel → IsWalk text sel w → w.passed < length (own_chars text sel) → line ≡ nth_line text w.at.line → w.at.column < end → end ≤ last → last ≤ length line → (w.at.line ≡ sel.high.line → last ≤ sel.high.column + 1)
-    → IsPart text sel w (slice_range line w.at.column end)
-part-walked text sel w line end last h walk there is some before inside high =
+pub part-walked : (text : List ℕ) (sel : Sel) (w : Walk) (line run : List ℕ) (end last : ℕ) → IsInside text sel → IsWalk text sel w → w.passed < length (own_chars text sel) → line ≡ nth_line text w.at.line → run ≡ slice_range line w.at.column end → w.at.column < end → end ≤ last → last ≤ length line → (w.at.line ≡ sel.high.line → last ≤ sel.high.column + 1)
+    → IsPart text sel w run
+part-walked text sel w line run end last h walk there is cut some before inside high =
     let place : IsPlace text w.at = walk-place text sel w h walk there in
     let m : ℕ = end - w.at.column in
     let own : List ℕ = own_chars text sel in
-    let run : List ℕ = slice_range line w.at.column end in
     let short : end ≤ length (nth_line text w.at.line) = omega (arith, before, inside, ap length is) in
-    let here : run ≡ slice_range (nth_line text w.at.line) w.at.column end = ap (λ l. slice_range l w.at.column end) is in
+    let here : run ≡ slice_range (nth_line text w.at.line) w.at.column end = cut ∙ ap (λ l. slice_range l w.at.column end) is in
     let long : length run ≡ m = ap length here ∙ length-take-le m (drop w.at.column (nth_line text w.at.line)) (omega (arith, short, length-drop w.at.column (nth_line text w.at.line))) in
     let left : offset text w.at + m ≤ offset text sel.high + 1 = part-left text sel w.at end h place (omega (arith, walk.reached, there, own-length text sel h)) (omega (arith, some)) short (λ same. omega (arith, before, high same)) in
     let few : w.passed + m ≤ length own = omega (arith, left, walk.reached, own-length text sel h) in

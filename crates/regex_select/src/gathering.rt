@@ -1,13 +1,14 @@
 //! Characters that are gathered to be searched.
 
-ghost use Rattle.std.specs.Prelude.{◌≡◌, ◌+◌, ◌≤◌, ◌++◌, [], length, string_bytes, encode_utf8_all, vec_len, IsTrue, IsAscii, IfOk, OnOk};
-ghost use Rattle.std.specs.Vec.{vec_capacity};
+ghost use Rattle.std.specs.Prelude.{◌≡◌, ◌++◌, [], length, string_bytes, encode_utf8_all, IsAscii, IfOk};
+ghost use Rattle.compact_chars.specs.Rows.{chars_of};
 
+use compact_chars::CharsRef;
 use std::alloc::{AllocError, Global};
 use std::marker::Model;
 
-/// Characters in UTF-8, one run of them behind another. ASCII ones at the end wait as bytes, which are put down in short
-/// loops, until others come.
+/// Characters in UTF-8, one run of them behind another. ASCII ones at the end wait as bytes, each run of which is put down
+/// at once, until others come.
 #[derive(Drop)]
 pub(crate) struct Gathered {
     text: String,
@@ -22,52 +23,6 @@ impl Model for Gathered {
     ghost view = { λ g. string_bytes g.text ++ g.waiting.items };
 
     ghost invariant = { λ g. IsAscii g.waiting.items };
-}
-
-/// Whether all characters are ASCII. Each is looked at, in a loop that has no other way out.
-pub(crate) fn is_ascii(chars: &[char]) -> bool
-    ensures { IsTrue result → IsAscii chars.now }
-{
-    let mut ascii = true;
-    for c in chars {
-        if (*c as u32) >= 128 {
-            ascii = false;
-        }
-    }
-    ascii
-}
-
-// Bytes with ASCII characters behind them, for which there is room.
-fn with_ascii(mut bytes: Vec<u8>, chars: &[char]) -> Vec<u8>
-    requires ascii { IsAscii chars.now }
-    requires room { vec_len bytes + length chars.now ≤ vec_capacity bytes }
-    ensures { result.items ≡ bytes.items ++ chars.now }
-{
-    for c in chars {
-        bytes.push_reserved(*c as u8);
-    }
-    bytes
-}
-
-// Adds characters to a string.
-fn push_chars(text: &mut String, chars: &[char]) -> Result<(), AllocError>
-    ensures { OnOk result (string_bytes text.new ≡ string_bytes text.old ++ encode_utf8_all chars.now) }
-{
-    for c in chars {
-        text.push(*c)?;
-    }
-    Ok(())
-}
-
-// Adds ASCII bytes to a string.
-fn push_ascii(text: &mut String, bytes: &[u8]) -> Result<(), AllocError>
-    requires { IsAscii bytes.now }
-    ensures { OnOk result (string_bytes text.new ≡ string_bytes text.old ++ bytes.now) }
-{
-    match str::from_utf8(bytes) {
-        Ok(ascii) => text.push_str(ascii),
-        Err(_) => unreachable!(),
-    }
 }
 
 // ASCII bytes as a string.
@@ -100,32 +55,31 @@ impl Gathered {
     }
 
     // These characters with others behind them, which needn't be ASCII: what waited goes before them.
-    fn with_wide(self, chars: &[char]) -> Result<Gathered, AllocError>
-        ensures { IfOk result (λ g. g ≡ self ++ encode_utf8_all chars.now) }
+    fn with_wide(self, chars: CharsRef<'_>) -> Result<Gathered, AllocError>
+        ensures { IfOk result (λ g. g ≡ self ++ encode_utf8_all (chars_of chars.entry)) }
     {
         let Gathered {
             mut text,
             mut waiting,
         } = self;
-        push_ascii(&mut text, waiting.as_slice())?;
+        CharsRef::Narrow(waiting.as_slice()).push_utf8(&mut text)?;
         waiting.clear();
-        push_chars(&mut text, chars)?;
+        chars.push_utf8(&mut text)?;
         Ok(Gathered { text, waiting })
     }
 
     /// These characters with others behind them. It costs those.
-    pub(crate) fn with_run(self, chars: &[char]) -> Result<Gathered, AllocError>
-        ensures { IfOk result (λ g. g ≡ self ++ encode_utf8_all chars.now) }
+    pub(crate) fn with_run(self, chars: CharsRef<'_>) -> Result<Gathered, AllocError>
+        ensures { IfOk result (λ g. g ≡ self ++ encode_utf8_all (chars_of chars.entry)) }
     {
-        if is_ascii(chars) {
-            let Gathered { text, mut waiting } = self;
-            waiting.reserve(chars.len())?;
-            return Ok(Gathered {
-                text,
-                waiting: with_ascii(waiting, chars),
-            });
+        match chars {
+            CharsRef::Narrow(bytes) if bytes.is_ascii() => {
+                let Gathered { text, mut waiting } = self;
+                waiting.extend_from_slice(bytes)?;
+                Ok(Gathered { text, waiting })
+            }
+            _ => self.with_wide(chars),
         }
-        self.with_wide(chars)
     }
 
     /// These characters as a string.
@@ -136,7 +90,7 @@ impl Gathered {
         if text.is_empty() {
             return Ok(text_of(waiting));
         }
-        push_ascii(&mut text, waiting.as_slice())?;
+        CharsRef::Narrow(waiting.as_slice()).push_utf8(&mut text)?;
         Ok(text)
     }
 }

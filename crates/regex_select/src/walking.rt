@@ -4,10 +4,11 @@ ghost use Rattle.std.specs.Prelude.{◌≡◌, ℕ, ◌+◌, ◌-◌, ◌*◌, �
 ghost use Rattle.text_model.specs.declared.TheConstants.{MAX_CHARS};
 ghost use Rattle.text_model.specs.Texts.{IsPlace, IsPlaceOrEnd, offset, nth_line};
 ghost use Rattle.selection_set.specs.Inside.{IsInside};
+ghost use Rattle.compact_chars.specs.Rows.{chars_of};
 ghost use Rattle.regex_select.specs.Selecting.{chars_before};
 ghost use Rattle.regex_select.specs.Walks.{bytes_before, own_chars, IsWalk};
 
-use crate::gathering::is_ascii;
+use compact_chars::CharsRef;
 use kak_text::Coord;
 use line_buffer::Lines;
 use selection_set::Sel;
@@ -47,37 +48,37 @@ fn not_beyond(sel: Sel, from: Walk, byte: usize) -> Walk
 
 // Goes over characters from a byte on, of which there are no more than bytes up to another one, as far as they begin
 // before that: how many they are, and the byte behind them.
-fn pass(run: &[char], from: usize, byte: usize) -> (usize, usize)
-    requires some { 0 < length run.now }
-    requires few { from + length run.now ≤ byte }
-    requires short { length run.now ≤ MAX_CHARS }
+fn pass(run: CharsRef<'_>, from: usize, byte: usize) -> (usize, usize)
+    requires some { 0 < length (chars_of run) }
+    requires few { from + length (chars_of run) ≤ byte }
+    requires short { length (chars_of run) ≤ MAX_CHARS }
     requires small { from ≤ 4 * MAX_CHARS }
     ensures some { 0 < result.0 }
-    ensures inside { result.0 ≤ length run.now }
-    ensures bytes { result.1 ≡ from + bytes_before run.now result.0 }
-    ensures begun { from + bytes_before run.now (result.0 - 1) < byte }
+    ensures inside { result.0 ≤ length (chars_of run.entry) }
+    ensures bytes { result.1 ≡ from + bytes_before (chars_of run.entry) result.0 }
+    ensures begun { from + bytes_before (chars_of run.entry) (result.0 - 1) < byte }
     ensures small { result.1 ≤ from + 4 * result.0 }
 {
-    let count = run.len();
-    if is_ascii(run) {
-        return (count, from + count);
+    match run {
+        CharsRef::Narrow(ascii) if ascii.is_ascii() => return (ascii.len(), from + ascii.len()),
+        _ => {}
     }
     let mut bytes = from;
-    for (i, c) in run.iter().enumerate() {
+    for i in 0..run.len() {
         if byte <= bytes {
             return (i, bytes);
         }
-        bytes += c.len_utf8();
+        bytes += run.at(i).len_utf8();
     }
-    (count, bytes)
+    (run.len(), bytes)
 }
 
 // The column behind a selection's part of the line of a place in it.
-fn part_end(line: &[char], sel: Sel, at: Coord) -> usize
-    requires at { at.column < length line.now }
-    requires high { at.line ≡ sel.high.line → (at.column ≤ sel.high.column) × (sel.high.column < length line.now) }
+fn part_end(line: CharsRef<'_>, sel: Sel, at: Coord) -> usize
+    requires at { at.column < length (chars_of line) }
+    requires high { at.line ≡ sel.high.line → (at.column ≤ sel.high.column) × (sel.high.column < length (chars_of line)) }
     ensures some { at.column < result }
-    ensures line { result ≤ length line.now }
+    ensures line { result ≤ length (chars_of line.entry) }
     ensures high { at.line ≡ sel.high.line → result ≤ sel.high.column + 1 }
 {
     if at.line == sel.high.line {
@@ -137,7 +138,7 @@ fn pass_line(lines: &Lines, sel: Sel, walk: Walk, byte: usize) -> Walk
     let line = lines.line(walk.at.line as usize);
     let column = walk.at.column as usize;
     let end = at_most(part_end(line, sel, walk.at), column, byte - walk.bytes);
-    let (count, bytes) = pass(&line[column..end], walk.bytes, byte);
+    let (count, bytes) = pass(line.between(column, end), walk.bytes, byte);
     Walk {
         at: further(lines, walk.at, count),
         passed: walk.passed + count,

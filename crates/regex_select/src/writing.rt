@@ -27,14 +27,14 @@ pub(crate) fn with_part(
     let mut all = gathered;
     let mut start = from.column as usize;
     for n in from.line..to.line {
-        all = all.with_run(&lines.line(n as usize)[start..])?;
+        all = all.with_run(lines.line(n as usize).behind(start))?;
         start = 0;
     }
     let column = to.column as usize;
     if column <= start {
         return Ok(all);
     }
-    all.with_run(&lines.line(to.line as usize)[start..column])
+    all.with_run(lines.line(to.line as usize).between(start, column))
 }
 
 /// The characters of a selection. It costs these.

@@ -7,10 +7,11 @@ ghost use Rattle.text_coding.specs.Surveying.{IsSurvey, last_of, waiting};
 
 use crate::filling::Filling;
 use crate::form::{Bom, DecodeError, Eol, Loaded};
+use compact_chars::CharsRef;
 use kak_text::MAX_CHARS;
-use line_buffer::{Lines, LinesError};
+use line_buffer::{GrowingLines, Lines, LinesError};
 use memchr::memchr;
-use std::alloc::Global;
+use std::alloc::{AllocError, Global};
 
 // The mark of the byte order in UTF-8.
 const UTF8_MARK: [u8; 3] = [0xEF, 0xBB, 0xBF];
@@ -202,18 +203,29 @@ fn without_return(run: &[u8]) -> &[u8]
     if *last == b'\r' { front } else { run }
 }
 
+// Some bytes with a newline behind them, in the memory that others had.
+fn with_newline(mut line: Vec<u8>, run: &[u8]) -> Result<Vec<u8>, AllocError>
+    ensures { IfOk result (λ line. line.items ≡ run.now ++ 10 ∷ []) }
+{
+    line.clear();
+    line.extend_from_slice(run)?;
+    line.push(b'\n')?;
+    Ok(line)
+}
+
 // Characters that are bytes, without the returns that stand before newlines. Each line is copied at once.
 fn joined_ascii(alloc: Global, bytes: &[u8]) -> Result<Filling, LinesError>
     ensures { IfOk result (λ filling. filling ≡ without_returns bytes.now) }
 {
-    let mut filling = Filling::new(alloc);
+    let mut lines = GrowingLines::new(alloc);
+    let mut line = Vec::new(alloc);
     let mut rest = bytes;
     while let Some((run, behind)) = first_line(rest) {
-        filling = filling.with_run(without_return(run))?;
-        filling.push(alloc, '\n')?;
+        line = with_newline(line, without_return(run))?;
+        lines.push(alloc, CharsRef::Narrow(line.as_slice()))?;
         rest = behind;
     }
-    Ok(filling.with_run(rest)?)
+    Ok(Filling::of_lines(alloc, lines).with_run(rest)?)
 }
 
 // The characters of a file without the returns that stand before newlines.
@@ -238,14 +250,13 @@ fn joined_chars(alloc: Global, text: &str, ascii: bool) -> Result<Filling, Lines
 fn ascii_chars(alloc: Global, bytes: &[u8]) -> Result<Filling, LinesError>
     ensures { IfOk result (λ filling. filling ≡ bytes.now) }
 {
-    let mut filling = Filling::new(alloc);
+    let mut lines = GrowingLines::new(alloc);
     let mut rest = bytes;
     while let Some((run, behind)) = first_line(rest) {
-        filling = filling.with_run(run)?;
-        filling.push(alloc, '\n')?;
+        lines.push(alloc, CharsRef::Narrow(&rest[..run.len() + 1]))?;
         rest = behind;
     }
-    Ok(filling.with_run(rest)?)
+    Ok(Filling::of_lines(alloc, lines).with_run(rest)?)
 }
 
 // The characters of a file.

@@ -1,11 +1,12 @@
 //! The bytes that texts are saved as.
 
-ghost use Rattle.std.specs.Prelude.{◌≡◌, ◌+◌, ◌≤◌, ◌∷◌, [], ◌++◌, length, IfOk, OnOk, IsTrue, IsAscii, encode_utf8_all, encode_utf8, vec_len};
-ghost use Rattle.std.specs.Vec.{vec_capacity};
+ghost use Rattle.std.specs.Prelude.{◌≡◌, ◌∷◌, [], ◌++◌, IfOk, OnOk, encode_utf8_all, encode_utf8};
 ghost use Rattle.text_model.specs.Texts.{IsLine};
+ghost use Rattle.compact_chars.specs.Rows.{chars_of};
 ghost use Rattle.text_coding.specs.Coding.{mark_of, to_form, saved};
 
 use crate::form::{Bom, Eol};
+use compact_chars::CharsRef;
 use line_buffer::Lines;
 use std::alloc::{AllocError, Global};
 
@@ -52,50 +53,27 @@ fn push_char(bytes: &mut Vec<u8>, c: char) -> Result<(), AllocError>
     bytes.extend_from_slice(c.encode_utf8(&mut utf8).as_bytes())
 }
 
-// Whether all characters are ASCII. Each is looked at, in a loop that has no other way out.
-fn is_ascii(chars: &[char]) -> bool
-    ensures { IsTrue result → IsAscii chars.now }
-{
-    let mut ascii = true;
-    for c in chars {
-        if (*c as u32) >= 128 {
-            ascii = false;
-        }
-    }
-    ascii
-}
-
-// Bytes with ASCII characters behind them, for which there is room.
-fn with_ascii(mut bytes: Vec<u8>, chars: &[char]) -> Vec<u8>
-    requires ascii { IsAscii chars.now }
-    requires room { vec_len bytes + length chars.now ≤ vec_capacity bytes }
-    ensures { result.items ≡ bytes.items ++ chars.now }
-{
-    for c in chars {
-        bytes.push_reserved(*c as u8);
-    }
-    bytes
-}
-
 // Bytes with characters behind them.
-fn with_chars(mut bytes: Vec<u8>, chars: &[char]) -> Result<Vec<u8>, AllocError>
-    ensures { IfOk result (λ new. new.items ≡ bytes.items ++ encode_utf8_all chars.now) }
+fn with_chars(mut bytes: Vec<u8>, chars: CharsRef<'_>) -> Result<Vec<u8>, AllocError>
+    ensures { IfOk result (λ new. new.items ≡ bytes.items ++ encode_utf8_all (chars_of chars.entry)) }
 {
-    for c in chars {
-        push_char(&mut bytes, *c)?;
+    for i in 0..chars.len() {
+        push_char(&mut bytes, chars.at(i))?;
     }
     Ok(bytes)
 }
 
-// Bytes with characters behind them, for which room is made at once where all are ASCII.
-fn with_run(mut bytes: Vec<u8>, chars: &[char]) -> Result<Vec<u8>, AllocError>
-    ensures { IfOk result (λ new. new.items ≡ bytes.items ++ encode_utf8_all chars.now) }
+// Bytes with characters behind them, at once where these are kept as ASCII.
+fn with_run(mut bytes: Vec<u8>, chars: CharsRef<'_>) -> Result<Vec<u8>, AllocError>
+    ensures { IfOk result (λ new. new.items ≡ bytes.items ++ encode_utf8_all (chars_of chars.entry)) }
 {
-    if is_ascii(chars) {
-        bytes.reserve(chars.len())?;
-        return Ok(with_ascii(bytes, chars));
+    match chars {
+        CharsRef::Narrow(narrow) if narrow.is_ascii() => {
+            bytes.extend_from_slice(narrow)?;
+            Ok(bytes)
+        }
+        _ => with_chars(bytes, chars),
     }
-    with_chars(bytes, chars)
 }
 
 // Bytes with the end of a line behind them.
@@ -112,11 +90,11 @@ fn with_end(mut bytes: Vec<u8>, eol: Eol) -> Result<Vec<u8>, AllocError>
 }
 
 // Bytes with a line behind them.
-fn with_line(bytes: Vec<u8>, line: &[char], eol: Eol) -> Result<Vec<u8>, AllocError>
-    requires { IsLine line.now }
-    ensures { IfOk result (λ new. new.items ≡ bytes.items ++ encode_utf8_all (to_form eol line.now)) }
+fn with_line(bytes: Vec<u8>, line: CharsRef<'_>, eol: Eol) -> Result<Vec<u8>, AllocError>
+    requires { IsLine (chars_of line) }
+    ensures { IfOk result (λ new. new.items ≡ bytes.items ++ encode_utf8_all (to_form eol (chars_of line.entry))) }
 {
-    with_end(with_run(bytes, &line[..line.len() - 1])?, eol)
+    with_end(with_run(bytes, line.between(0, line.len() - 1))?, eol)
 }
 
 /// The bytes that a text is saved as, made of its lines. Room for them is taken once, unless characters that take more

@@ -3,8 +3,10 @@
 ghost use Rattle.std.specs.Prelude.{◌≡◌, ◌≢◌, ◌+◌, ◌++◌, ◌∷◌, [], ◌<◌, ◌≤◌, length, All, IfOk, OnOk, OnErr, IsErrOf, vec_len};
 ghost use Rattle.std.specs.Vec.{vec_capacity};
 ghost use Rattle.text_model.specs.declared.TheConstants.{MAX_CHARS};
+ghost use Rattle.text_model.specs.Texts.{IsText};
 ghost use Rattle.text_model.specs.Changes.{ended};
 
+use compact_chars::CharsRef;
 use line_buffer::{GrowingLines, Lines, LinesError};
 use std::alloc::{AllocError, Global};
 use std::marker::Model;
@@ -57,7 +59,7 @@ fn closed(alloc: Global, mut lines: GrowingLines, mut line: Vec<char>) -> Result
     ensures full { IsErrOf result LinesError.TextFull → MAX_CHARS < length (lines ++ (line.items ++ 10 ∷ [])) }
 {
     push_char(&mut line, '\n')?;
-    lines.push(alloc, line.as_slice())?;
+    lines.push(alloc, CharsRef::Wide(line.as_slice()))?;
     Ok(lines.finish(alloc))
 }
 
@@ -68,6 +70,17 @@ impl Filling {
     {
         Filling {
             lines: GrowingLines::new(alloc),
+            line: Vec::new(alloc),
+        }
+    }
+
+    /// These lines.
+    pub fn of_lines(alloc: Global, lines: GrowingLines) -> Filling
+        requires { 0 < length lines → IsText lines }
+        ensures { result ≡ lines }
+    {
+        Filling {
+            lines,
             line: Vec::new(alloc),
         }
     }
@@ -90,7 +103,7 @@ impl Filling {
         ensures full { IsErrOf result LinesError.TextFull → MAX_CHARS < length (self.old ++ 10 ∷ []) }
     {
         push_char(&mut self.line, '\n')?;
-        let pushed = self.lines.push(alloc, self.line.as_slice());
+        let pushed = self.lines.push(alloc, CharsRef::Wide(self.line.as_slice()));
         self.line.clear();
         pushed
     }

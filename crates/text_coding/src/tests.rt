@@ -12,9 +12,7 @@ fn load(alloc: Global, bytes: &[u8]) -> Result<Result<(String, Eol, Bom), Decode
     };
     let mut text = String::new(alloc);
     for n in 0..loaded.text.line_count() {
-        for c in loaded.text.line(n) {
-            text.push(*c)?;
-        }
+        loaded.text.line(n).push_utf8(&mut text)?;
     }
     Ok(Ok((text, loaded.eol, loaded.bom)))
 }

@@ -1,10 +1,9 @@
 -- The line of an offset, and where lines begin.
 use Rattle.std.proofs.Common.{◌≡◌, ℕ, ◌+◌, ◌<◌, ◌≤◌, List, length, get_or, slice_index, sym, ap, ◌∙◌, arith, inl, inr}
 use Rattle.std.proofs.lemmas.Bool.{cases_lt}
-use Rattle.std.proofs.lemmas.List.{get_or_default}
 use Rattle.text_model.specs.declared.coords.Coord.{Coord}
 use Rattle.text_model.specs.Texts.{offset, IsPlace, lines_of, line_count, nth_line, coord_at}
-use Rattle.text_model.proofs.PlaceLemmas.{start-le, start-more, start-end, length-lines, place-before_next, IsPlace-coord_at, char-at, offset-below, offset-coord_at, coord_at-offset}
+use Rattle.text_model.proofs.PlaceLemmas.{start-le, start-more, start-end, length-lines, place-before_next, IsPlace-coord_at, char-at, offset-coord_at, coord_at-offset}
 use Rattle.motion_keys.specs.Landmarks.{line_begin, line_of}
 
 pub line_begin-le : (text : List ℕ) (m n : ℕ) → m ≤ n → line_begin text m ≤ line_begin text n
@@ -47,10 +46,10 @@ pub line_of-place : (text : List ℕ) (at : Coord) → IsPlace text at → line_
 line_of-place text at h = ap (λ (c : Coord). c.line) (coord_at-offset text at h)
 
 -- a character that was read from a line stands at its place
-pub place-read : (text : List ℕ) (at : Coord) (line : List ℕ) (c : ℕ) → IsPlace text at → line ≡ nth_line text at.line → c ≡ get_or line at.column c → slice_index text (offset text at) ≡ c
-place-read text at line c place e k = get_or_default text (offset text at) 0 c (offset-below text at place) ∙ char-at text at c place ∙ ap (λ m. get_or m at.column c) (sym e) ∙ sym k
+pub place-read : (text : List ℕ) (at : Coord) (line : List ℕ) (c : ℕ) → IsPlace text at → line ≡ nth_line text at.line → c ≡ get_or line at.column 0 → slice_index text (offset text at) ≡ c
+place-read text at line c place e k = char-at text at 0 place ∙ ap (λ m. get_or m at.column 0) (sym e) ∙ sym k
 
-pub char-read : (text : List ℕ) (n column : ℕ) (line : List ℕ) (c : ℕ) → n < line_count text → line ≡ nth_line text n → column < length line → c ≡ get_or line column c → slice_index text (line_begin text n + column) ≡ c
+pub char-read : (text : List ℕ) (n column : ℕ) (line : List ℕ) (c : ℕ) → n < line_count text → line ≡ nth_line text n → column < length line → c ≡ get_or line column 0 → slice_index text (line_begin text n + column) ≡ c
 char-read text n column line c h e l k =
     let at : Coord = record { line = n; column = column } in
     let place : IsPlace text at = record { on_line = h; in_line = omega (arith, l, ap length e) } in

@@ -1,8 +1,7 @@
 -- The begin and the end of a run, step by step.
-use Rattle.std.proofs.Common.{◌≡◌, ℕ, ◌+◌, ◌-◌, ◌<◌, ◌≤◌, Bool, true, false, not, List, length, get_or, slice_index, Option, None, Some, sym, ap, subst, ◌∙◌, arith, inl, inr}
+use Rattle.std.proofs.Common.{◌≡◌, ℕ, ◌+◌, ◌-◌, ◌<◌, ◌≤◌, Bool, true, false, not, List, length, slice_index, Option, None, Some, sym, ap, subst, ◌∙◌, arith, inl, inr}
 use Rattle.std.specs.Prelude.{unwrap_or}
 use Rattle.std.proofs.lemmas.Bool.{cases_lt, false≢true}
-use Rattle.std.proofs.lemmas.List.{get_or_default}
 use Rattle.text_model.specs.declared.coords.Coord.{Coord}
 use Rattle.text_model.specs.Texts.{line_count}
 use Rattle.list_model.specs.Ranges.{cursor}
@@ -91,7 +90,3 @@ pub on-own-line : (text : List ℕ) (sel : Sel) (at : Coord) (found : Option Pai
 on-own-line text sel at found object h e f =
     let own : at.line ≡ line_of text (cursor (range_of text sel)) = sym (ap (λ (c : Coord). c.line) (coord_at-cursor text sel h ∙ sym e)) in
     subst (λ n. EndsAre text found (object n)) own f
-
--- a character that was read from a line
-pub read-at : (line : List ℕ) (column c : ℕ) → column < length line → c ≡ get_or line column c → slice_index line column ≡ c
-read-at line column c l k = get_or_default line column 0 c l ∙ sym k

@@ -22,7 +22,7 @@ fn find_unclosed(lines: &Lines, from: Coord, opening: char, closing: char) -> Op
     ensures gives { OffsetsAre lines.now result (unclosed opening closing lines.now (offset lines.now from)) }
     ensures small { length lines.now ≤ MAX_CHARS }
 {
-    if lines.line(from.line as usize)[from.column as usize] == opening {
+    if lines.line(from.line as usize).at(from.column as usize) == opening {
         return Some(from);
     }
     let mut at = from;

@@ -2,6 +2,7 @@
 
 ghost use Rattle.std.specs.Prelude.{◌≡◌, ◌<◌, ◌≤◌, length, Some};
 ghost use Rattle.text_model.specs.Texts.{IsStored, line_count};
+ghost use Rattle.compact_chars.specs.Rows.{chars_of};
 ghost use Rattle.motion_keys.specs.Words.{EndsAre};
 ghost use Rattle.text_objects.specs.Runs.{run_begin, run_end, chars_end};
 ghost use Rattle.text_objects.specs.RunObjects.{is_blank};
@@ -9,6 +10,7 @@ ghost use Rattle.text_objects.specs.LineObjects.{is_full, indentation, lines_bet
 ghost use Rattle.text_objects.specs.LineKinds.{is_line_of, HasTabstop};
 
 use crate::runs::{CharKind, is_char_of};
+use compact_chars::CharsRef;
 use kak_text::{Coord, MAX_CHARS, MAX_TABSTOP};
 use line_buffer::Lines;
 use selection_set::Pair;
@@ -26,12 +28,12 @@ pub(crate) enum LineKind {
 }
 
 // How many blanks a line begins with.
-fn leading_blanks(line: &[char]) -> usize
-    ensures value { result ≡ chars_end is_blank line.now 0 }
-    ensures inside { result ≤ length line.now }
+fn leading_blanks(line: CharsRef<'_>) -> usize
+    ensures value { result ≡ chars_end is_blank (chars_of line.entry) 0 }
+    ensures inside { result ≤ length (chars_of line.entry) }
 {
     for column in 0..line.len() {
-        if !is_char_of(line[column], CharKind::Blank) {
+        if !is_char_of(line.at(column), CharKind::Blank) {
             return column;
         }
     }
@@ -39,11 +41,11 @@ fn leading_blanks(line: &[char]) -> usize
 }
 
 /// The display column of the first character of a line that is no blank.
-pub(crate) fn indentation(line: &[char], tabstop: u32) -> u32
+pub(crate) fn indentation(line: CharsRef<'_>, tabstop: u32) -> u32
     requires some { 1 ≤ tabstop }
     requires few { tabstop ≤ MAX_TABSTOP }
-    requires short { length line.now ≤ MAX_CHARS }
-    ensures { result ≡ indentation line.now tabstop }
+    requires short { length (chars_of line) ≤ MAX_CHARS }
+    ensures { result ≡ indentation (chars_of line.entry) tabstop }
 {
     cell_of(line, leading_blanks(line), tabstop)
 }

@@ -38,7 +38,7 @@ fn quotes_at(lines: &Lines, at: Coord, quote: char) -> Option<Pair>
     let place = at.column as usize;
     let mut unpaired = None;
     for column in 0..line.len() {
-        if line[column] != quote {
+        if line.at(column) != quote {
             continue;
         }
         if let Some(first) = unpaired {

@@ -25,10 +25,10 @@ pub(crate) fn is_end(lines: &Lines, at: Coord) -> bool
 {
     let line = lines.line(at.line as usize);
     let column = at.column as usize;
-    if !is_stop(line[column]) {
+    if !is_stop(line.at(column)) {
         return false;
     }
-    is_char_of(line[column + 1], CharKind::Gap)
+    is_char_of(line.at(column + 1), CharKind::Gap)
 }
 
 // The place before another one of its paragraph; none where the paragraph begins.

@@ -1,17 +1,15 @@
 -- Lemmas on which character holds a cell.
 use Rattle.std.proofs.Common.{◌≡◌, ℕ, ◌+◌, ◌<◌, ◌≤◌, List, length, get_or, sym, ap, ◌∙◌, arith, inl, inr}
 use Rattle.std.proofs.lemmas.Bool.{cases_lt}
-use Rattle.std.proofs.lemmas.List.{get_or_read}
 use Rattle.kak_text.specs.Cells.{cells_of, display_column}
 use Rattle.kak_text.proofs.CellLemmas.{display_column-le, display_column-more}
 use Rattle.window_view.specs.Holding.{HoldsCell}
 
 -- the next place, where a character was read and its cells were counted
-pub next_column : (line : List ℕ) (n tabstop at char width : ℕ) → n < length line → char ≡ get_or line n char → at ≡ display_column line n tabstop → width ≡ cells_of char at tabstop
+pub next_column : (line : List ℕ) (n tabstop at char width : ℕ) → n < length line → char ≡ get_or line n 0 → at ≡ display_column line n tabstop → width ≡ cells_of char at tabstop
     → at + width ≡ display_column line (n + 1) tabstop
 next_column line n tabstop at char width l r e f =
-    let s : char ≡ get_or line n 0 = get_or_read line n char l r 0 in
-    let g : width ≡ cells_of (get_or line n 0) (display_column line n tabstop) tabstop = f ∙ ap (λ x. cells_of x at tabstop) s ∙ ap (λ x. cells_of (get_or line n 0) x tabstop) e in
+    let g : width ≡ cells_of (get_or line n 0) (display_column line n tabstop) tabstop = f ∙ ap (λ x. cells_of x at tabstop) r ∙ ap (λ x. cells_of (get_or line n 0) x tabstop) e in
     ap (λ x. x + width) e ∙ ap (λ x. display_column line n tabstop + x) g ∙ sym (display_column-more line n tabstop l)
 
 -- a character whose end lies behind the cell, and whose begin doesn't, holds it

@@ -1,9 +1,10 @@
 use super::*;
+use compact_chars::CharsRef;
 use std::test::Fail;
 
 #[test]
 fn places_have_their_display_columns(rt: HostRuntime) -> Result<(), Fail> {
-    let line = ['a', '\t', '漢', 'e', '\u{301}', '😀', '\u{1B}', '\n'].as_slice();
+    let line = CharsRef::Wide(&['a', '\t', '漢', 'e', '\u{301}', '😀', '\u{1B}', '\n']);
     let columns = [0, 1, 8, 10, 11, 11, 13, 14, 15];
     for (i, column) in columns.iter().enumerate() {
         assert!(rt; i <= line.len());
@@ -14,7 +15,7 @@ fn places_have_their_display_columns(rt: HostRuntime) -> Result<(), Fail> {
 
 #[test]
 fn cells_lead_to_the_characters_that_hold_them(rt: HostRuntime) -> Result<(), Fail> {
-    let line = ['a', '\t', '漢', 'e', '\u{301}', 'b', '\n'].as_slice();
+    let line = CharsRef::Wide(&['a', '\t', '漢', 'e', '\u{301}', 'b', '\n']);
     let rows = [
         (0, Some(0)),
         (1, Some(1)),
@@ -30,6 +31,6 @@ fn cells_lead_to_the_characters_that_hold_them(rt: HostRuntime) -> Result<(), Fa
     for (cell, holder) in &rows {
         assert_eq!(rt; offset_at(line, *cell, 4), *holder);
     }
-    assert_eq!(rt; offset_at(&[], 0, 4), None);
+    assert_eq!(rt; offset_at(CharsRef::Narrow(&[]), 0, 4), None);
     Ok(())
 }

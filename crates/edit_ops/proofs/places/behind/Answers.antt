@@ -5,4 +5,4 @@ use Rattle.edit_ops.proofs.places.behind.Goals as goal
 
 pub returns-clause-next : goal.returns-clause-next
 returns-clause-next c =
-    ap (offset c.args.lines.now) c.next_line.ensures.value ∙ offset-next_line c.args.lines.now c.args.at.line c.args.at.column c.requires.on_line (omega (arith, ap length c.line.ensures.value, c.requires.in_line))
+    ap (offset c.args.lines.now) c.next_line.ensures.value ∙ offset-next_line c.args.lines.now c.args.at.line c.args.at.column c.requires.on_line (omega (arith, ap length c.line.ensures.value, c.len.ensures, c.requires.in_line))

@@ -16,5 +16,5 @@ returns-clause-ok c =
     let line : IsLine (get_or front c.args.n []) = subst IsLine at c.in_ok-fresh.ensures.valid in
     let fresh : c.in_ok-fresh.fresh.items ≡ lines_of (c.args.chars.now ++ drop c.args.column (get_or front c.args.n [])) = c.in_ok-fresh.ensures.lines ∙ ap (λ l. lines_of (c.args.chars.now ++ drop c.args.column l)) at in
     split_last front c.end_line.new.front.items c.append.new.self.items c.in_ok-fresh.fresh.items c.remove-first.new.self.items c.args.n c.args.column c.args.chars.now c.remove-first.result c.requires.last line c.requires.column fresh c.remove-first.ensures.value c.remove-first.ensures.items
-    (c.in_ok-end_line.ensures.ok ∙ ap₂ (λ x y. set x c.args.n (take c.args.column (get_or x c.args.n []) ++ y)) c.reserve.ensures.items c.as_slice.ensures.value)
+    (c.in_ok-end_line.ensures.ok ∙ ap₂ (λ x y. set x c.args.n (take c.args.column (get_or x c.args.n []) ++ y)) c.reserve.ensures.items c.as_chars.ensures.value)
     c.in_ok-append.ensures.items

@@ -1,8 +1,9 @@
 -- The characters gone over are plain.
 use Rattle.std.proofs.Common.{take}
 use Rattle.std.specs.List.{AllByRecursion}
+use Rattle.compact_chars.specs.Rows.{chars_of}
 use Rattle.line_painting.specs.Laws.{IsPlain}
 use Rattle.line_painting.proofs.stretches.plain_ahead.Given as goal
 
 abbrev pub invariant-loop-i : goal.invariant-loop-i
-invariant-loop-i l = AllByRecursion IsPlain (take l.i l.chars)
+invariant-loop-i l = AllByRecursion IsPlain (take l.i (chars_of l.chars))

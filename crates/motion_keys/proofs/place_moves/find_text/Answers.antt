@@ -2,6 +2,7 @@ use Rattle.std.proofs.Common.{◌≡◌, ℕ, Bool, not, sym, ap, ◌∙◌, ari
 use Rattle.kak_text.specs.declared.classes.Class.{Class}
 use Rattle.kak_text.specs.declared.classes.Class.TheVariants.{Blank}
 use Rattle.kak_text.specs.Classes.{class_of, is_same}
+use Rattle.compact_chars.specs.Rows.{chars_of}
 use Rattle.motion_keys.proofs.LineLemmas.{line-found, line-passed, line-over}
 use Rattle.motion_keys.proofs.place_moves.find_text.Goals as goal
 
@@ -12,10 +13,10 @@ read : (c : ℕ) (own : Class) (b : Bool) → own ≡ class_of c → b ≡ is_sa
 read c own b e f = ap not (sym (f ∙ ap (λ (k : Class). is_same k Blank) e))
 
 pub returns-then-not-is : goal.returns-then-not-is
-returns-then-not-is c = record { gives = line-found no_blank c.args.lines.now c.args.n c.loop-column.column c.line-line.result.now c.index-line-column.result _ c.requires c.line-line.ensures.value c.loop-column-test.true c.index-line-column.is (read c.index-line-column.result _ _ c.class.ensures c.is.ensures ∙ ap not c.if-not-is.true) c.loop-column.invariant }
+returns-then-not-is c = record { gives = line-found no_blank c.args.lines.now c.args.n c.loop-column.column (chars_of c.line-line.result) c.at.result _ c.requires c.line-line.ensures.value (omega (arith, c.loop-column-test.true, c.len-column-end.ensures)) c.at.ensures (read c.at.result _ _ c.class.ensures c.is.ensures ∙ ap not c.if-not-is.true) c.loop-column.invariant }
 
 pub loop-column-preserved : goal.loop-column-preserved
-loop-column-preserved c = line-passed no_blank c.args.lines.now c.args.n c.loop-column.column c.line-line.result.now c.index-line-column.result _ c.requires c.line-line.ensures.value c.loop-column-test.true c.index-line-column.is (read c.index-line-column.result _ _ c.class.ensures c.is.ensures ∙ ap not c.if-not-is.false) c.loop-column.invariant
+loop-column-preserved c = line-passed no_blank c.args.lines.now c.args.n c.loop-column.column (chars_of c.line-line.result) c.at.result _ c.requires c.line-line.ensures.value (omega (arith, c.loop-column-test.true, c.len-column-end.ensures)) c.at.ensures (read c.at.result _ _ c.class.ensures c.is.ensures ∙ ap not c.if-not-is.false) c.loop-column.invariant
 
 pub returns : goal.returns
-returns c = record { gives = line-over no_blank c.args.lines.now c.args.n c.loop-column.column c.line-line.result.now _ c.requires c.line-line.ensures.value (omega arith) c.loop-column.invariant }
+returns c = record { gives = line-over no_blank c.args.lines.now c.args.n c.loop-column.column (chars_of c.line-line.result) _ c.requires c.line-line.ensures.value (omega (arith, c.loop-column-test.false, c.len-column-end.ensures)) c.loop-column.invariant }

@@ -1,7 +1,7 @@
-use Rattle.std.proofs.Common.{◌≡◌, ◌<◌, ◌+◌, ◌++◌, length, get_or, [], encode_utf8_all, refl, ap, ◌∙◌, arith}
-use Rattle.std.proofs.lemmas.List.{take_rest}
+use Rattle.std.proofs.Common.{◌≡◌, ◌<◌, ◌+◌, ◌++◌, length, get_or, [], encode_utf8_all, ap, ◌∙◌, arith}
 use Rattle.std.proofs.lemmas.Result.{IfOk-weaker}
 use Rattle.text_model.specs.Texts.{lines_of, offset, IsPlace}
+use Rattle.compact_chars.specs.Rows.{chars_of}
 use Rattle.text_model.proofs.PlaceLemmas.{start-more}
 use Rattle.line_buffer.proofs.StepLemmas.{next_line_place}
 use Rattle.line_buffer.proofs.FlatLemmas.{line-le-count, place_by_column, start-le-offset, ordered_lines, from-in-line, added-none-yet, added-line, added-part, added-all}
@@ -21,7 +21,7 @@ loop-n-preserved c =
     let below : c.loop-n.n < length (lines_of text) = omega (arith, c.loop-n-test.true, line-le-count text c.args.to c.requires.to) in
     let inside : c.loop-n.start < length (get_or (lines_of text) c.loop-n.n []) = c.loop-n.invariant.inside c.loop-n-test.true in
     record {
-      so_far = added-line text c.args.gathered c.loop-n.all _ c.line.result.now (offset text c.args.from) c.loop-n.n c.loop-n.start c.loop-n.invariant.so_far (c.in_ok-all.ensures ∙ ap (λ t. c.loop-n.all ++ encode_utf8_all t) (take_rest c.line.result.now c.loop-n.start)) c.line.ensures.value below inside c.loop-n.invariant.after;
+      so_far = added-line text c.args.gathered c.loop-n.all _ (chars_of c.line.result) (offset text c.args.from) c.loop-n.n c.loop-n.start c.loop-n.invariant.so_far (c.in_ok-all.ensures ∙ ap (λ t. c.loop-n.all ++ encode_utf8_all t) c.behind.ensures) c.line.ensures.value below inside c.loop-n.invariant.after;
       after = omega (arith, c.loop-n.invariant.after, start-more (lines_of text) c.loop-n.n below);
       before = start-le-offset text (c.loop-n.n + 1) c.args.to (omega (arith, c.loop-n-test.true));
       inside = λ more. (next_line_place text (c.loop-n.n + 1) c.line.ensures.valid (omega (arith, line-le-count text c.args.to c.requires.to))).in_line;
@@ -38,4 +38,4 @@ returns c =
     let text = c.args.lines.now in
     let at_end : c.loop-n.n ≡ c.args.to.line = omega (arith, c.loop-n-test.false, c.loop-n.auto.n-end, ordered_lines text c.args.from c.args.to c.requires.from c.requires.to c.requires.ordered) in
     let place : IsPlace text c.args.to = place_by_column text c.args.to c.requires.to (omega (arith, c.if-column-start.false)) in
-    IfOk-weaker c.with_run-2.result _ _ (λ new added. added-part text c.args.gathered c.loop-n.all new c.line-2.result.now _ (offset text c.args.from) c.loop-n.n c.loop-n.start c.args.to c.loop-n.invariant.so_far added refl c.line-2.ensures.value at_end place (omega (arith, c.if-column-start.false)) c.loop-n.invariant.after) c.with_run-2.ensures
+    IfOk-weaker c.with_run-2.result _ _ (λ new added. added-part text c.args.gathered c.loop-n.all new (chars_of c.line-2.result) _ (offset text c.args.from) c.loop-n.n c.loop-n.start c.args.to c.loop-n.invariant.so_far added c.between.ensures c.line-2.ensures.value at_end place (omega (arith, c.if-column-start.false)) c.loop-n.invariant.after) c.with_run-2.ensures

@@ -1,6 +1,7 @@
 use Rattle.std.proofs.Common.{◌≡◌, false, sym, ap, ◌∙◌, arith, refl, eq-eqb, ne_eqb}
 use Rattle.text_model.specs.Texts.{offset}
 use Rattle.text_model.proofs.PlaceLemmas.{offset-below}
+use Rattle.compact_chars.specs.Rows.{chars_of}
 use Rattle.motion_keys.specs.Extremes.{greatest_below}
 use Rattle.motion_keys.specs.Jumps.{holds}
 use Rattle.motion_keys.proofs.DepthLemmas.{depth-le}
@@ -10,11 +11,11 @@ use Rattle.text_objects.proofs.BracketLemmas.{IsWaiting, unclosed-here, unclosed
 use Rattle.text_objects.proofs.LineOfLemmas.{place-read}
 use Rattle.text_objects.proofs.bracket_objects.find_unclosed.Goals as goal
 
-pub returns-then-line-from-clause-gives : goal.returns-then-line-from-clause-gives
-returns-then-line-from-clause-gives c =
+pub returns-then-at-opening-clause-gives : goal.returns-then-at-opening-clause-gives
+returns-then-at-opening-clause-gives c =
     let text = c.args.lines.now in
-    let read = place-read text c.args.from c.line.result.now c.index-line-from.result c.requires.place c.line.ensures.value c.index-line-from.is in
-    (c.requires.place, unclosed-here c.args.opening c.args.closing text (offset text c.args.from) (eq-eqb _ _ (read ∙ c.if-line-from.true)))
+    let read = place-read text c.args.from (chars_of c.line.result) c.at.result c.requires.place c.line.ensures.value c.at.ensures in
+    (c.requires.place, unclosed-here c.args.opening c.args.closing text (offset text c.args.from) (eq-eqb _ _ (read ∙ c.if-at-opening.true)))
 
 pub depth_after-depth-requires-clause-small : goal.depth_after-depth-requires-clause-small
 depth_after-depth-requires-clause-small c = omega (arith, c.loop-before.invariant.few, offset-below c.args.lines.now c.args.from c.requires.place, c.line.ensures.valid.small)
@@ -23,8 +24,8 @@ pub returns-then-depth-eq0-clause-gives : goal.returns-then-depth-eq0-clause-giv
 returns-then-depth-eq0-clause-gives c =
     let text = c.args.lines.now in
     let o = offset text c.args.from in
-    let read = place-read text c.args.from c.line.result.now c.index-line-from.result c.requires.place c.line.ensures.value c.index-line-from.is in
-    let other : holds text c.args.opening o ≡ false = ne_eqb _ _ (λ e. c.if-line-from.false (sym read ∙ e)) in
+    let read = place-read text c.args.from (chars_of c.line.result) c.at.result c.requires.place c.line.ensures.value c.at.ensures in
+    let other : holds text c.args.opening o ≡ false = ne_eqb _ _ (λ e. c.if-at-opening.false (sym read ∙ e)) in
     let waiting : IsWaiting c.args.opening c.args.closing text o (offset text c.in-Some.before) c.depth_after-depth.result = waiting-step c.args.opening c.args.closing text o _ _ _ _ _ c.requires.apart c.loop-before.invariant.some c.in-Some.ensures.prev.1 (offset-below _ _ c.in-Some.ensures.prev.0) c.char_at.ensures c.depth_after-depth.ensures c.loop-before.invariant.waiting in
     (c.in-Some.ensures.prev.0, unclosed-before c.args.opening c.args.closing text o other ∙ c.loop-before.invariant.rest ∙ greatest-here (opens_one_more c.args.opening c.args.closing text o) _ _ c.in-Some.ensures.prev.1 (waiting-none c.args.opening c.args.closing text o _ _ (omega (arith, c.in-Some.ensures.prev.1, c.loop-before.invariant.few, c.loop-before.invariant.some)) waiting c.if-depth-eq0.true))
 
@@ -45,6 +46,6 @@ pub returns-clause-gives : goal.returns-clause-gives
 returns-clause-gives c =
     let text = c.args.lines.now in
     let o = offset text c.args.from in
-    let read = place-read text c.args.from c.line.result.now c.index-line-from.result c.requires.place c.line.ensures.value c.index-line-from.is in
-    let other : holds text c.args.opening o ≡ false = ne_eqb _ _ (λ e. c.if-line-from.false (sym read ∙ e)) in
+    let read = place-read text c.args.from (chars_of c.line.result) c.at.result c.requires.place c.line.ensures.value c.at.ensures in
+    let other : holds text c.args.opening o ≡ false = ne_eqb _ _ (λ e. c.if-at-opening.false (sym read ∙ e)) in
     unclosed-before c.args.opening c.args.closing text o other ∙ c.loop-before.invariant.rest ∙ ap (greatest_below (opens_one_more c.args.opening c.args.closing text o)) (c.in_default.ensures.none.0 refl)

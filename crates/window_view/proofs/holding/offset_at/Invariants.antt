@@ -1,7 +1,8 @@
 -- The characters so far end before the cell.
 use Rattle.std.proofs.Common.{◌≡◌, ◌*◌, ◌≤◌}
 use Rattle.kak_text.specs.Cells.{display_column}
+use Rattle.compact_chars.specs.Rows.{chars_of}
 use Rattle.window_view.proofs.holding.offset_at.Given as goal
 
 abbrev pub invariant-loop-i : goal.invariant-loop-i
-invariant-loop-i l = record { column_is : l.at ≡ display_column l.line l.i l.tabstop; small : l.at ≤ 64 * l.i; before : l.at ≤ l.cell }
+invariant-loop-i l = record { column_is : l.at ≡ display_column (chars_of l.line) l.i l.tabstop; small : l.at ≤ 64 * l.i; before : l.at ≤ l.cell }

@@ -7,11 +7,11 @@ use Rattle.line_buffer.proofs.lines.Lines.coord_of.Goals as goal
 
 pub returns-then-rest-len-clause-value : goal.returns-then-rest-len-clause-value
 returns-then-rest-len-clause-value c =
-    coord_on_line c.args.self.now c.loop-n.n c.loop-n.rest c.args.place (omega (arith, c.loop-n-test.true, c.line_count-n-end.ensures.value)) (omega (arith, c.if-rest-len.true, ap length c.line-len.ensures.value)) c.loop-n.invariant
+    coord_on_line c.args.self.now c.loop-n.n c.loop-n.rest c.args.place (omega (arith, c.loop-n-test.true, c.line_count-n-end.ensures.value)) (omega (arith, c.if-rest-len.true, ap length c.line.ensures.value)) c.loop-n.invariant
 
 pub loop-n-preserved : goal.loop-n-preserved
 loop-n-preserved c =
-    omega (arith, c.loop-n.invariant, c.if-rest-len.false, ap length c.line-len.ensures.value, start-more (lines_of c.args.self.now) c.loop-n.n (omega (arith, c.loop-n-test.true, c.line_count-n-end.ensures.value)))
+    omega (arith, c.loop-n.invariant, c.if-rest-len.false, ap length c.line.ensures.value, start-more (lines_of c.args.self.now) c.loop-n.n (omega (arith, c.loop-n-test.true, c.line_count-n-end.ensures.value)))
 
 pub returns-clause-value : goal.returns-clause-value
 returns-clause-value c =

@@ -5,8 +5,8 @@ use Rattle.text_model.proofs.PlaceLemmas.{offset-below, offset-next_line}
 use Rattle.line_buffer.proofs.StepLemmas.{next_line_place, offset-last}
 use Rattle.line_buffer.proofs.lines.Lines.next.Goals as goal
 
-pub returns-then-at-line-clause-none : goal.returns-then-at-line-clause-none
-returns-then-at-line-clause-none c =
+pub returns-then-at-len-clause-none : goal.returns-then-at-len-clause-none
+returns-then-at-len-clause-none c =
     let after : Coord = record { line = c.args.at.line; column = c.args.at.column + 1 } in
     let there : IsPlace c.args.self.now after = record { on_line = c.requires.on_line; in_line = omega (arith, ap length c.line-line.ensures.value) } in
     (λ e. cc, λ e. absurd (omega (arith, offset-below c.args.self.now after there)))

@@ -5,7 +5,7 @@ use Rattle.line_buffer.proofs.lines.Lines.to_text.Goals as goal
 
 pub loop-n-preserved : goal.loop-n-preserved
 loop-n-preserved c =
-    c.in_ok-extend_from_slice.ensures.items ∙ ap₂ (λ x y. x ++ y) c.loop-n.invariant c.line.ensures.value ∙ sym (joined-more (lines_of c.args.self.now) c.loop-n.n (omega (arith, c.loop-n-test.true, c.line_count-n-end.ensures.value)))
+    c.in_ok-push_onto.ensures.ok ∙ ap₂ (λ x y. x ++ y) c.loop-n.invariant c.line.ensures.value ∙ sym (joined-more (lines_of c.args.self.now) c.loop-n.n (omega (arith, c.loop-n-test.true, c.line_count-n-end.ensures.value)))
 
 pub of_vec-requires : goal.of_vec-requires
 of_vec-requires c =
