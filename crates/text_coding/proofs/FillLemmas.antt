@@ -1,9 +1,9 @@
 -- The lines that characters which came one behind another are.
-use Rattle.std.proofs.Common.{◌≡◌, ◌≢◌, ℕ, zero, suc, ◌<◌, List, [], ◌∷◌, ◌++◌, length, All, append_assoc, append-nil, refl, sym, ap, subst, ◌∙◌, arith}
-use Rattle.std.proofs.lemmas.List.Elements.{All-append, All-head, All-tail}
+use Rattle.std.proofs.Common.{◌≡◌, ◌≢◌, ℕ, zero, suc, ◌<◌, List, [], ◌∷◌, ◌++◌, length, All, append_assoc, append-nil, refl, sym, ap, ◌∙◌, arith}
+use Rattle.std.proofs.lemmas.List.Elements.{All-head, All-tail}
 use Rattle.text_model.specs.Texts.{IsText, IsLine}
 use Rattle.text_model.specs.Changes.{ended}
-use Rattle.text_model.proofs.ChangeLemmas.{ended-text, ended-other, text_ends, IsText-append}
+use Rattle.text_model.proofs.ChangeLemmas.{ended-text, ended-other, text_ends}
 use Rattle.text_model.proofs.LineLemmas.{longer_is_line}
 use Rattle.text_coding.specs.Surveying.{last_of}
 use Rattle.text_coding.proofs.FormLemmas.{ends-last, test-false}
@@ -16,31 +16,12 @@ pub one-open : (c : ℕ) → c ≢ 10 → IsOpen (c ∷ [])
 one-open c other zero d lt = other
 one-open c other (suc k) d lt = absurd (omega (arith, lt))
 
-pub open-more : (old new : List ℕ) (c : ℕ) → IsOpen old → c ≢ 10 → new ≡ old ++ c ∷ [] → IsOpen new
-open-more old new c h other e = subst IsOpen (sym e) (All-append (λ x. x ≢ 10) old (c ∷ []) h (one-open c other))
-
 -- with a newline behind them they are a line
 pub closed-line : (cs : List ℕ) → IsOpen cs → IsLine (cs ++ 10 ∷ [])
 closed-line [] h = record { some = omega arith; ended = refl; only = λ k lt. absurd (omega (arith, lt)) }
 closed-line (c ∷ cs) h = longer_is_line c (cs ++ 10 ∷ []) (All-head (λ x. x ≢ 10) c cs h) (closed-line cs (All-tail (λ x. x ≢ 10) c cs h))
 
--- no newline among more of them
-pub open-append : (old new all : List ℕ) → IsOpen old → IsOpen new → all ≡ old ++ new → IsOpen all
-open-append old new all h more e = subst IsOpen (sym e) (All-append (λ x. x ≢ 10) old new h more)
-
--- before a line they are one too
-longer-line : (cs line : List ℕ) → IsOpen cs → IsLine line → IsLine (cs ++ line)
-longer-line [] line h l = l
-longer-line (c ∷ cs) line h l = longer_is_line c (cs ++ line) (All-head (λ x. x ≢ 10) c cs h) (longer-line cs line (All-tail (λ x. x ≢ 10) c cs h) l)
-
-pub line-behind : (cs line all : List ℕ) → IsOpen cs → IsLine line → all ≡ cs ++ line → IsLine all
-line-behind cs line all h l e = subst IsLine (sym e) (longer-line cs line h l)
-
--- a line behind others
-pub text-more : (old new line : List ℕ) → IsLine line → new ≡ old ++ line → IsText new
-text-more old new line h e = subst IsText (sym e) (IsText-append old line (record { some = h.some; ended = h.ended }))
-
-last-append : (b : ℕ) (xs ys : List ℕ) → last_of b (xs ++ ys) ≡ last_of (last_of b xs) ys
+pub last-append : (b : ℕ) (xs ys : List ℕ) → last_of b (xs ++ ys) ≡ last_of (last_of b xs) ys
 last-append b [] ys = refl
 last-append b (x ∷ xs) ys = last-append x xs ys
 

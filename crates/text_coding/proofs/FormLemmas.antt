@@ -1,19 +1,19 @@
 -- Line ends, one character after another.
-use Rattle.std.proofs.Common.{◌≡◌, ◌≢◌, ℕ, zero, suc, ◌+◌, ◌-◌, ◌<◌, ◌≤◌, Bool, true, false, cond, ◌&&◌, ◌||◌, ◌==◌, List, [], ◌∷◌, ◌++◌, length, min, ◌^◌, slice_index, take, get_or, append-nil, refl, sym, ap, ◌∙◌, arith, true≢false}
+use Rattle.std.proofs.Common.{◌≡◌, ◌≢◌, ℕ, suc, ◌+◌, ◌-◌, ◌<◌, ◌≤◌, Bool, true, false, cond, ◌&&◌, ◌||◌, ◌==◌, List, [], ◌∷◌, ◌++◌, length, min, ◌^◌, slice_index, refl, sym, ap, ◌∙◌, arith, true≢false}
 use Rattle.std.proofs.lemmas.Bool.{eqb-true}
-use Rattle.std.proofs.lemmas.List.{length-append, take_at}
+use Rattle.std.proofs.lemmas.List.{length-append}
 use Rattle.std.specs.Str.{chars, IsUtf8}
 use Rattle.std.proofs.lemmas.Str.{length-le-encodes, encodes-chars}
 use Rattle.std.proofs.lemmas.Bool.Decides.{nat_tests}
 use Rattle.text_coding.specs.declared.decoding.Survey.{Survey}
 use Rattle.text_model.specs.declared.TheConstants.{MAX_CHARS}
 use Rattle.text_model.specs.Texts.{ends_in_newline}
-use Rattle.text_model.specs.Changes.{ended, front}
+use Rattle.text_model.specs.Changes.{ended}
 use Rattle.text_model.proofs.ChangeLemmas.{ended-text, ended-other}
 use Rattle.text_coding.specs.declared.form.Eol.{Eol}
 use Rattle.text_coding.specs.declared.form.Eol.TheVariants.{Lf, Crlf}
-use Rattle.text_coding.specs.Coding.{has_newline, each_returned, begins_newline, without_returns, from_form, eol_of}
-use Rattle.text_coding.specs.Surveying.{last_of, waiting, IsSurvey}
+use Rattle.text_coding.specs.Coding.{begins_newline, without_returns, from_form}
+use Rattle.text_coding.specs.Surveying.{last_of, IsSurvey}
 
 by_test : {G : Type 0} (b : Bool) → (b ≡ true → G) → (b ≡ false → G) → G
 by_test true f g = f refl
@@ -22,37 +22,6 @@ by_test false f g = g refl
 pub last-push : (b : ℕ) (cs : List ℕ) (c : ℕ) → last_of b (cs ++ c ∷ []) ≡ c
 last-push b [] c = refl
 last-push b (x ∷ cs) c = last-push x cs c
-
-and-assoc : (x y z : Bool) → (x && (y && z)) ≡ ((x && y) && z)
-and-assoc true y z = refl
-and-assoc false y z = refl
-
-and-true : (x : Bool) → (x && true) ≡ x
-and-true true = refl
-and-true false = refl
-
-or-false : (x : Bool) → (x || false) ≡ x
-or-false true = refl
-or-false false = refl
-
--- what stands before the last character
-pub front-push : (xs : List ℕ) (x : ℕ) → front (xs ++ x ∷ []) ≡ xs
-front-push xs x = take_at xs (x ∷ []) (length (xs ++ x ∷ []) - 1) (omega (arith, length-append xs (x ∷ [])))
-
--- whether one character more keeps that each newline has a return
-abbrev pub is_returned : ℕ → ℕ → Bool
-is_returned before c = cond (c == 10) (before == 13) true
-
-pub returned-push : (b : ℕ) (cs : List ℕ) (c : ℕ) → each_returned b (cs ++ c ∷ []) ≡ (each_returned b cs && is_returned (last_of b cs) c)
-returned-push b [] c = and-true (is_returned b c)
-returned-push b (x ∷ cs) c = ap (λ r. is_returned b x && r) (returned-push x cs c) ∙ and-assoc (is_returned b x) (each_returned x cs) (is_returned (last_of x cs) c)
-
-pub newline-push : (cs : List ℕ) (c : ℕ) → has_newline (cs ++ c ∷ []) ≡ (has_newline cs || (c == 10))
-newline-push [] c = or-false (c == 10)
-newline-push (x ∷ cs) c = ap (λ r. (x == 10) || r) (newline-push cs c) ∙ or-assoc (x == 10) (has_newline cs) (c == 10) where
-  or-assoc : (x y z : Bool) → (x || (y || z)) ≡ ((x || y) || z)
-  or-assoc true y z = refl
-  or-assoc false y z = refl
 
 -- one more character behind, where the first of all is kept or not
 behind : (b : Bool) (x : ℕ) (cs new more : List ℕ) → new ≡ cs ++ more → cond b new (x ∷ new) ≡ cond b cs (x ∷ cs) ++ more
@@ -145,67 +114,6 @@ survey-joined s cs returned known =
       short = omega (arith, known.short, ap length j.before, ap length j.after, length-append j.front (13 ∷ []), length-append j.front (10 ∷ []));
       before = sym (last-push 0 cs 10);
     }
-
--- what is kept after a character more, where a return at the end waits
-joined-newline : (old : List ℕ) (before : ℕ) (cs : List ℕ) → without_returns cs ≡ old ++ waiting before → before ≡ last_of 0 cs → without_returns (cs ++ 10 ∷ []) ≡ old ++ 10 ∷ []
-joined-newline old before cs held last = by_test (before == 13) returned plain
-  where
-    returned : (before == 13) ≡ true → without_returns (cs ++ 10 ∷ []) ≡ old ++ 10 ∷ []
-    returned is =
-        let j = without-push_last cs (sym (eqb-true before 13 is) ∙ last) in
-        let rest : j.front ≡ old = sym (front-push j.front 13) ∙ ap front (sym j.before ∙ held ∙ ap (λ t. old ++ cond t (13 ∷ []) []) is) ∙ front-push old 13 in
-        j.after ∙ ap (λ r. r ++ 10 ∷ []) rest
-
-    plain : (before == 13) ≡ false → without_returns (cs ++ 10 ∷ []) ≡ old ++ 10 ∷ []
-    plain is = without-push_plain 0 cs (ap (λ n. n == 13) (sym last) ∙ is) ∙ ap (λ r. r ++ 10 ∷ []) (held ∙ ap (λ t. old ++ cond t (13 ∷ []) []) is ∙ append-nil old)
-
-pub joined-line : (old new : List ℕ) (before c : ℕ) (cs : List ℕ) → c ≡ 10 → without_returns cs ≡ old ++ waiting before → before ≡ last_of 0 cs → new ≡ old ++ c ∷ [] → without_returns (cs ++ c ∷ []) ≡ new ++ waiting c
-joined-line old new before c cs is held last pushed =
-    ap (λ x. without_returns (cs ++ x ∷ [])) is ∙ joined-newline old before cs held last ∙ ap (λ x. old ++ x ∷ []) (sym is) ∙ sym pushed
-    ∙ sym (ap (λ x. new ++ waiting x) is ∙ append-nil new)
-
-pub joined-return : (old new : List ℕ) (before : ℕ) (cs : List ℕ) → without_returns cs ≡ old ++ waiting before → new ≡ old ++ waiting before → without_returns (cs ++ 13 ∷ []) ≡ new ++ 13 ∷ []
-joined-return old new before cs held released = without-push_other cs 13 refl ∙ ap (λ r. r ++ 13 ∷ []) (held ∙ sym released)
-
-pub joined-other : (old new all : List ℕ) (before c : ℕ) (cs : List ℕ) → c ≢ 10 → c ≢ 13 → without_returns cs ≡ old ++ waiting before → new ≡ old ++ waiting before → all ≡ new ++ c ∷ [] → without_returns (cs ++ c ∷ []) ≡ all ++ waiting c
-joined-other old new all before c cs other unlike held released pushed =
-    without-push_other cs c (test-false c 10 other) ∙ ap (λ r. r ++ c ∷ []) (held ∙ sym released) ∙ sym pushed
-    ∙ sym (ap (λ t. all ++ cond t (13 ∷ []) []) (test-false c 13 unlike) ∙ append-nil all)
-
--- what decides how the lines end, with one character more
-pub record AreReturned (found : Bool) (last : ℕ) (cs : List ℕ) : Type 0 where
-  pub newline : found ≡ has_newline cs
-  pub before : last ≡ last_of 0 cs
-  pub returned : each_returned 0 cs ≡ true
-
-pub returned-other : (newline : Bool) (before c : ℕ) (cs : List ℕ) → c ≢ 10 → AreReturned newline before cs → AreReturned newline c (cs ++ c ∷ [])
-returned-other newline before c cs other h =
-    let no : (c == 10) ≡ false = test-false c 10 other in record {
-      newline = h.newline ∙ sym (newline-push cs c ∙ ap (λ b. has_newline cs || b) no ∙ or-false (has_newline cs));
-      before = sym (last-push 0 cs c);
-      returned = returned-push 0 cs c ∙ ap (λ b. each_returned 0 cs && cond b (last_of 0 cs == 13) true) no ∙ and-true (each_returned 0 cs) ∙ h.returned;
-    }
-
-pub returned-newline : (newline : Bool) (before : ℕ) (cs : List ℕ) → before ≡ 13 → AreReturned newline before cs → AreReturned true 10 (cs ++ 10 ∷ [])
-returned-newline newline before cs is h = record {
-  newline = sym (newline-push cs 10 ∙ or-true (has_newline cs));
-  before = sym (last-push 0 cs 10);
-  returned = returned-push 0 cs 10 ∙ ap (λ n. each_returned 0 cs && (n == 13)) (sym h.before ∙ is) ∙ and-true (each_returned 0 cs) ∙ h.returned;
-}
-
--- a newline without a return before it
-bare : (b : ℕ) (cs : List ℕ) (n d : ℕ) → n < length cs → get_or cs n d ≡ 10 → last_of b (take n cs) ≢ 13 → each_returned b cs ≡ false
-bare b [] n d lt is other = absurd (omega (arith, lt))
-bare b (c ∷ cs) zero d lt is other = ap (λ x. cond (x == 10) (b == 13) true && each_returned c cs) is ∙ ap (λ v. v && each_returned c cs) (test-false b 13 other)
-bare b (c ∷ cs) (suc n) d lt is other = ap (λ v. cond (c == 10) (b == 13) true && v) (bare c cs n d (omega (arith, lt)) is other) ∙ and-false (cond (c == 10) (b == 13) true)
-
-pub ends-bare : (cs before : List ℕ) (n d last : ℕ) → before ≡ take n cs → n < length cs → 10 ≡ get_or cs n d → last ≡ last_of 0 before → last ≢ 13 → Lf ≡ eol_of cs
-ends-bare cs before n d last so_far lt is at other =
-    sym (ap (λ r. cond (has_newline cs && r) Crlf Lf) (bare 0 cs n d lt (sym is) (λ e. other (at ∙ ap (last_of 0) so_far ∙ e))) ∙ ap (λ v. cond v Crlf Lf) (and-false (has_newline cs)))
-
-pub ends-returned : (newline : Bool) (before : ℕ) (cs all : List ℕ) (eol : Eol) → AreReturned newline before cs → cs ≡ all → eol ≡ cond newline Crlf Lf → eol ≡ eol_of all
-ends-returned newline before cs all eol h e is =
-    is ∙ ap (λ v. cond v Crlf Lf) (h.newline ∙ sym (ap (λ r. has_newline cs && r) h.returned ∙ and-true (has_newline cs))) ∙ ap eol_of e
 
 cond-le : (b : Bool) (x : ℕ) (cs : List ℕ) (n : ℕ) → length cs ≤ n → length (cond b cs (x ∷ cs)) ≤ suc n
 cond-le true x cs n le = omega (arith, le)

@@ -19,6 +19,7 @@ use Rattle.text_coding.specs.declared.form.DecodeError.{DecodeError}
 use Rattle.text_coding.specs.declared.form.DecodeError.TheVariants.{NotUtf8, TextFull}
 use Rattle.text_coding.specs.Coding.{utf8_mark, mark_of, bom_of, body, has_newline, each_returned, begins_newline, without_returns, with_returns, eol_of, from_form, to_form, text_from, fitting, loaded, saved}
 use Rattle.text_coding.specs.Surveying.{last_of}
+use Rattle.text_coding.proofs.FillLemmas.{last-append}
 use Rattle.text_coding.proofs.FormLemmas.{ends-last, last-from}
 
 and_left : (a b : Bool) → (a && b) ≡ true → a ≡ true
@@ -76,10 +77,6 @@ form-again cs false each = refl
 pub forms-again : (cs : List ℕ) → to_form (eol_of cs) (from_form (eol_of cs) cs) ≡ cs
 forms-again cs = form-again cs (has_newline cs && each_returned 0 cs) (and_right (has_newline cs) (each_returned 0 cs))
 
-last-joined : (b : ℕ) (xs ys : List ℕ) → last_of b (xs ++ ys) ≡ last_of (last_of b xs) ys
-last-joined b [] ys = refl
-last-joined b (x ∷ xs) ys = last-joined x xs ys
-
 -- a character whose last byte is a newline is one
 last-encode : (x c : ℕ) → last_of x (encode c) ≡ 10 → c ≡ 10
 unfolding encode
@@ -93,7 +90,7 @@ last-encode x c last = by_size (ltb c 128) (ltb c 2048) (ltb c 65536) last where
 -- characters whose last byte is a newline end in one
 text-ends : (cs : List ℕ) (x z : ℕ) → (x ≡ 10 → z ≡ 10) → last_of x (encode_utf8_all cs) ≡ 10 → last_of z cs ≡ 10
 text-ends [] x z keeps last = keeps last
-text-ends (c ∷ cs) x z keeps last = text-ends cs (last_of x (encode c)) c (last-encode x c) (sym (last-joined x (encode c) (encode_utf8_all cs)) ∙ last)
+text-ends (c ∷ cs) x z keeps last = text-ends cs (last_of x (encode c)) c (last-encode x c) (sym (last-append x (encode c) (encode_utf8_all cs)) ∙ last)
 
 whole-by : (bytes : List ℕ) (r : Bool) → starts_with nat_eq bytes utf8_mark ≡ r → mark_of (cond r Utf8 No) ++ drop (length (mark_of (cond r Utf8 No))) bytes ≡ bytes
 whole-by bytes true starts = sym ((starts_is Decides-eqb bytes utf8_mark (starts_with nat_eq bytes utf8_mark) refl).0 starts)
@@ -111,7 +108,7 @@ mark-ends Utf8 e = absurd (omega (arith, e))
 chars-end : (bytes : List ℕ) → IsUtf8 (body bytes) → ends_in_newline bytes ≡ true → last_of 0 (chars (body bytes)) ≡ 10
 chars-end bytes utf8 ends =
     let last : last_of 0 bytes ≡ 10 = eqb-true (last_of 0 bytes) 10 (sym (ends-last bytes) ∙ ends) in
-    let behind : last_of (last_of 0 (mark_of (bom_of bytes))) (body bytes) ≡ 10 = sym (ap (last_of 0) (sym (whole bytes)) ∙ last-joined 0 (mark_of (bom_of bytes)) (body bytes)) ∙ last in
+    let behind : last_of (last_of 0 (mark_of (bom_of bytes))) (body bytes) ≡ 10 = sym (ap (last_of 0) (sym (whole bytes)) ∙ last-append 0 (mark_of (bom_of bytes)) (body bytes)) ∙ last in
     text-ends (chars (body bytes)) (last_of 0 (mark_of (bom_of bytes))) 0 (mark-ends (bom_of bytes))
     (ap (last_of (last_of 0 (mark_of (bom_of bytes)))) (encodes-chars (body bytes) utf8) ∙ behind)
 

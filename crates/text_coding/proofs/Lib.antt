@@ -4,3 +4,4 @@ pub mod ReturnLemmas
 pub mod LoadLemmas
 pub mod SaveLemmas
 pub mod InverseLemmas
+pub mod LineLemmas

@@ -1,10 +1,11 @@
 -- Characters without the returns that stand before newlines, a line at a time.
 use Rattle.std.proofs.Common.{◌≡◌, ◌≢◌, ℕ, arith, Bool, true, false, cond, ◌&&◌, ◌==◌, List, [], ◌∷◌, ◌++◌, refl, sym, ap, subst, ◌∙◌, append_assoc, append-nil, ◌||◌, true≢false}
 use Rattle.std.proofs.lemmas.List.Elements.{All-append, All-head, All-tail}
+use Rattle.text_coding.specs.declared.form.Eol.{Eol}
 use Rattle.text_coding.specs.declared.form.Eol.TheVariants.{Lf, Crlf}
-use Rattle.text_coding.specs.Coding.{begins_newline, without_returns, has_newline, each_returned, eol_of}
+use Rattle.text_coding.specs.Coding.{from_form, begins_newline, without_returns, has_newline, each_returned, eol_of}
 use Rattle.text_coding.specs.Surveying.{last_of}
-use Rattle.text_coding.proofs.FormLemmas.{last-push, and-false, or-true, test-false}
+use Rattle.text_coding.proofs.FormLemmas.{and-false, or-true, test-false}
 use Rattle.text_coding.proofs.FillLemmas.{IsOpen, one-open}
 
 -- a character before one that is no newline stays
@@ -12,15 +13,19 @@ kept-front : (c : ℕ) (cs : List ℕ) → begins_newline cs ≡ false → witho
 kept-front c cs other = ap (λ b. cond ((c == 13) && b) (without_returns cs) (c ∷ without_returns cs)) other ∙ ap (λ b. cond b (without_returns cs) (c ∷ without_returns cs)) (and-false (c == 13))
 
 -- characters without a newline keep their returns
-pub kept-open : (cs : List ℕ) → IsOpen cs → without_returns cs ≡ cs
+kept-open : (cs : List ℕ) → IsOpen cs → without_returns cs ≡ cs
 kept-open [] h = refl
 kept-open (c ∷ []) h = kept-front c [] refl
 kept-open (c ∷ (d ∷ ds)) h =
     let more : IsOpen (d ∷ ds) = All-tail (λ x. x ≢ 10) c (d ∷ ds) h in
     kept-front c (d ∷ ds) (test-false d 10 (All-head (λ x. x ≢ 10) d ds more)) ∙ ap (λ t. c ∷ t) (kept-open (d ∷ ds) more)
 
+pub form-open : (eol : Eol) (cs : List ℕ) → IsOpen cs → from_form eol cs ≡ cs
+form-open Lf cs h = refl
+form-open Crlf cs h = kept-open cs h
+
 -- a front of them has none either
-front-open : (front more : List ℕ) → IsOpen (front ++ more) → IsOpen front
+pub front-open : (front more : List ℕ) → IsOpen (front ++ more) → IsOpen front
 front-open [] more h = λ k d lt. absurd (omega (arith, lt))
 front-open (c ∷ cs) more h = All-cons c cs (All-head (λ x. x ≢ 10) c (cs ++ more) h) (front-open cs more (All-tail (λ x. x ≢ 10) c (cs ++ more) h)) where
   All-cons : (c : ℕ) (cs : List ℕ) → c ≢ 10 → IsOpen cs → IsOpen (c ∷ cs)
@@ -35,7 +40,7 @@ returned-run (c ∷ (d ∷ ds)) rest h =
     kept-front c (d ∷ (ds ++ 13 ∷ (10 ∷ rest))) (test-false d 10 (All-head (λ x. x ≢ 10) d ds more)) ∙ ap (λ t. c ∷ t) (returned-run (d ∷ ds) rest more)
 
 -- without one before its newline a line stays
-plain-run : (run rest : List ℕ) → IsOpen run → last_of 0 run ≢ 13 → without_returns (run ++ 10 ∷ rest) ≡ run ++ 10 ∷ without_returns rest
+pub plain-run : (run rest : List ℕ) → IsOpen run → last_of 0 run ≢ 13 → without_returns (run ++ 10 ∷ rest) ≡ run ++ 10 ∷ without_returns rest
 plain-run [] rest h other = refl
 plain-run (c ∷ []) rest h other = ap (λ b. cond (b && true) (10 ∷ without_returns rest) (c ∷ (10 ∷ without_returns rest))) (test-false c 13 other)
 plain-run (c ∷ (d ∷ ds)) rest h other =
@@ -46,9 +51,6 @@ plain-run (c ∷ (d ∷ ds)) rest h other =
 pub returned-end : (run front rest : List ℕ) → IsOpen run → run ≡ front ++ 13 ∷ [] → without_returns (run ++ 10 ∷ rest) ≡ front ++ 10 ∷ without_returns rest
 returned-end run front rest h split =
     ap (λ r. without_returns (r ++ 10 ∷ rest)) split ∙ ap without_returns (append_assoc front (13 ∷ []) (10 ∷ rest)) ∙ returned-run front rest (front-open front (13 ∷ []) (subst IsOpen split h))
-
-pub plain-end : (run front rest : List ℕ) (c : ℕ) → IsOpen run → run ≡ front ++ c ∷ [] → c ≢ 13 → without_returns (run ++ 10 ∷ rest) ≡ run ++ 10 ∷ without_returns rest
-plain-end run front rest c h split other = plain-run run rest h (λ e. other (sym (last-push 0 front c) ∙ sym (ap (last_of 0) split) ∙ e))
 
 -- returns before newlines, of what stands before a newline and of what stands behind it
 each-open : (b : ℕ) (run rest : List ℕ) → IsOpen run → each_returned b (run ++ rest) ≡ each_returned (last_of b run) rest

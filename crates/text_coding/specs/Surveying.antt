@@ -1,5 +1,5 @@
 -- What is known of the characters of a file once they have been gone over, before the text is made.
-use Rattle.std.specs.Prelude.{◌≡◌, ℕ, ◌==◌, if◌then◌else◌, List, [], ◌∷◌, length}
+use Rattle.std.specs.Prelude.{◌≡◌, ℕ, List, [], ◌∷◌, length}
 use Rattle.text_coding.specs.declared.decoding.Survey.{Survey}
 use Rattle.text_coding.specs.Coding.{without_returns}
 
@@ -7,10 +7,6 @@ use Rattle.text_coding.specs.Coding.{without_returns}
 abbrev pub last_of : ℕ → List ℕ → ℕ
 last_of before [] = before
 last_of before (c ∷ cs) = last_of c cs
-
--- a return, which waits until the next character is known
-abbrev pub waiting : ℕ → List ℕ
-waiting c = if c == 13 then 13 ∷ [] else []
 
 -- a survey says how many characters there are, with and without the returns that stand before newlines, and which is the
 -- last

@@ -3,9 +3,9 @@
 
 pub mod decoding;
 pub mod encoding;
-mod filling;
 pub mod form;
 pub mod laws;
+mod lines;
 
 pub use decoding::decode;
 pub use encoding::encode;
