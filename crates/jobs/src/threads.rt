@@ -32,7 +32,7 @@ pub trait Handle<J: Job>: Drop {
     /// Lets the thread go, and keeps the result, if the job has ended. Tells whether the thread is let go now.
     fn settle<R: Threads>(&mut self, rt: &R) -> bool
         ensures job { job self.new ≡ job self.old }
-        ensures ended { result ≡ let_go self.new }
+        ensures let_go { result ≡ let_go self.new }
         ensures stays { IsTrue (let_go self.old) → IsTrue (let_go self.new) };
 
     /// Waits for the result.
