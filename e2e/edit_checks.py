@@ -203,6 +203,25 @@ ROWS = {
     "undone there": ("", ["ia<esc>uib<esc>2<c-k>U<c-j>u"], "<\n>", "1:1 normal 1/1", ""),
     "and made again": ("", ["ia<esc>uib<esc>2<c-k>U<c-j>uU"], "<b>\n", "1:1 normal 1/1", ""),
     "above the last node is none": ("", ["ia<esc>uib<esc><c-j>"], "b<\n>", "1:2 normal 1/1", "no such undo node"),
+    # lines of characters that take a byte each, and of wide ones
+    "the first wide character of a line": ("abc", ["li漢<esc>"], "a漢<b>c\n", "1:3 normal 1/1", ""),
+    "at the begin of a line of 20 bytes": ("01234567890123456789", ["i漢<esc>"], "漢<0>1234567890123456789\n", "1:2 normal 1/1", ""),
+    "at the end of one of 40": ("0123456789012345678901234567890123456789", ["A漢<esc>"], "0123456789012345678901234567890123456789漢<\n>", "1:42 normal 1/1", ""),
+    "in the middle of one of 80": ("01234567890123456789012345678901234567890123456789012345678901234567890123456789", ["40li漢字<esc>"], "0123456789012345678901234567890123456789漢字<0>12345678901234567890123456789012345", "1:43 normal 1/1", ""),
+    "a character of one byte and then a wide one": ("abc", ["Aé漢<esc>"], "abcé漢<\n>", "1:6 normal 1/1", ""),
+    "the last character of 255 and the first of 256": ("abc", ["lcÿĀ<esc>"], "aÿĀ<c>\n", "1:4 normal 1/1", ""),
+    "a wide character goes again": ("ab漢c", ["lld"], "ab<c>\n", "1:3 normal 1/1", ""),
+    "a line of bytes gets a wide one's end": ("ab<ret>漢c", ["gg<a-j>"], "<a>b 漢c\n", "1:1 normal 1/1", ""),
+    "a wide line gets the end of one of bytes": ("漢a<ret>bc", ["gg<a-j>"], "<漢>a bc\n", "1:1 normal 1/1", ""),
+    "a wide line is parted": ("ab漢cd", ["lli<ret><esc>"], "ab\n<漢>cd\n", "2:1 normal 1/1", ""),
+    "and put together again": ("ab漢cd", ["lli<ret><esc>u"], "ab<漢>cd\n", "1:3 normal 1/1", ""),
+    "erased over two lines": ("ab漢<ret>cdé", [":select 1.2,2.1<ret>d"], "a<d>é\n", "1:2 normal 1/1", ""),
+    "a put text with wide lines": ("ab<ret>漢<ret>c", ['%y"_dP'], "[ab\n漢\nc]<\n>\n", "3:2 normal 1/1", ""),
+    "wide and narrow lines exchanged": ("ab<ret>漢é", [":select 1.1,1.2 2.1,2.4<ret><a-)>"], "[漢]<é>\n(a)<b>\n", "1:2 normal 1/2", ""),
+    "a search in both kinds of lines": ("aé<ret>漢é", ["/é<ret>n"], "aé\n漢<é>\n", "2:2 normal 1/1", ""),
+    "matches in both kinds of lines": ("aéb<ret>漢éb", ["%s\\w<ret>"], "<aéb>\n<漢éb>\n", "2:3 normal 6/6", ""),
+    "a column behind a character of two bytes": ("éab<ret>cdef", ["gllj"], "éab\ncde<f>\n", "2:4 normal 1/1", ""),
+    "the byte of one in a line of bytes": ("éab", [":select 1.2,1.3<ret>"], "[é]<a>b\n", "1:2 normal 1/1", ""),
 }
 
 # a text that is typed; keys and the text that is then drawn, one line of keys after another
