@@ -69,6 +69,7 @@ impl<'a> CharsRef<'a> {
             CharsRef::Wide(chars) => CharsRef::Wide(&chars[from..]),
         }
     }
+
     /// Adds the characters to others. After an error those are as they were.
     pub fn push_onto(self, others: &mut Vec<char>) -> Result<(), AllocError>
         ensures ok { OnOk result (others.new.items ≡ others.old.items ++ chars_of self.entry) }

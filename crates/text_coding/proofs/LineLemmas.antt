@@ -1,11 +1,11 @@
 -- The lines of a file's characters, by its bytes.
-use Rattle.std.proofs.Common.{Result, Ok, Err, ◌≡◌, ◌≢◌, ℕ, zero, suc, ◌+◌, ◌/◌, ◌%◌, ◌<◌, Bool, true, false, cond, ltb, ◌==◌, true≢false, List, [], ◌∷◌, ◌++◌, length, take, drop, get_or, take-append-drop, slice_index, take_at, length-take, length-take-le, eq-eqb, ◌≤◌, refl, sym, ap, subst, ◌∙◌, arith, chars, encode_utf8_all}
+use Rattle.std.proofs.Common.{Result, Ok, Err, ◌≡◌, ◌≢◌, ℕ, zero, suc, ◌+◌, ◌/◌, ◌%◌, ◌<◌, Bool, true, false, cond, ltb, ◌==◌, true≢false, List, [], ◌∷◌, ◌++◌, length, take, drop, get_or, take-append-drop, slice_index, take_at, length-take, length-take-le, eq-eqb, ◌≤◌, refl, sym, ap, ap₂, subst, ◌∙◌, arith, chars, encode_utf8_all}
 use Rattle.std.specs.Char.{encode_utf8 as encode}
 use Rattle.std.specs.Str.{IsUtf8, IsAscii}
 use Rattle.std.proofs.lemmas.Bool.{lt-ltb}
 use Rattle.std.proofs.lemmas.List.{take_all, take_more, drop_more, get_or-take, get_or_default}
 use Rattle.std.proofs.lemmas.List.Elements.{All-append, All-head, All-tail}
-use Rattle.std.proofs.lemmas.Str.{chars-nil, encodes-chars, chars-append, chars-IsAscii, IsUtf8-from_ascii, IsUtf8-take, IsCharBoundary-before_ascii, IsCharBoundary-at_seam}
+use Rattle.std.proofs.lemmas.Str.{encode_ascii, chars-nil, encodes-chars, chars-append, chars-IsAscii, IsUtf8-from_ascii, IsUtf8-take, IsCharBoundary-before_ascii, IsCharBoundary-at_seam}
 use Rattle.text_coding.specs.Surveying.{last_of}
 use Rattle.text_coding.proofs.FormLemmas.{test-false}
 use Rattle.text_coding.proofs.FillLemmas.{IsOpen, one-open, last-append}
@@ -65,6 +65,11 @@ one-ascii a small (suc n) = omega arith
 
 pub ascii-behind : (front : List ℕ) (a : ℕ) → IsUtf8 front → a < 128 → chars (front ++ a ∷ []) ≡ chars front ++ a ∷ []
 ascii-behind front a utf8 small = chars-append front (a ∷ []) utf8 ∙ ap (λ t. chars front ++ t) (chars-IsAscii (a ∷ []) (one-ascii a small))
+
+-- characters that are written into an empty string with a newline behind them
+pub written-line : (run none some all line : List ℕ) → IsUtf8 run → none ≡ [] → some ≡ none ++ run → all ≡ some ++ encode 10 → line ≡ all → chars line ≡ chars run ++ 10 ∷ []
+written-line run none some all line utf8 n s a l =
+    ap chars (l ∙ a ∙ ap₂ (λ x y. x ++ y) (s ∙ ap (λ t. t ++ run) n) (encode_ascii 10 (omega arith))) ∙ ascii-behind run 10 utf8 (omega arith)
 
 -- a text with a newline at a place, parted there
 pub front-utf8 : (text : List ℕ) (n a : ℕ) → IsUtf8 text → n < length text → get_or text n 0 ≡ a → a < 128 → IsUtf8 (take n text)

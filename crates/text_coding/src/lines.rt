@@ -17,9 +17,11 @@ use std::alloc::Global;
 // A text that was parted at a newline.
 #[derive(Clone, Copy)]
 struct Parted<'a> {
-    // what stands before the newline, and the same with it
+    // what stands before the newline
     run: &'a str,
+    // the same, with the newline
     line: &'a str,
+    // what stands behind the newline
     behind: &'a str,
 }
 
