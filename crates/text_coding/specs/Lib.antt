@@ -1,4 +1,5 @@
 pub mod Coding
 pub mod Surveying
+pub mod Parting
 pub mod Laws
 pub mod Examples

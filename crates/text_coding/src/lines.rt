@@ -5,6 +5,7 @@ ghost use Rattle.text_model.specs.declared.TheConstants.{MAX_CHARS};
 ghost use Rattle.text_model.specs.Texts.{IsLine, IsText};
 ghost use Rattle.text_model.specs.Changes.{ended};
 ghost use Rattle.text_coding.specs.Coding.{eol_of, from_form, without_returns};
+ghost use Rattle.text_coding.specs.Parting.{IsParted};
 ghost use Rattle.text_coding.specs.Surveying.{last_of};
 
 use crate::form::Eol;
@@ -30,9 +31,7 @@ fn parted_at(text: &str, newline: usize) -> Parted<'_>
     requires inside { newline < length text.now }
     requires newline { slice_index text.now newline ≡ 10 }
     requires first { All (λ b. b ≢ 10) (take newline text.now) }
-    ensures open { All (λ c. c ≢ 10) (chars result.run.now) }
-    ensures line { chars result.line.now ≡ chars result.run.now ++ 10 ∷ [] }
-    ensures whole { chars text.now ≡ chars result.run.now ++ 10 ∷ chars result.behind.now }
+    ensures { IsParted result text.now }
 {
     let (line, behind) = text.split_at(newline + 1);
     let (run, _) = line.split_at(newline);
@@ -41,9 +40,7 @@ fn parted_at(text: &str, newline: usize) -> Parted<'_>
 
 // Parts a text at its first newline, if it has one.
 fn first_line(text: &str) -> Option<Parted<'_>>
-    ensures open { IfSome result (λ parted. All (λ c. c ≢ 10) (chars parted.run.now)) }
-    ensures line { IfSome result (λ parted. chars parted.line.now ≡ chars parted.run.now ++ 10 ∷ []) }
-    ensures whole { IfSome result (λ parted. chars text.now ≡ chars parted.run.now ++ 10 ∷ chars parted.behind.now) }
+    ensures some { IfSome result (λ parted. IsParted parted text.now) }
     ensures none { result ≡ None → All (λ c. c ≢ 10) (chars text.now) }
 {
     let newline = memchr(b'\n', text.as_bytes())?;

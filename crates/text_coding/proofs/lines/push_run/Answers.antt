@@ -1,4 +1,4 @@
-use Rattle.std.proofs.Common.{length, ◌∷◌, ◌++◌, [], chars, sym, ap, subst, ◌∙◌, arith}
+use Rattle.std.proofs.Common.{length, ◌++◌, chars, sym, ap, subst, ◌∙◌, arith}
 use Rattle.std.proofs.lemmas.Result.{on_ok_weaker}
 use Rattle.text_model.specs.Texts.{IsLine}
 use Rattle.text_coding.proofs.FillLemmas.{closed-line}
