@@ -16,6 +16,3 @@ pub use acceptor::{Acceptor, Bound, Next};
 pub use kept::MemLink;
 pub use link::{Heard, Link};
 pub use waiting::MemAcceptor;
-
-#[cfg(test)]
-mod tests;

@@ -4,6 +4,3 @@
 pub mod disk;
 
 pub use disk::DiskFiles;
-
-#[cfg(test)]
-mod tests;

@@ -12,9 +12,6 @@ pub mod threads;
 
 pub use in_turn::{InTurn, StartPlan};
 pub use job::Job;
-pub use running::{Thread, begin};
+pub use running::{Thread, begin, begin_by};
 pub use spawner::{Spawner, Started};
 pub use threads::{Begun, Handle, ThreadSpawner};
-
-#[cfg(test)]
-mod tests;

@@ -122,8 +122,8 @@ fn recalled<J: Job>(
     }
 }
 
-// Begins a job in a thread that is made so.
-pub(crate) fn begin_by<R: Threads + Wait + Copy + Send + 'static, J: Job + Send + 'static>(
+/// Begins a job in a thread that is made so, as one of a larger stack. It is handed back where none can be made.
+pub fn begin_by<R: Threads + Wait + Copy + Send + 'static, J: Job + Send + 'static>(
     maker: Builder,
     rt: R,
     alloc: Global,

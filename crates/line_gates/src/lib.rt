@@ -7,6 +7,3 @@ pub mod held;
 
 pub use gate::{Gate, OpenGate};
 pub use held::{Awaited, HeldGate, LineOf};
-
-#[cfg(test)]
-mod tests;

@@ -9,6 +9,3 @@ pub mod reader;
 
 pub use limits::{MAX_INPUT, MAX_PIECE};
 pub use reader::{Came, LineReader, Next};
-
-#[cfg(test)]
-mod tests;

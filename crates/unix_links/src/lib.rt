@@ -9,6 +9,3 @@ mod paths;
 
 pub use acceptor::UnixAcceptor;
 pub use link::{ClosedLink, StreamLink, UnixLink};
-
-#[cfg(test)]
-mod tests;

@@ -1,10 +1,10 @@
+//! Jobs in turn, and each in a thread of its own.
+
 ghost use Rattle.std.specs.Prelude.{◌<◌};
 
-use crate::in_turn::{InTurn, StartPlan};
-use crate::job::Job;
-use crate::running::{Thread, begin, begin_by};
-use crate::spawner::{Spawner, Started};
-use crate::threads::{Begun, ThreadSpawner};
+use jobs::{
+    Begun, InTurn, Job, Spawner, StartPlan, Started, Thread, ThreadSpawner, begin, begin_by,
+};
 use std::alloc::Global;
 use std::sync::{Arc, Barrier, Wait};
 use std::test::Fail;

@@ -1,7 +1,6 @@
-use crate::acceptor::{Acceptor, Bound, Next};
-use crate::kept::MemLink;
-use crate::link::{Heard, Link};
-use crate::waiting::MemAcceptor;
+//! Links and acceptors in memory.
+
+use client_links::{Acceptor, Bound, Heard, Link, MemAcceptor, MemLink, Next};
 use kak_ports::{FailingCalls, Put};
 use std::test::Fail;
 

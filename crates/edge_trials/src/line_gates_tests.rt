@@ -1,5 +1,6 @@
-use crate::gate::{Gate, OpenGate};
-use crate::held::{Awaited, HeldGate, LineOf};
+//! Gates that let lines run, and hold them back.
+
+use line_gates::{Awaited, Gate, HeldGate, LineOf, OpenGate};
 use std::test::Fail;
 use std::thread;
 

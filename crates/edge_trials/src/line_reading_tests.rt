@@ -1,5 +1,7 @@
-use crate::reader::{LineReader, Next};
+//! Lines that are read from a source in memory.
+
 use kak_ports::{FailingCalls, MemSource};
+use line_reading::{LineReader, Next};
 use std::test::Fail;
 
 #[test]

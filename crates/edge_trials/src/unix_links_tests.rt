@@ -1,4 +1,5 @@
-use crate::acceptor::UnixAcceptor;
+//! Links and acceptors over Unix sockets in the current folder.
+
 use client_links::{Acceptor, Bound, Heard, Link, Next};
 use kak_ports::Put;
 use std::io::{Read, Write};
@@ -7,6 +8,7 @@ use std::os::unix::net::{UnixListener, UnixStream};
 use std::test::Fail;
 use std::time::Duration;
 use std::{fs, thread};
+use unix_links::UnixAcceptor;
 
 #[test]
 fn bytes_come_and_go_over_a_socket(rt: HostRuntime) -> Result<(), Fail> {

@@ -1,4 +1,6 @@
-use crate::disk::DiskFiles;
+//! Files of the disk, each test in a folder of its own.
+
+use disk_files::DiskFiles;
 use kak_files::{FileRead, Files};
 use kak_ports::Put;
 use std::alloc::Global;
