@@ -17,6 +17,3 @@ pub use laws::worked_examples;
 pub use order::{Declaration, OptionName, Order, RegisterValues, Setting};
 pub use places::{Columns, Described, Descriptions, Place, Selection};
 pub use reading::read_order;
-
-#[cfg(test)]
-mod tests;

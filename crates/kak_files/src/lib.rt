@@ -12,6 +12,3 @@ pub mod none;
 pub use files::{FileRead, Files, MAX_FILE};
 pub use kept::{MemFile, MemFiles};
 pub use none::NoFiles;
-
-#[cfg(test)]
-mod tests;

@@ -16,6 +16,3 @@ pub use real::{ReadSource, WriteSink};
 pub use sink::{Put, Sink};
 pub use small::{Octets, Words};
 pub use source::{Source, Took};
-
-#[cfg(test)]
-mod tests;

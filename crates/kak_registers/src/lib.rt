@@ -10,6 +10,3 @@ pub use laws::{registers_are_apart, worked_examples};
 pub use names::{RegisterError, register_named};
 pub use registers::Registers;
 pub use row::{MAX_REGISTER_CHARS, Register};
-
-#[cfg(test)]
-mod tests;

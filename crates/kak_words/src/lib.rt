@@ -17,6 +17,3 @@ pub use laws::worked_examples;
 pub use parts::{Command, CommandWords, Named, Piece, Pieces, Word, WordError};
 pub use quoting::quote;
 pub use reading::read_commands;
-
-#[cfg(test)]
-mod tests;

@@ -14,6 +14,3 @@ mod window_lines;
 pub use atoms::{push_run, push_shown};
 pub use laws::{atoms_are_runs, plain_lines_are_cut, windows_show_cells, worked_examples};
 pub use window_lines::draw_lines;
-
-#[cfg(test)]
-mod tests;

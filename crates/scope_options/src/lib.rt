@@ -15,6 +15,3 @@ pub use options::{OptionError, Options};
 pub use scope::Scope;
 pub use setting::Setting;
 pub use value::{OptionType, OptionValue};
-
-#[cfg(test)]
-mod tests;

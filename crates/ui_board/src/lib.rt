@@ -14,6 +14,3 @@ pub use json::JsonUi;
 pub use laws::{reports_add_up, seats_are_apart, worked_examples};
 pub use silent::SilentUi;
 pub use ui::Ui;
-
-#[cfg(test)]
-mod tests;

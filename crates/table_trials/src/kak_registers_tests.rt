@@ -1,6 +1,7 @@
-use crate::names::{RegisterError, register_named};
-use crate::registers::Registers;
+//! Registers and the words that name them.
+
 use kak_ports::Words;
+use kak_registers::{RegisterError, Registers, register_named};
 use std::alloc::{AllocError, Global};
 use std::test::Fail;
 

@@ -1,5 +1,6 @@
-use crate::error::OrderError;
-use crate::reading::read_order;
+//! Words that are orders, or none.
+
+use command_forms::{OrderError, read_order};
 use std::alloc::{AllocError, Global};
 use std::test::Fail;
 

@@ -1,7 +1,7 @@
-use crate::options::{OptionError, Options};
-use crate::scope::Scope;
-use crate::value::{OptionType, OptionValue};
+//! Options that are set, unset and declared.
+
 use kak_ports::Words;
+use scope_options::{OptionError, OptionType, OptionValue, Options, Scope};
 use std::alloc::{AllocError, Global};
 use std::test::Fail;
 

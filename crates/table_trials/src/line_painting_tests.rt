@@ -1,14 +1,15 @@
+//! What windows show of texts with selections, each atom followed by a sign for its face.
+
 ghost use Rattle.std.specs.Prelude.{◌≡◌, ◌≤◌, IfOk};
 ghost use Rattle.std.specs.List.{AllByRecursion};
 ghost use Rattle.selection_set.specs.Held.{IsHeld};
 ghost use Rattle.selection_set.specs.Listing.{IsPairInside};
 
-use super::*;
-use crate::paint::Paint;
 use json_writing::DrawnLine;
-use kak_faces::{Face, StandardFace};
+use kak_faces::{Face, StandardFace, merge};
 use kak_text::{Chars, MAX_TABSTOP, Text};
 use line_buffer::Lines;
+use line_painting::{draw_lines, push_run, push_shown};
 use selection_set::{Pair, Sels};
 use std::alloc::Global;
 use std::process::Abort;
@@ -51,17 +52,19 @@ fn select<R: Abort>(
 }
 
 // A sign for a face.
-fn sign(paint: &Paint, face: Face) -> char {
-    if face.is_same(paint.main.selected) {
+fn sign(face: Face) -> char {
+    let bare = StandardFace::Default.face();
+    let main = merge(bare, StandardFace::PrimarySelection.face());
+    if face.is_same(main) {
         return '+';
     }
-    if face.is_same(paint.other.selected) {
+    if face.is_same(merge(bare, StandardFace::SecondarySelection.face())) {
         return '-';
     }
-    if face.is_same(paint.main.cursor) {
+    if face.is_same(merge(main, StandardFace::PrimaryCursor.face())) {
         return '^';
     }
-    if face.is_same(paint.main.cursor_eol) {
+    if face.is_same(merge(main, StandardFace::PrimaryCursorEol.face())) {
         return '$';
     }
     '|'
@@ -69,13 +72,12 @@ fn sign(paint: &Paint, face: Face) -> char {
 
 // The contents of a line's atoms, each followed by a sign for its face.
 fn signed(alloc: Global, line: &DrawnLine) -> Result<String, Fail> {
-    let paint = Paint::standard();
     let mut out = String::new(alloc);
     for atom in line.atoms.as_slice() {
         for c in atom.contents.as_slice() {
             out.push(*c)?;
         }
-        out.push(sign(&paint, atom.face))?;
+        out.push(sign(atom.face))?;
     }
     Ok(out)
 }

@@ -1,13 +1,10 @@
 //! Boxes and a board, as a program uses them.
 
-use crate::board::Board;
-use crate::json::JsonUi;
-use crate::silent::SilentUi;
-use crate::ui::Ui;
 use json_writing::{Atoms, Cursor, Drawing, DrawnLine, DrawnLines, Info, Refusal, encode_drawing};
 use kak_faces::{Face, StandardFace};
 use std::alloc::Global;
 use std::test::Fail;
+use ui_board::{Board, JsonUi, SilentUi, Ui};
 
 const KEY_1: &str =
     "{\"error\":{\"code\":-32602,\"message\":\"Key 1\"},\"id\":null,\"jsonrpc\":\"2.0\"}\n";

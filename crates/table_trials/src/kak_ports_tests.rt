@@ -1,9 +1,7 @@
-use crate::kept::{MemSink, MemSource};
-use crate::memory::FailingCalls;
-use crate::real::{ReadSource, WriteSink};
-use crate::sink::{Put, Sink};
-use crate::small::{Octets, Utf8Text, Words};
-use crate::source::{Source, Took};
+//! Sources and sinks in memory and over std, and small lists.
+
+use kak_ports::small::{Octets, Utf8Text, Words};
+use kak_ports::{FailingCalls, MemSink, MemSource, Put, ReadSource, Sink, Source, Took, WriteSink};
 use std::test::Fail;
 
 #[test]

@@ -1,11 +1,10 @@
+//! Texts that are read as commands of words, and words that are quoted.
+
 ghost use Rattle.std.specs.Prelude.{Some, None, [], ◌∷◌, if◌then◌else◌, codes};
 ghost use Rattle.std.specs.Str.{bytes_eq};
 
-use crate::expanding::{Lookup, expand};
-use crate::parts::WordError;
-use crate::quoting::quote;
-use crate::reading::read_commands;
 use kak_ports::Words;
+use kak_words::{Lookup, WordError, expand, quote, read_commands};
 use std::alloc::{AllocError, Global};
 use std::test::Fail;
 

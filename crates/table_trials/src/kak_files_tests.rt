@@ -1,5 +1,6 @@
-use crate::files::{FileRead, Files};
-use crate::kept::{MemFile, MemFiles};
+//! Files in memory.
+
+use kak_files::{FileRead, Files, MemFile, MemFiles};
 use kak_ports::{FailingCalls, Put};
 use std::alloc::Global;
 use std::test::Fail;
