@@ -8,6 +8,3 @@ mod status;
 
 pub use drawing::{draw, follow_cursor};
 pub use laws::worked_examples;
-
-#[cfg(test)]
-mod tests;

@@ -1,6 +1,8 @@
-//! Trials of the engine, event by event, and of whole runs for one client.
+//! Trials of the engine, event by event, of what a client is drawn of a world, and of whole runs for one client.
 #![tactic(auto)]
 
+#[cfg(test)]
+mod draw_tests;
 #[cfg(test)]
 mod engine_tests;
 #[cfg(test)]
