@@ -6,7 +6,8 @@ from processes import run_whole
 
 TOP = pathlib.Path(__file__).resolve().parent.parent
 
-# the session that docs/PROTOCOL.md tells of
+# the session that README.md tells of, and that of docs/PROTOCOL.md
+README_SESSION = [keys_line("ihi<esc>"), keys_line("ia", "<nope>")]
 PROTOCOL_SESSION = [keys_line("ihi<esc>"), keys_line("h"), keys_line(":wr"), keys_line("<ret>"), keys_line("ia", "<nope>")]
 
 
@@ -17,20 +18,25 @@ def shown_lines(text):
 
 
 def protocol_pages():
-    """The page of the protocol: what it tells of one client over pipes, and of many over a socket."""
-    first, _, second = (TOP / "docs/PROTOCOL.md").read_text().partition("\n## Servers\n")
-    return first, second
+    """The page of the protocol: what it tells of one client over pipes, of a whole run, and of many over a socket."""
+    first, _, rest = (TOP / "docs/PROTOCOL.md").read_text().partition("\n## A whole run\n")
+    whole, _, servers = rest.partition("\n## Servers\n")
+    return first, whole, servers
 
 
 def run(program, report):
-    ended = run_whole(program, ["-ui", "json"], b"".join(PROTOCOL_SESSION))
-    written = set(ended.output.splitlines(True))
-    lines = shown_lines(protocol_pages()[0])
-    report.check("docs/PROTOCOL.md shows lines", True, bool(lines))
-    for line in lines:
-        report.check(f"docs/PROTOCOL.md: the program writes the line {line!r}", True, line in written)
-    # README.md shows a whole session
-    readme = (TOP / "README.md").read_text().encode()
+    shows("README.md", (TOP / "README.md").read_text(), README_SESSION, program, report)
+    first, whole, _ = protocol_pages()
+    shows("docs/PROTOCOL.md", first, PROTOCOL_SESSION, program, report)
     session = TOP / "e2e/first_path/006"
     for suffix in (".in", ".out"):
-        report.check(f"README.md shows e2e/first_path/006{suffix}", True, session.with_suffix(suffix).read_bytes() in readme)
+        report.check(f"docs/PROTOCOL.md shows e2e/first_path/006{suffix}", True, session.with_suffix(suffix).read_text() in whole)
+
+
+def shows(name, text, session, program, report):
+    """Each line that is shown is one that the program writes in this session."""
+    written = set(run_whole(program, ["-ui", "json"], b"".join(session)).output.splitlines(True))
+    lines = shown_lines(text)
+    report.check(f"{name} shows lines", True, bool(lines))
+    for line in lines:
+        report.check(f"{name}: the program writes the line {line!r}", True, line in written)

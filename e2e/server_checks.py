@@ -114,7 +114,7 @@ def two_clients(place, report):
     report.check_output("server: the first is drawn its coming", at(0, HI, "1:3", (0, 2)), first.next())
     report.check("server: drawings of others are nothing to be drawn", (True, True), (first.is_quiet(), second.is_quiet()))
     report.check("server: what the second types", ("!<h>i\n", "*scratch* 1:2 normal 1/1 - client1", ""), last_drawing(second.play("i!<esc>")))
-    shown = b"".join(shown_lines(protocol_pages()[1]))
+    shown = b"".join(shown_lines(protocol_pages()[2]))
     report.check_output("server: the first is drawn that, unasked, as docs/PROTOCOL.md shows it", shown, first.until('"!hi"'))
     settle([first])
     report.check("server: and types", ("!hi?<\n>", "*scratch* 1:5 normal 1/1 - client0", ""), last_drawing(first.play("i?<esc>")))

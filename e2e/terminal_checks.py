@@ -11,19 +11,21 @@ import time
 
 from connections import SECONDS, play
 
-FRONT_END = pathlib.Path(__file__).resolve().parent.parent / "examples/terminal.py"
+EXAMPLES = pathlib.Path(__file__).resolve().parent.parent / "examples"
+FRONT_END = EXAMPLES / "terminal.py"
 ESCAPES = re.compile(rb"\x1b\[[^A-Za-z]*[A-Za-z]")
 ESC = "\x1b"
 
 
 class Terminal:
-    """A window in a terminal."""
+    """A window in a terminal: one on a session, or another program."""
 
-    def __init__(self, folder, session):
+    def __init__(self, folder, session, command=(sys.executable, FRONT_END), setting=()):
         self.ours, self.theirs = pty.openpty()
         self.before = termios.tcgetattr(self.theirs)
         self.process = subprocess.Popen(
-            [sys.executable, str(FRONT_END), session], cwd=folder, stdin=self.theirs, stdout=self.theirs, stderr=subprocess.PIPE)
+            [*command, session], cwd=folder, stdin=self.theirs, stdout=self.theirs, stderr=subprocess.PIPE,
+            env={**os.environ, **dict(setting)})
         self.came = b""
 
     def type(self, text):
@@ -58,6 +60,7 @@ class Terminal:
 def run(program, report):
     play(program, report, two_terminals, name="two terminals")
     play(program, report, no_server, name="a terminal without a server")
+    play(program, report, an_editor, name="an editor in one command", files={"notes.txt": b"milk\n"})
 
 
 def two_terminals(place, report):
@@ -96,4 +99,16 @@ def typed_in_both(first, second, report):
 def no_server(place, report):
     terminal = Terminal(place.folder, "s")
     report.check("terminal: no such session", (1, b"s.kak: No such file or directory\n", True), (*terminal.end(), terminal.is_as_found()))
+    terminal.close()
+
+
+def an_editor(place, report):
+    """A server of its own is started for the file, and ends with the window."""
+    terminal = Terminal(place.folder, "notes.txt", [EXAMPLES / "edit"], {"KAKD": str(place.program)})
+    report.check("editor: it shows the file", True, terminal.shows("notes.txt 1:1 normal 1/1 - client0"))
+    terminal.type("ioat" + ESC)
+    report.check("editor: it is typed into", True, terminal.shows("notes.txt 1:4 normal"))
+    terminal.type(":wq\r")
+    report.check("editor: it ends", (0, b"", True), (*terminal.end(), terminal.is_as_found()))
+    report.check("editor: and has written the file, which is all that is left", {"notes.txt": b"oatmilk\n"}, place.files())
     terminal.close()

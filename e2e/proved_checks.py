@@ -1,0 +1,55 @@
+"""What the documents say is proved: each crate is there, and each function and clause that is named stands in the sources."""
+import re
+
+from sources import TOP, crate_names, functions_of, names_of
+
+# the most characters of a row of the README's table
+ROW = 300
+
+# `f`, `g` (`a`, `b`); `h`: f and g have the clauses a and b, and h is there too
+NAMES = r"`[\w:]+`(?:, `[\w:]+`)*"
+GROUP = rf"{NAMES}(?: \({NAMES}\))?"
+LINE = re.compile(rf"- ({GROUP}(?:; {GROUP})*)(?:, where [a-z ]+)?: (.*)")
+NAME = re.compile(r"`([A-Za-z]\w*(?:::\w+)?)`")
+
+
+def run(_program, report):
+    page = (TOP / "docs/PROVED.md").read_text()
+    sections = dict(re.findall(r"^### `(\w+)`\n(.*?)(?=^##|\Z)", page, re.MULTILINE | re.DOTALL))
+    report.check("docs/PROVED.md has a heading for each crate of crates.txt, and no other", sorted(crate_names()), sorted(sections))
+    # the crates of the kit stand in crates.txt too
+    known = set(re.findall(r"\w+", (TOP / "crates.txt").read_text())).union(*map(names_of, crate_names()))
+    for crate, text in sections.items():
+        for line in text.splitlines():
+            lines_stand(crate, line, known, report)
+    for name in NAME.findall(page.partition("\n### ")[0]):
+        report.check(f"docs/PROVED.md: `{name}` stands in the sources", True, name in known)
+    readme_rows(known, report)
+
+
+def lines_stand(crate, line, known, report):
+    """The functions that a line begins with are the crate's and have these clauses, and whatever else it names stands somewhere."""
+    where = f"docs/PROVED.md, `{crate}`"
+    found = LINE.fullmatch(line)
+    if line.startswith("- "):
+        report.check(f"{where}: begins with functions and their clauses: {line!r}", True, bool(found))
+    for group in found[1].split("; ") if found else ():
+        functions, _, clauses = group.partition(" (")
+        for function in re.findall(r"[\w:]+", functions):
+            report.check(f"{where}: `{function}` is a function or a definition of it", True, function in names_of(crate))
+            for clause in re.findall(r"\w+", clauses):
+                report.check(f"{where}: `{function}` has a clause `{clause}`", True, clause in functions_of(crate).get(function, ()))
+    for name in NAME.findall(found[2] if found else line):
+        report.check(f"{where}: `{name}` stands in the sources", True, name in known)
+
+
+def readme_rows(known, report):
+    """The README's table has each crate once, in rows that aren't long."""
+    text = (TOP / "README.md").read_text().partition("\n## What is proved\n")[2].partition("\n### ")[0]
+    rows = [line for line in text.splitlines() if line.startswith("| `")]
+    named = [name for row in rows for name in re.findall(r"`(\w+)`", row.split("|")[1])]
+    report.check("README.md has a row for each crate of crates.txt, and no other", sorted(crate_names()), sorted(named))
+    for row in rows:
+        report.check(f"README.md: a row has at most {ROW} characters: {row[:60]}..", True, len(row) <= ROW)
+        for name in NAME.findall(row):
+            report.check(f"README.md: `{name}` stands in the sources", True, name in known)
