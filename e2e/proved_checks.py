@@ -1,7 +1,7 @@
 """What the documents say is proved: each crate is there, and each function and clause that is named stands in the sources."""
 import re
 
-from sources import TOP, crate_names, functions_of, names_of
+from sources import CRATES, TOP, crate_names, functions_of, names_of
 
 # the most characters of a row of the README's table
 ROW = 300
@@ -25,6 +25,7 @@ def run(_program, report):
     for name in NAME.findall(page.partition("\n### ")[0]):
         report.check(f"docs/PROVED.md: `{name}` stands in the sources", True, name in known)
     readme_rows(known, report)
+    definitions(report)
 
 
 def lines_stand(crate, line, known, report):
@@ -53,3 +54,13 @@ def readme_rows(known, report):
         report.check(f"README.md: a row has at most {ROW} characters: {row[:60]}..", True, len(row) <= ROW)
         for name in NAME.findall(row):
             report.check(f"README.md: `{name}` stands in the sources", True, name in known)
+
+
+def definitions(report):
+    """docs/DEFINITIONS.md has a place for each file of definitions, examples aside; the desk's have theirs in docs/ARCHITECTURE.md."""
+    sections = re.split(r"^## ", (TOP / "docs/DEFINITIONS.md").read_text(), flags=re.MULTILINE)
+    for path in sorted(CRATES.glob("*/specs/*.antt")):
+        crate, name = path.parent.parent.name, path.stem
+        if name != "Lib" and "Example" not in name and crate not in ("session_desk", "desk_trials"):
+            told = any(crate in section and re.search(rf"[`/]{name}`", section) for section in sections)
+            report.check(f"docs/DEFINITIONS.md says what crates/{crate}/specs/{name} is", True, told)
