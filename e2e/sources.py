@@ -12,10 +12,15 @@ ITEM = re.compile(r" *(?:pub(?:\(\w+\))? )?(?:struct|enum|trait|type|const) (\w+
 DEFINITION = re.compile(r" *(?:(?:abbrev|unfoldable|pub|record|data) )*([^\W\d]\w*)\b.* : ")
 
 
-def crate_names():
-    """The crates of the repository, as crates.txt lists them."""
+@functools.cache
+def crates():
+    """The crates of the repository in the order of crates.txt, each with those that it uses."""
     lines = (line.split("#")[0] for line in (TOP / "crates.txt").read_text().splitlines())
-    return [line.split(":")[0].split()[0] for line in lines if ":" in line]
+    return {line.split()[0].strip(":"): line.split(":")[1].split() for line in lines if ":" in line}
+
+
+def crate_names():
+    return list(crates())
 
 
 def lines_of(crate, part, ending):

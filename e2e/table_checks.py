@@ -1,7 +1,7 @@
 """What the tables of the documents list is what stands in the sources: keys, commands, options, texts, statuses and limits."""
 import re
 
-from sources import CRATES, TOP, crate_names
+from sources import CRATES, TOP, crate_names, crates
 
 SPAN = re.compile(r"`([^`]+)`")
 CONSTANT = re.compile(r"^(?:pub const ((?:MAX|MOST)_\w+|\w+_MILLIS)|const (MAX_COUNT)): \w+ = ([\d_]+);", re.MULTILINE)
@@ -15,7 +15,7 @@ FACES = {
 
 
 def run(_program, report):
-    for checks in (normal_keys, other_modes, key_names, registers, commands, expansions, options, status_texts, refusals, statuses, faces, limits):
+    for checks in (normal_keys, other_modes, key_names, registers, commands, expansions, options, status_texts, refusals, statuses, faces, limits, layers):
         checks(report)
 
 
@@ -190,3 +190,13 @@ def limits(report):
     for name in ("KEYS.md", "COMMANDS.md", "PROTOCOL.md"):
         for number in sorted(set(re.findall(r"\b\d{1,3}(?:,\d{3})+\b", page(name))) - numbers):
             report.fail(f"docs/{name}: {number} is no limit of docs/DEFINITIONS.md")
+
+
+def layers(report):
+    """docs/ARCHITECTURE.md has each crate in a layer that none of those that it uses is above."""
+    layer = {crate: number for number, cells in enumerate(rows("ARCHITECTURE.md", "The crates, from below", "Layer")) for crate in spans(cells[1])}
+    agree(report, "docs/ARCHITECTURE.md and crates.txt: crates", layer, crate_names())
+    odd = [(crate, used) for crate, uses in crates().items() for used in uses if layer.get(used, 0) > layer.get(crate, len(layer))]
+    report.check("docs/ARCHITECTURE.md: crates that use one of a row below theirs", [], odd)
+    late = [(crate, used) for place, (crate, uses) in enumerate(crates().items()) for used in uses if used in crate_names()[place:]]
+    report.check("crates.txt: crates that use one of a line below theirs", [], late)
