@@ -5,6 +5,8 @@ from sources import CRATES, TOP, crate_names, functions_of, names_of
 
 # the most characters of a row of the README's table
 ROW = 300
+# names of the kit, and beginnings of names
+OTHERS = {"AllocError", "Has", "Model", "is_alphabetic", "is_numeric"}
 
 # `f`, `g` (`a`, `b`); `h`: f and g have the clauses a and b, and h is there too
 NAMES = r"`[\w:]+`(?:, `[\w:]+`)*"
@@ -26,6 +28,7 @@ def run(_program, report):
         report.check(f"docs/PROVED.md: `{name}` stands in the sources", True, name in known)
     readme_rows(known, report)
     definitions(report)
+    names_stand(known, report)
 
 
 def lines_stand(crate, line, known, report):
@@ -64,3 +67,11 @@ def definitions(report):
         if name != "Lib" and "Example" not in name and crate not in ("session_desk", "desk_trials"):
             told = any(crate in section and re.search(rf"[`/]{name}`", section) for section in sections)
             report.check(f"docs/DEFINITIONS.md says what crates/{crate}/specs/{name} is", True, told)
+
+
+def names_stand(known, report):
+    """What these pages call by a name of the sources is there."""
+    files = {path.stem for part in ("specs", "proofs") for path in CRATES.glob(f"*/{part}/*.antt")}
+    for page in ("ARCHITECTURE.md", "DECISIONS.md", "DEFINITIONS.md"):
+        named = {name for name in NAME.findall((TOP / "docs" / page).read_text()) if re.search("[_:]|^[A-Z]", name)}
+        report.check(f"docs/{page}: names that nothing in the sources has", [], sorted(named - known - files - OTHERS))
