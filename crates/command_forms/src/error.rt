@@ -5,21 +5,28 @@ ghost use Rattle.command_forms.specs.declared.error.OrderError.TheVariants.{NoMe
 
 use kak_ports::small::Utf8Text;
 use std::alloc::AllocError;
+use thiserror::Error;
 
 /// Why words are no order.
-#[derive(Drop, Debug)]
+#[derive(Drop, Debug, Error)]
 pub enum OrderError {
     /// No command has this name.
+    #[error("no such command: {0}")]
     NoSuchCommand(Utf8Text),
     /// The command takes more or fewer words, or a switch lacks the word that goes with it.
+    #[error("wrong argument count")]
     WrongArgumentCount,
     /// The command has no switch of this name, which is told with its dash.
+    #[error("unknown switch: {0}")]
     UnknownSwitch(Utf8Text),
     /// A word that names a type names none.
+    #[error("bad value")]
     BadValue,
     /// This word describes no selection.
+    #[error("bad selection description: {0}")]
     BadSelection(Utf8Text),
     /// Memory ran out.
+    #[error("out of memory")]
     NoMemory,
 }
 

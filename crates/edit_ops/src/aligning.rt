@@ -15,16 +15,20 @@ use kak_text::{Chars, MAX_CHARS, MAX_TABSTOP};
 use line_buffer::Lines;
 use selection_set::{Sel, Sels};
 use std::alloc::{AllocError, Global};
+use thiserror::Error;
 use window_view::cell_of;
 
 /// Why cursors aren't aligned. Nothing is changed then.
-#[derive(Clone, Copy, PartialEq, Eq, Debug)]
+#[derive(Clone, Copy, PartialEq, Eq, Debug, Error)]
 pub enum AlignError {
     /// Two selections begin on one line.
+    #[error("two selections begin on one line")]
     SameLine,
     /// The spaces are more characters together than a text may have. None of them was made.
+    #[error("the spaces are longer than a text may be")]
     TooLong,
     /// Memory ran out.
+    #[error("out of memory")]
     NoMemory,
 }
 

@@ -9,13 +9,16 @@ ghost use Rattle.edit_ops.specs.declared.crowding.PutError.TheVariants.{NoMemory
 use kak_ports::Words;
 use kak_text::MAX_CHARS;
 use std::alloc::AllocError;
+use thiserror::Error;
 
 /// Why strings aren't put. Nothing is changed then.
-#[derive(Clone, Copy, PartialEq, Eq, Debug)]
+#[derive(Clone, Copy, PartialEq, Eq, Debug, Error)]
 pub enum PutError {
     /// For all selections together there are more characters than a text may have. No string was copied.
+    #[error("the strings are longer than a text may be")]
     TooLong,
     /// Memory ran out.
+    #[error("out of memory")]
     NoMemory,
 }
 

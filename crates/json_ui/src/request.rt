@@ -6,6 +6,7 @@ ghost use Rattle.json_ui.specs.declared.request.LineError.TheVariants.{NoMemory}
 use json_writing::Refusal;
 use key_names::Keys;
 use std::alloc::AllocError;
+use thiserror::Error;
 
 /// What a line asks for.
 #[derive(Drop, Debug)]
@@ -17,11 +18,13 @@ pub enum Request {
 }
 
 /// Why a line gives no request.
-#[derive(Clone, Copy, PartialEq, Eq, Debug)]
+#[derive(Clone, Copy, PartialEq, Eq, Debug, Error)]
 pub enum LineError {
     /// The line is refused; it changes nothing.
+    #[error("refused: {0}")]
     Refused(Refusal),
     /// Memory ran out.
+    #[error("out of memory")]
     NoMemory,
 }
 

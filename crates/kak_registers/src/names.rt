@@ -5,17 +5,22 @@ ghost use Rattle.kak_registers.specs.declared.names.RegisterError.TheVariants.{N
 ghost use Rattle.kak_registers.specs.Names.{is_settable, is_read_only, is_register, named, long_named};
 
 use std::alloc::AllocError;
+use thiserror::Error;
 
 /// Why a register isn't set.
-#[derive(Clone, Copy, PartialEq, Eq, Debug)]
+#[derive(Clone, Copy, PartialEq, Eq, Debug, Error)]
 pub enum RegisterError {
     /// This character names no register.
+    #[error("no such register: {0}")]
     NoRegister(char),
     /// The register of this name is worked out from the client that reads it, and can't be set.
+    #[error("register is read only: {0}")]
     ReadOnly(char),
     /// The strings have more than `MAX_REGISTER_CHARS` characters together.
+    #[error("register is full")]
     RegisterFull,
     /// Memory ran out.
+    #[error("out of memory")]
     NoMemory,
 }
 

@@ -4,6 +4,7 @@ ghost use Rattle.std.specs.Prelude.{◌≡◌, ℕ, ◌+◌, ◌<◌, ◌≤◌,
 
 use smallvec::SmallVec;
 use std::alloc::{AllocError, Global};
+use std::fmt;
 use std::marker::Model;
 
 /// A list of characters. Up to four of them take no memory of their own.
@@ -138,4 +139,13 @@ fn widened(alloc: Global, bytes: &[u8]) -> Result<Vec<char>, AllocError>
         wide.push_reserved(*b as char);
     }
     Ok(wide)
+}
+
+impl fmt::Display for Chars {
+    fn fmt<W: fmt::Write>(&self, f: &mut fmt::Formatter<W>) -> fmt::Result {
+        for c in self.as_slice() {
+            write!(f, "{c}")?;
+        }
+        Ok(())
+    }
 }

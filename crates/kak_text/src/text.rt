@@ -8,13 +8,16 @@ ghost use Rattle.kak_text.specs.declared.text.TextError.TheVariants.{NoMemory};
 use std::alloc::{AllocError, Global};
 use std::marker::Model;
 use text_model::MAX_CHARS;
+use thiserror::Error;
 
 /// Why there is no text.
-#[derive(Clone, Copy, PartialEq, Eq, Debug)]
+#[derive(Clone, Copy, PartialEq, Eq, Debug, Error)]
 pub enum TextError {
     /// It would have more than `MAX_CHARS` characters.
+    #[error("text is full")]
     TextFull,
     /// Memory ran out.
+    #[error("out of memory")]
     NoMemory,
 }
 

@@ -6,15 +6,19 @@ ghost use Rattle.kak_words.specs.declared.parts.WordError.TheVariants.{NoMemory}
 use kak_ports::small::Utf8Text;
 use std::alloc::AllocError;
 use std::marker::Model;
+use thiserror::Error;
 
 /// Why words aren't read or expanded.
-#[derive(Drop, Debug)]
+#[derive(Drop, Debug, Error)]
 pub enum WordError {
     /// The quote or the `%` at this character of the text (from 0) isn't closed, and none before it.
+    #[error("unclosed at {0}")]
     Unclosed(usize),
     /// The table has no expansion of this name in the kind that is asked for.
+    #[error("unknown expansion: {0}")]
     UnknownExpansion(Utf8Text),
     /// Memory ran out.
+    #[error("out of memory")]
     NoMemory,
 }
 

@@ -11,16 +11,19 @@ use crate::world::World;
 use kak_text::Chars;
 use line_buffer::Lines;
 use std::alloc::{AllocError, Global};
+use thiserror::Error;
 
 /// The most buffers that there can be at once.
 pub const MAX_BUFFERS: usize = 1024;
 
 /// Why a buffer can't be opened.
-#[derive(Drop, Debug)]
+#[derive(Drop, Debug, Error)]
 pub enum WorldError {
     /// There are as many buffers as there can be.
+    #[error("too many buffers")]
     TooManyBuffers,
     /// Memory ran out.
+    #[error("out of memory")]
     NoMemory,
 }
 

@@ -11,14 +11,17 @@ ghost use Rattle.key_names.specs.declared.reading.KeyError.TheVariants.{NoMemory
 use crate::key::{Base, Key};
 use crate::naming::read_base;
 use std::alloc::{AllocError, Global};
+use thiserror::Error;
 
 /// Why a key text isn't read.
-#[derive(Clone, Copy, PartialEq, Eq, Debug)]
+#[derive(Clone, Copy, PartialEq, Eq, Debug, Error)]
 pub enum KeyError {
     /// The key that begins at this character of the text (from 0) has no reading, and those before
     /// it have one.
+    #[error("bad key at {0}")]
     BadKey(usize),
     /// Memory ran out.
+    #[error("out of memory")]
     NoMemory,
 }
 

@@ -14,13 +14,16 @@ use compact_chars::CharsRef;
 use kak_text::{Coord, MAX_CHARS, Text};
 use std::alloc::{AllocError, Global};
 use std::marker::Model;
+use thiserror::Error;
 
 /// Why a text was not changed.
-#[derive(Clone, Copy, PartialEq, Eq, Debug)]
+#[derive(Clone, Copy, PartialEq, Eq, Debug, Error)]
 pub enum LinesError {
     /// It would have more than `MAX_CHARS` characters.
+    #[error("text is full")]
     TextFull,
     /// Memory ran out.
+    #[error("out of memory")]
     NoMemory,
 }
 

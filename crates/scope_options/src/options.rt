@@ -22,21 +22,28 @@ use kak_ports::Words;
 use kak_ports::small::Utf8Text;
 use std::alloc::{AllocError, Global};
 use std::marker::Model;
+use thiserror::Error;
 
 /// Why an option isn't declared, set or unset.
-#[derive(Clone, Copy, PartialEq, Eq, Debug)]
+#[derive(Clone, Copy, PartialEq, Eq, Debug, Error)]
 pub enum OptionError {
     /// No option of this name is declared.
+    #[error("no such option")]
     NoOption,
     /// The option is declared with another type.
+    #[error("option exists")]
     Exists,
     /// The words are no value of the type.
+    #[error("the words are no value of the option's type")]
     BadType,
     /// The words are no value that the option takes.
+    #[error("bad value")]
     BadValue,
     /// What is set at the global scope can't be unset.
+    #[error("a global setting can't be unset")]
     NoScope,
     /// Memory ran out.
+    #[error("out of memory")]
     NoMemory,
 }
 

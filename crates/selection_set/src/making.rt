@@ -12,13 +12,16 @@ use crate::sel::{Pair, Sel};
 use smallvec::SmallVec;
 use std::alloc::{AllocError, Global};
 use text_model::MAX_SELECTIONS;
+use thiserror::Error;
 
 /// Why no list was made.
-#[derive(Clone, Copy, PartialEq, Eq, Debug)]
+#[derive(Clone, Copy, PartialEq, Eq, Debug, Error)]
 pub enum SelsError {
     /// Memory ran out.
+    #[error("out of memory")]
     NoMemory,
     /// More than `MAX_SELECTIONS` were given.
+    #[error("too many selections")]
     TooMany,
 }
 

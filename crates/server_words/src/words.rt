@@ -7,6 +7,7 @@ ghost use Rattle.server_words.specs.Words.{is_session_char, is_session_name, is_
 
 use file_words::is_file_name;
 use std::alloc::{AllocError, Global};
+use thiserror::Error;
 
 /// What the words of a server name.
 #[derive(Drop, Debug)]
@@ -18,11 +19,13 @@ pub struct ServerWords {
 }
 
 /// Why words weren't read.
-#[derive(Clone, Copy, PartialEq, Eq, Debug)]
+#[derive(Clone, Copy, PartialEq, Eq, Debug, Error)]
 pub enum WordsError {
     /// They aren't `-s` and a session's name, or these and a file's name.
+    #[error("usage: -s <session> [file]")]
     Usage,
     /// They are a server's words, and memory is wanting for what they name.
+    #[error("out of memory")]
     NoMemory,
 }
 

@@ -13,17 +13,22 @@ use json_writing::{Drawing, Refusal};
 use key_names::Key;
 use session_events::{Event, Output, Seat, StepFault};
 use std::alloc::{AllocError, Global};
+use thiserror::Error;
 
 /// Why playing stopped before its end.
-#[derive(Clone, Copy, PartialEq, Eq, Debug)]
+#[derive(Clone, Copy, PartialEq, Eq, Debug, Error)]
 pub enum Stop {
     /// The history takes no further entry; nothing was sent for the turn.
+    #[error("the history is full")]
     HistoryFull,
     /// The session is broken, since so many entries stood.
+    #[error("the session is broken since entry {0}")]
     Broken(u64),
     /// Memory ran out.
+    #[error("out of memory")]
     NoMemory,
     /// A write failed; some of the turn's bytes may have been sent.
+    #[error("a write failed")]
     WriteFault,
 }
 

@@ -5,6 +5,7 @@ ghost use Rattle.text_coding.specs.declared.form.DecodeError.TheVariants.{NoMemo
 
 use line_buffer::Lines;
 use std::alloc::AllocError;
+use thiserror::Error;
 
 /// How lines end in a file.
 #[derive(Clone, Copy, PartialEq, Eq, Debug)]
@@ -36,13 +37,16 @@ pub struct Loaded {
 }
 
 /// Why bytes can't be loaded.
-#[derive(Clone, Copy, PartialEq, Eq, Debug)]
+#[derive(Clone, Copy, PartialEq, Eq, Debug, Error)]
 pub enum DecodeError {
     /// They aren't UTF-8: the byte with this number, from 0, is the first that begins no character.
+    #[error("not UTF-8 at byte {0}")]
     NotUtf8(usize),
     /// The text would have more than `MAX_CHARS` characters.
+    #[error("text is full")]
     TextFull,
     /// Memory ran out.
+    #[error("out of memory")]
     NoMemory,
 }
 
