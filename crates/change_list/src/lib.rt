@@ -7,6 +7,3 @@ pub mod log;
 
 pub use change::{Change, inverse};
 pub use log::{Log, MAX_STAMP};
-
-#[cfg(test)]
-mod tests;

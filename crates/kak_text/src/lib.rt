@@ -15,8 +15,3 @@ pub use classing::class;
 pub use text::{Text, TextError};
 pub use text_model::{Coord, MAX_CHARS, MAX_SELECTIONS, Shift};
 pub use widths::{MAX_TABSTOP, cells};
-
-#[cfg(test)]
-mod character_tests;
-#[cfg(test)]
-mod tests;

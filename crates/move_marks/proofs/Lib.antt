@@ -6,4 +6,3 @@ pub mod MarkedLemmas
 pub mod LeftLemmas
 pub mod TurnLemmas
 pub mod PassLemmas
-pub mod TrialLemmas

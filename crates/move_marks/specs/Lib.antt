@@ -2,4 +2,3 @@ pub mod Marking
 pub mod Joining
 pub mod Laws
 pub mod Examples
-pub mod Trials

@@ -6,6 +6,3 @@ pub mod laws;
 pub mod leaving;
 
 pub use leaving::list_left;
-
-#[cfg(test)]
-mod tests;

@@ -13,7 +13,6 @@ pub mod RunLemmas
 pub mod CatchLemmas
 pub mod LawLemmas
 pub mod StepLemmas
-pub mod TrialLemmas
 pub mod OneRunLemmas
 pub mod BackLemmas
 pub mod PastLemmas

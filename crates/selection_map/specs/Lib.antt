@@ -7,5 +7,4 @@ pub mod Catching
 pub mod Behind
 pub mod Premises
 pub mod Laws
-pub mod Trials
 pub mod Examples

@@ -13,6 +13,3 @@ pub use behind::{carry_back, carry_on};
 pub use carrying::{map_one, map_sel, rebase};
 pub use catching::{catch_up, falls, rises};
 pub use lists::map_sels;
-
-#[cfg(test)]
-mod tests;

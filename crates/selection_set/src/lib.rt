@@ -10,6 +10,3 @@ pub mod sel;
 pub use list::Sels;
 pub use making::SelsError;
 pub use sel::{Pair, Sel};
-
-#[cfg(test)]
-mod tests;

@@ -10,6 +10,3 @@ pub mod telling;
 pub use laws::{descriptions_are_read_back, worked_examples};
 pub use meaning::{list_meant, pair_meant};
 pub use telling::{main_cursor, selection_desc, selections_desc, told};
-
-#[cfg(test)]
-mod tests;

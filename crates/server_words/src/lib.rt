@@ -5,6 +5,3 @@ pub mod examples;
 pub mod words;
 
 pub use words::{ServerWords, WordsError, read_words};
-
-#[cfg(test)]
-mod tests;

@@ -10,6 +10,3 @@ mod lines;
 pub use decoding::decode;
 pub use encoding::encode;
 pub use form::{Bom, DecodeError, Eol, Loaded};
-
-#[cfg(test)]
-mod tests;

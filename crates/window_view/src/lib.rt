@@ -7,6 +7,3 @@ pub mod window;
 
 pub use holding::{cell_of, offset_at};
 pub use window::Window;
-
-#[cfg(test)]
-mod tests;

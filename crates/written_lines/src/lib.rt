@@ -5,6 +5,3 @@ pub mod examples;
 pub mod written;
 
 pub use written::{Written, read_written};
-
-#[cfg(test)]
-mod tests;
