@@ -18,6 +18,3 @@ pub use pattern::{Groups, Pattern, Span};
 pub use refusing::RefusingMaker;
 pub use regular::{RegexMaker, RegexPattern};
 pub use texts::Texts;
-
-#[cfg(test)]
-mod tests;

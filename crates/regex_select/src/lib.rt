@@ -24,6 +24,3 @@ pub use finding::{add_match, next_match, search, search_main};
 pub use keeping::keep;
 pub use matching::{matches_in, split_in};
 pub use way::{Search, Way};
-
-#[cfg(test)]
-mod tests;

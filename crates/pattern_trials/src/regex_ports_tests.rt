@@ -1,9 +1,9 @@
-use crate::maker::{Made, PatternMaker};
-use crate::pattern::{Pattern, Span};
-use crate::refusing::RefusingMaker;
-use crate::regular::{RegexMaker, RegexPattern};
-use crate::texts::Texts;
+//! The matches of patterns, and patterns that are refused.
+
 use kak_ports::Words;
+use regex_ports::{
+    Made, Pattern, PatternMaker, RefusingMaker, RegexMaker, RegexPattern, Span, Texts,
+};
 use std::alloc::{AllocError, Global};
 use std::process::Abort;
 use std::test::Fail;
@@ -44,7 +44,7 @@ fn patterns_find_their_matches(rt: HostRuntime) -> Result<(), Fail> {
     ];
     for (pattern, text, wanted) in rows {
         let given = shown(alloc, &mut maker, pattern, text)?;
-        assert_eq!(rt; given.as_str(), wanted);
+        assert_eq!(rt; given.as_str(), wanted, "{pattern} in {text}");
     }
     Ok(())
 }
@@ -98,7 +98,7 @@ fn groups_take_part_or_not(rt: HostRuntime) -> Result<(), Fail> {
     ];
     for (source, text, wanted) in rows {
         let given = shown_groups(alloc, &pattern(&rt, alloc, source)?, text)?;
-        assert_eq!(rt; given.as_str(), wanted);
+        assert_eq!(rt; given.as_str(), wanted, "{source} in {text}");
     }
     Ok(())
 }
@@ -140,7 +140,7 @@ fn texts_have_a_match_or_none(rt: HostRuntime) -> Result<(), Fail> {
     for (source, text, wanted) in rows {
         let mut texts = One { text, told: false };
         let found = pattern(&rt, alloc, source)?.found_in(alloc, &mut texts)?;
-        assert_eq!(rt; found.as_slice(), [wanted].as_slice());
+        assert_eq!(rt; found.as_slice(), [wanted].as_slice(), "{source} in {text}");
     }
     Ok(())
 }

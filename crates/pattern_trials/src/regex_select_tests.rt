@@ -1,12 +1,14 @@
+//! Searches for a pattern, from selections on.
+
 ghost use Rattle.std.specs.Prelude.{IfOk};
 ghost use Rattle.std.specs.List.{AllByRecursion};
 ghost use Rattle.selection_set.specs.Listing.{IsPairInside};
 ghost use Rattle.selection_set.specs.Held.{IsHeld};
 
-use super::*;
 use kak_text::{Chars, Coord, Text};
 use line_buffer::Lines;
 use regex_ports::{Made, PatternMaker, RegexMaker, RegexPattern};
+use regex_select::{Search, Way, next_match, search};
 use selection_set::{Pair, Sel, Sels};
 use std::alloc::Global;
 use std::process::Abort;
@@ -65,13 +67,7 @@ fn sel(low: u32, high: u32, turned: bool) -> Sel {
     }
 }
 
-// The list has just these selections and this main one.
-fn assert_list<R: Abort>(rt: &R, list: &Sels, expected: &[Sel], main: usize) {
-    assert_eq!(rt; list.as_slice(), expected);
-    assert_eq!(rt; list.main(), main);
-}
-
-// A search for `ab` makes these selections of two.
+// A search for `ab` makes just these selections of two, and this main one.
 fn assert_found<R: Abort>(
     rt: &R,
     alloc: Global,
@@ -84,7 +80,8 @@ fn assert_found<R: Abort>(
     let pairs = [pair(rt, &lines, 2, 2), pair(rt, &lines, 10, 9)];
     let sels = listed(rt, alloc, &lines, pairs.as_slice(), 1)?;
     let found = search(alloc, &lines, &sels, &ab, by)?;
-    assert_list(rt, &found, expected, main);
+    assert_eq!(rt; found.as_slice(), expected, "by {by:?}");
+    assert_eq!(rt; found.main(), main, "by {by:?}");
     Ok(())
 }
 
@@ -104,42 +101,26 @@ fn searches_go_round_the_ends(rt: HostRuntime) -> Result<(), Fail> {
     assert_found(&rt, rt.alloc(), search, stretched.as_slice(), 1)
 }
 
-#[test]
-fn matches_are_found_by_their_ends(rt: HostRuntime) -> Result<(), Fail> {
-    let alloc = rt.alloc();
-    let lines = lines(alloc, "abc ab é ab\n")?;
-    let wide = pattern(&rt, alloc, "é a|b c")?;
-    assert!(rt; 9 < lines.len());
-    let from = Sel::only(lines.coord_of(9));
-    let found = next_match(alloc, &lines, from, &wide, Way::Forward)?;
-    assert_eq!(rt; found.anchor, coord(7));
-    assert_eq!(rt; found.cursor, coord(9));
-    Ok(())
-}
-
-// From one character on, a pattern is found that goes from one to another of a line.
-fn assert_next<R: Abort>(
+// The ends of what is selected by the match that is found from one character on.
+fn next_ends<R: Abort>(
     rt: &R,
     alloc: Global,
     lines: &Lines,
     pattern: &RegexPattern,
     from: usize,
     way: Way,
-    expected: (u32, u32),
-) -> Result<(), Fail> {
+) -> Result<(Coord, Coord), Fail> {
     assert!(rt; from < lines.len());
     let from = Sel::only(lines.coord_of(from));
-    let (low, high) = expected;
     let found = next_match(alloc, lines, from, pattern, way)?;
-    assert_eq!(rt; found.anchor, coord(low));
-    assert_eq!(rt; found.cursor, coord(high));
-    Ok(())
+    Ok((found.anchor, found.cursor))
 }
 
 #[test]
 fn one_match_is_found_either_way(rt: HostRuntime) -> Result<(), Fail> {
     let alloc = rt.alloc();
     let rows = [
+        ("abc ab é ab\n", "é a|b c", 9, Way::Forward, (7, 9)),
         ("abc ab é ab\n", "ab", 10, Way::Forward, (0, 1)),
         ("abc ab é ab\n", "ab", 9, Way::Forward, (0, 1)),
         ("abc ab é ab\n", "ab", 0, Way::Backward, (9, 10)),
@@ -154,7 +135,10 @@ fn one_match_is_found_either_way(rt: HostRuntime) -> Result<(), Fail> {
     for (text, source, from, way, expected) in rows {
         let lines = lines(alloc, text)?;
         let sought = pattern(&rt, alloc, source)?;
-        assert_next(&rt, alloc, &lines, &sought, from, way, expected)?;
+        let (low, high) = expected;
+        let (anchor, cursor) = next_ends(&rt, alloc, &lines, &sought, from, way)?;
+        assert_eq!(rt; anchor, coord(low), "{source} from {from} of {text}");
+        assert_eq!(rt; cursor, coord(high), "{source} from {from} of {text}");
     }
     Ok(())
 }
