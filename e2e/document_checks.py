@@ -1,5 +1,6 @@
 """The bytes that the documents show are those that the program writes."""
 import pathlib
+import re
 
 from drawings import keys_line
 from processes import run_whole
@@ -31,6 +32,9 @@ def run(program, report):
     session = TOP / "e2e/first_path/006"
     for suffix in (".in", ".out"):
         report.check(f"docs/PROTOCOL.md shows e2e/first_path/006{suffix}", True, session.with_suffix(suffix).read_text() in whole)
+    counts = [len(list((TOP / "e2e").glob(names))) for names in ("*/*.in", "clients/*.in", "*/*.after")]
+    told = re.search(r"(\d+) recorded sessions, of which (\d+) have several clients and (\d+) have", (TOP / "README.md").read_text())
+    report.check("README.md: how many sessions are recorded", counts, [int(number) for number in told.groups()])
 
 
 def shows(name, text, session, program, report):
