@@ -26,6 +26,7 @@ def protocol_pages():
 
 
 def run(program, report):
+    links(report)
     shows("README.md", (TOP / "README.md").read_text(), README_SESSION, program, report)
     first, whole, _ = protocol_pages()
     shows("docs/PROTOCOL.md", first, PROTOCOL_SESSION, program, report)
@@ -35,6 +36,18 @@ def run(program, report):
     counts = [len(list((TOP / "e2e").glob(names))) for names in ("*/*.in", "clients/*.in", "*/*.after")]
     told = re.search(r"(\d+) recorded sessions, of which (\d+) have several clients and (\d+) have", (TOP / "README.md").read_text())
     report.check("README.md: how many sessions are recorded", counts, [int(number) for number in told.groups()])
+
+
+def links(report):
+    """What a page links to, and each file of the repository that it names, is there."""
+    for page in [TOP / "README.md", *sorted((TOP / "docs").glob("*.md"))]:
+        text = page.read_text()
+        for target, _, heading in (link.partition("#") for link in re.findall(r"\]\((?!https?:)([^)]+)\)", text)):
+            there = page.parent / target if target else page
+            slugs = [re.sub(r"[^\w -]", "", line.lower()).replace(" ", "-") for line in re.findall(r"^#+ (.*)", there.read_text() if there.is_file() else "", re.MULTILINE)]
+            report.check(f"{page.name} links to {target}#{heading}", True, there.exists() and (not heading or heading in slugs))
+        for path in sorted(set(re.findall(r"\b(?:docs|e2e|examples|bench)/[\w./]*\w", text))):
+            report.check(f"{page.name} names {path}", True, (TOP / path).exists())
 
 
 def shows(name, text, session, program, report):
