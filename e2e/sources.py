@@ -7,7 +7,7 @@ TOP = pathlib.Path(__file__).resolve().parent.parent
 CRATES = TOP / "crates"
 
 FUNCTION = re.compile(r"( *)(?:pub(?:\(\w+\))? )?(?:const )?fn (\w+)")
-CLAUSE = re.compile(r" *ensures (?:(\w+) )?\{")
+CLAUSE = re.compile(r" *ensures\*? (?:(\w+) )?\{")
 ITEM = re.compile(r" *(?:pub(?:\(\w+\))? )?(?:struct|enum|trait|type|const) (\w+)|    ([A-Z]\w*)[,({]")
 DEFINITION = re.compile(r" *(?:(?:abbrev|unfoldable|pub|record|data) )*([^\W\d]\w*)\b.* : ")
 
