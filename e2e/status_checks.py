@@ -3,12 +3,12 @@ import os
 import subprocess
 import tempfile
 
-from drawings import CURSOR_ON_NEWLINE, OPENING, DEFAULT, ERROR, atom, drawing, keys_line, opening
+from drawings import CURSOR, CURSOR_ON_NEWLINE, OPENING, DEFAULT, ERROR, atom, drawing, keys_line, opening
 from processes import SECONDS, EndedEarly, Talk, run_whole, run_with_files
 
 # words that aren't `-ui json`, or these and a file's name
 WRONG_WORDS = [
-    [], [""], ["-ui"], ["json"], ["json", "-ui"], ["-ui", "terminal"], ["-ui", "JSON"], ["-ui=json"], ["-ui json"],
+    [], [""], ["-ui"], ["json"], ["json", "-ui"], ["-ui", "terminal"], ["-ui", "JSON"], ["-ui", "jsonx"], ["-ui=json"], ["-ui json"],
     ["-ui", "json", ""], ["-ui", "json", "a\nb"], ["-ui", "json", "a\x7f"], ["-ui", "json", "\u0085"], ["-ui", "json", "a" * 256],
     ["-ui", "json", "a", "b"], ["-ui", "json", "-ui", "json"], ["-ui", "terminal", "a"], ["a", "-ui", "json"], ["--help"],
     ["--version"], ["-n", "-ui", "json"], [b"-ui", b"json\xff"], [b"-ui", b"json", b"\xff"],
@@ -39,6 +39,9 @@ def ends_of_input(program, report):
     spaced = b'{ "jsonrpc": "2.0", "method": "keys", "params": ["ihi<esc>"] }'
     report.check_run("a last line without a newline", 0, OPENING + hi, play(spaced))
     report.check_run("a line that ends in a carriage return", 0, OPENING + hi, play(spaced + b"\r\n"))
+    typed = drawing(
+        [[atom("a", DEFAULT), atom("b", CURSOR), atom("\n", DEFAULT)], [atom("c\n", DEFAULT)]], "*scratch* 1:2 normal 1/1 - client0", (0, 1))
+    report.check_run("typed text, and the cursor in it", 0, OPENING + typed, play(keys_line("iab<ret>c<esc>k")))
 
 
 def quitting(program, report):
