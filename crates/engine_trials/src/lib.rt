@@ -1,11 +1,16 @@
-//! Trials of the engine, event by event, of what a client is drawn of a world, and of whole runs for one client.
+//! Trials of the engine, event by event, of what a client is drawn of a world, of whole runs for one client, and of a client's
+//! JSON lines. What they play and what is to come of it is data; what lines of input can say is played by the end-to-end checks.
 #![tactic(auto)]
 
 #[cfg(test)]
+mod client_lines;
+#[cfg(test)]
 mod draw_tests;
+#[cfg(test)]
+mod engine_scripts;
 #[cfg(test)]
 mod engine_tests;
 #[cfg(test)]
-mod line_tests;
+mod json_tests;
 #[cfg(test)]
 mod run_tests;

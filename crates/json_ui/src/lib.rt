@@ -13,6 +13,3 @@ pub use json_writing::{
     encode_refusal,
 };
 pub use request::{LineError, Request};
-
-#[cfg(test)]
-mod tests;

@@ -16,6 +16,3 @@ pub use link_playing::{play_link, play_turns};
 pub use link_serving::serve_over;
 pub use talk::Talk;
 pub use telling::tell;
-
-#[cfg(test)]
-mod tests;

@@ -2,7 +2,7 @@ use Rattle.std.proofs.Common.{◌≡◌, true, [], ◌∷◌, refl, sym, ap, ◌
 use Rattle.session_events.specs.declared.event.Event.{Event}
 use Rattle.session_events.specs.declared.event.Event.TheVariants.{Join, Key as Struck, Refresh, Leave}
 use Rattle.session_events.specs.Entries.{entry_with, is_join}
-use Rattle.link_lines.proofs.tests.FragileSeatSeat.step.Goals as goal
+use Rattle.server_trials.proofs.link_tests.FragileSeatSeat.step.Goals as goal
 
 -- who comes, comes
 join-is : (event : Event) → is_join event ≡ true → Join ≡ event

@@ -1,14 +1,16 @@
-use crate::decoding::{MAX_LINE, decode_line};
-use crate::request::{LineError, Request};
-use json_writing::{
-    Atom, Atoms, Cursor, Drawing, DrawnLine, DrawnLines, Info, Refusal, encode_drawing,
-    encode_refusal,
+//! A client's lines: what they ask for, and what it is sent.
+
+use crate::client_lines::{EMPTY, OPTIONS};
+use json_ui::{
+    Atom, Atoms, Cursor, Drawing, DrawnLine, DrawnLines, Info, LineError, MAX_LINE, Refusal,
+    Request, decode_line, encode_drawing, encode_refusal,
 };
 use kak_faces::{Face, StandardFace};
 use kak_text::Chars;
 use std::alloc::{AllocError, Global};
 use std::test::Fail;
 
+// A line of one atom.
 fn line(alloc: Global, text: &str, face: Face) -> Result<DrawnLine, AllocError> {
     let mut atoms = Atoms::new(alloc);
     let contents = Chars::from_str(alloc, text)?;
@@ -16,6 +18,7 @@ fn line(alloc: Global, text: &str, face: Face) -> Result<DrawnLine, AllocError> 
     Ok(DrawnLine { atoms })
 }
 
+// The first drawing of an empty buffer.
 fn first_drawing(alloc: Global) -> Result<Drawing, AllocError> {
     let status_face = StandardFace::StatusLine.face();
     let mut lines = DrawnLines::new(alloc);
@@ -39,27 +42,35 @@ fn first_drawing(alloc: Global) -> Result<Drawing, AllocError> {
     })
 }
 
-const FIRST: &str = "{\"jsonrpc\":\"2.0\",\"method\":\"set_ui_options\",\"params\":[{}]}\n\
-    {\"jsonrpc\":\"2.0\",\"method\":\"draw\",\"params\":[[[{\"contents\":\"\\n\",\"face\":{\"attributes\":[],\"bg\":\"cyan\",\"fg\":\"black\",\"underline\":\"default\"}}]],{\"attributes\":[],\"bg\":\"default\",\"fg\":\"default\",\"underline\":\"default\"},{\"attributes\":[],\"bg\":\"default\",\"fg\":\"blue\",\"underline\":\"default\"}]}\n\
-    {\"jsonrpc\":\"2.0\",\"method\":\"draw_status\",\"params\":[[],[{\"contents\":\"*scratch* 1:1 normal 1/1 - client0\",\"face\":{\"attributes\":[],\"bg\":\"default\",\"fg\":\"cyan\",\"underline\":\"default\"}}],{\"attributes\":[],\"bg\":\"default\",\"fg\":\"cyan\",\"underline\":\"default\"}]}\n\
-    {\"jsonrpc\":\"2.0\",\"method\":\"set_cursor\",\"params\":[\"buffer\",{\"column\":0,\"line\":0}]}\n\
-    {\"jsonrpc\":\"2.0\",\"method\":\"refresh\",\"params\":[false]}\n";
+// The bytes of the first drawing of an empty buffer.
+fn drawn_first(alloc: Global) -> Result<Vec<u8>, AllocError> {
+    let drawing = first_drawing(alloc)?;
+    let mut out = Vec::new(alloc);
+    encode_drawing(&drawing, &mut out)?;
+    Ok(out)
+}
 
 #[test]
 fn the_first_drawing_of_an_empty_buffer_has_five_lines(rt: HostRuntime) -> Result<(), Fail> {
-    let mut out = Vec::new(rt.alloc());
-    encode_drawing(&first_drawing(rt.alloc())?, &mut out)?;
-    assert!(rt; out.as_slice() == FIRST.as_bytes());
+    let drawn = drawn_first(rt.alloc())?;
+    let wanted = format!(in rt.alloc(); "{OPTIONS}{EMPTY}")?;
+    assert!(rt; drawn.as_slice() == wanted.as_bytes());
     Ok(())
+}
+
+// Bytes, and the bytes of a refusal behind them.
+fn refused_behind(alloc: Global, before: &[u8], refusal: Refusal) -> Result<Vec<u8>, AllocError> {
+    let mut out = Vec::from_slice(alloc, before)?;
+    encode_refusal(refusal, &mut out)?;
+    Ok(out)
 }
 
 #[test]
 fn a_refusal_goes_behind_what_was_written(rt: HostRuntime) -> Result<(), Fail> {
-    let mut out = Vec::from_slice(rt.alloc(), b"x\n")?;
-    encode_refusal(Refusal::Key(1), &mut out)?;
+    let refused = refused_behind(rt.alloc(), b"x\n", Refusal::Key(1))?;
     let wanted =
         "x\n{\"error\":{\"code\":-32602,\"message\":\"Key 1\"},\"id\":null,\"jsonrpc\":\"2.0\"}\n";
-    assert!(rt; out.as_slice() == wanted.as_bytes());
+    assert!(rt; refused.as_slice() == wanted.as_bytes());
     Ok(())
 }
 
@@ -71,47 +82,48 @@ fn keys_in(alloc: Global, line: &[u8]) -> Result<Option<usize>, LineError> {
     }
 }
 
+static LINES: [(&str, Result<Option<usize>, Refusal>); 15] = [
+    ("", Ok(None)),
+    (" \t\r", Ok(None)),
+    ("{\"jsonrpc\":\"2.0\",\"method\":\"keys\"}", Ok(Some(0))),
+    (
+        "{ \"jsonrpc\": \"2.0\", \"method\": \"keys\", \"params\": [\"ihi<esc>\"] }",
+        Ok(Some(4)),
+    ),
+    (
+        "{\"method\":\"keys\",\"jsonrpc\":\"2.0\",\"params\":[\"h\"],\"params\":[\"l\",\"lé\"]}",
+        Ok(Some(3)),
+    ),
+    ("{\"a\":1e400}", Err(Refusal::Parse)),
+    ("\"\\ud800\"", Err(Refusal::Parse)),
+    ("\"\t\"", Err(Refusal::Parse)),
+    ("7", Err(Refusal::Invalid)),
+    (
+        "{\"jsonrpc\":2.0,\"method\":\"keys\"}",
+        Err(Refusal::Invalid),
+    ),
+    ("{\"jsonrpc\":\"2.0\",\"method\":[]}", Err(Refusal::Invalid)),
+    (
+        "{\"jsonrpc\":\"2.0\",\"method\":\"resize\",\"params\":[2,2]}",
+        Err(Refusal::Method),
+    ),
+    (
+        "{\"jsonrpc\":\"2.0\",\"method\":\"keys\",\"params\":{}}",
+        Err(Refusal::Params),
+    ),
+    (
+        "{\"jsonrpc\":\"2.0\",\"method\":\"keys\",\"params\":[\"<x\",1]}",
+        Err(Refusal::Params),
+    ),
+    (
+        "{\"jsonrpc\":\"2.0\",\"method\":\"keys\",\"params\":[\"ia\",\"<nope>\"]}",
+        Err(Refusal::Key(1)),
+    ),
+];
+
 #[test]
 fn lines_are_read_or_refused_by_the_first_cause(rt: HostRuntime) {
-    let rows = [
-        ("", Ok(None)),
-        (" \t\r", Ok(None)),
-        ("{\"jsonrpc\":\"2.0\",\"method\":\"keys\"}", Ok(Some(0))),
-        (
-            "{ \"jsonrpc\": \"2.0\", \"method\": \"keys\", \"params\": [\"ihi<esc>\"] }",
-            Ok(Some(4)),
-        ),
-        (
-            "{\"method\":\"keys\",\"jsonrpc\":\"2.0\",\"params\":[\"h\"],\"params\":[\"l\",\"lé\"]}",
-            Ok(Some(3)),
-        ),
-        ("{\"a\":1e400}", Err(Refusal::Parse)),
-        ("\"\\ud800\"", Err(Refusal::Parse)),
-        ("\"\t\"", Err(Refusal::Parse)),
-        ("7", Err(Refusal::Invalid)),
-        (
-            "{\"jsonrpc\":2.0,\"method\":\"keys\"}",
-            Err(Refusal::Invalid),
-        ),
-        ("{\"jsonrpc\":\"2.0\",\"method\":[]}", Err(Refusal::Invalid)),
-        (
-            "{\"jsonrpc\":\"2.0\",\"method\":\"resize\",\"params\":[2,2]}",
-            Err(Refusal::Method),
-        ),
-        (
-            "{\"jsonrpc\":\"2.0\",\"method\":\"keys\",\"params\":{}}",
-            Err(Refusal::Params),
-        ),
-        (
-            "{\"jsonrpc\":\"2.0\",\"method\":\"keys\",\"params\":[\"<x\",1]}",
-            Err(Refusal::Params),
-        ),
-        (
-            "{\"jsonrpc\":\"2.0\",\"method\":\"keys\",\"params\":[\"ia\",\"<nope>\"]}",
-            Err(Refusal::Key(1)),
-        ),
-    ];
-    for (line, wanted) in rows {
+    for &(line, wanted) in &LINES {
         let read = keys_in(rt.alloc(), line.as_bytes());
         assert_eq!(rt; read, wanted.map_err(LineError::Refused), "from {line}");
     }
