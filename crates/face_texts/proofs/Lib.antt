@@ -1,0 +1,5 @@
+pub mod WordLemmas
+pub mod LetterLemmas
+pub mod ChainLemmas
+pub mod CoverLemmas
+pub mod NameLemmas

@@ -1,0 +1,7 @@
+-- The characters before are the same.
+use Rattle.std.proofs.Common.{◌≡◌, drop}
+use Rattle.std.specs.Str.{bytes_eq}
+use Rattle.face_texts.proofs.colours.is_word.Given as goal
+
+abbrev pub invariant-loop-i : goal.invariant-loop-i
+invariant-loop-i l = bytes_eq (drop l.i l.word) (drop l.i l.bytes) ≡ bytes_eq l.word l.bytes

@@ -1,0 +1,5 @@
+use Rattle.std.proofs.Common.{◌≡◌, take, string_bytes, encode_utf8_all}
+use Rattle.face_texts.proofs.reading.text_of.Given as goal
+
+abbrev pub invariant-loop-letter : goal.invariant-loop-letter
+invariant-loop-letter l = string_bytes l.text ≡ encode_utf8_all (take l.letter-index l.list)

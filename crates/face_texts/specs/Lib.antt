@@ -1,0 +1,11 @@
+pub mod Results
+pub mod Colours
+pub mod Letters
+pub mod Texts
+pub mod Errors
+pub mod Tables
+pub mod Given
+pub mod Palettes
+pub mod Covers
+pub mod Laws
+pub mod Examples
