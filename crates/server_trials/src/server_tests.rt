@@ -32,7 +32,8 @@ struct Script {
     // the file that the server's words name, if they name one
     file: Option<&'static str>,
     // what each client says, or nothing for a while where it is empty, and which hearing of it fails, if one does
-    says: [(&'static str, Option<u64>); 2],
+    first: (&'static str, Option<u64>),
+    second: (&'static str, Option<u64>),
     // which accepting fails, if one does
     accepting: Option<u64>,
     // whose first line is held back, until a line of whom was answered, and for how many turns at most
@@ -100,9 +101,8 @@ fn link_of(alloc: Global, says: (&str, Option<u64>)) -> Result<MemLink, AllocErr
 
 // The links of a script.
 fn acceptor_of(alloc: Global, script: &Script) -> Result<MemAcceptor, AllocError> {
-    let [one, other] = script.says;
-    let first = link_of(alloc, one)?;
-    let second = link_of(alloc, other)?;
+    let first = link_of(alloc, script.first)?;
+    let second = link_of(alloc, script.second)?;
     let accepting = calls(alloc, script.accepting)?;
     Ok(MemAcceptor::new(alloc, vec![in alloc; first, second]?, accepting))
 }
@@ -248,7 +248,8 @@ fn first_wrong(left: &Left, script: &Script) -> Option<&'static str> {
 
 static HELD_BACK: Script = Script {
     file: None,
-    says: [(TYPES_Y, None), (TYPES_X, None)],
+    first: (TYPES_Y, None),
+    second: (TYPES_X, None),
     accepting: None,
     held: (0, 1, 60_000),
     rows: &[
@@ -273,7 +274,8 @@ fn a_client_is_drawn_while_another_one_is_held_back(rt: HostRuntime) -> Result<(
 
 static IN_TURN: Script = Script {
     file: Some("n"),
-    says: [("", Some(1)), (TYPES_X, None)],
+    first: ("", Some(1)),
+    second: (TYPES_X, None),
     accepting: Some(3),
     held: (1, 0, 1),
     rows: &[
