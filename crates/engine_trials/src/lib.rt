@@ -1,5 +1,6 @@
-//! Trials of the engine, event by event, of what a client is drawn of a world, of whole runs for one client, and of a client's
-//! JSON lines. What they play and what is to come of it is data; what lines of input can say is played by the end-to-end checks.
+//! Trials of the engine, event by event, of what a client is drawn of a world, of whole runs for one client, of a client's
+//! JSON lines, and of lines of a replay. What they play and what is to come of it is data; what lines of input can say is
+//! played by the end-to-end checks.
 #![tactic(auto)]
 
 #[cfg(test)]
@@ -14,3 +15,5 @@ mod engine_tests;
 mod json_tests;
 #[cfg(test)]
 mod run_tests;
+#[cfg(test)]
+mod written_tests;

@@ -4,8 +4,6 @@ use Rattle.std.specs.Prelude.{if◌then◌else◌, get_or, Some}
 use Rattle.std.proofs.lemmas.Bool.Decides.{Decides-eqb}
 use Rattle.std.proofs.lemmas.List.{map-append}
 use Rattle.ui_board.specs.Told.{Kind, Silent, untold}
-use Rattle.written_lines.specs.Written.{Blank, Of, Bad, written, line_for, lines_for}
-use Rattle.written_lines.proofs.LineLemmas.{lines_for-line, line_for-own, line_for-other}
 use Rattle.session_turns.specs.Histories.{own, answers}
 use Rattle.session_turns.specs.Turns.{Line, During, Opening, later, phases, turns_of}
 use Rattle.session_turns.specs.Growth.{How, Whole, Over, Adds, IsOver}
@@ -18,7 +16,9 @@ use Rattle.session_events.proofs.LegalLemmas.{presence-append}
 use Rattle.session_lines.specs.Session.{protocol}
 use Rattle.session_replay.specs.declared.places.Place.{Place}
 use Rattle.session_replay.specs.declared.places.Place.TheVariants as place
+use Rattle.session_replay.specs.Written.{Blank, Of, Bad, written, line_for, lines_for}
 use Rattle.session_replay.specs.Clients.{GotTo, LeftAt, Stands, Held, IsClient, IsMoment, GrowsBy}
+use Rattle.session_replay.proofs.LineLemmas.{lines_for-line, line_for-own, line_for-other}
 
 -- entries of others leave a client where it is
 presence-step : (g : Gives) (k : ℕ) (t : Bool) (p : Presence) (entry : Entry) (more : List Entry) → ((q : Presence) → own (rules g) k more ≡ [] → presence_from k q more ≡ q)

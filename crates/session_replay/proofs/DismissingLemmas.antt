@@ -3,7 +3,6 @@ use Rattle.std.proofs.Common.{◌≡◌, ◌≢◌, ℕ, ◌+◌, ◌<◌, ◌�
 use Rattle.std.specs.Prelude.{get_or, Option, Some, None, is_none}
 use Rattle.ui_board.specs.Told.{Kind, Silent, Shown, json_lines, report_of}
 use Rattle.ui_board.specs.Boards.{report_at}
-use Rattle.written_lines.specs.Written.{lines_for}
 use Rattle.session_turns.specs.Growth.{Begins, How, Lost}
 use Rattle.session_turns.specs.Headline.{Lost as WasLost}
 use Rattle.session_events.specs.declared.event.Entry.{Entry}
@@ -14,6 +13,7 @@ use Rattle.session_lines.specs.declared.playing.Stop.TheVariants.{HistoryFull, B
 use Rattle.session_lines.specs.Serving.{how_of}
 use Rattle.session_replay.specs.declared.places.Place.{Place}
 use Rattle.session_replay.specs.declared.places.Place.TheVariants as place
+use Rattle.session_replay.specs.Written.{lines_for}
 use Rattle.session_replay.specs.Clients.{GotTo, LeftAt, Held, Keeps, GrowsBy}
 use Rattle.session_replay.specs.Players.{OthersAreHeld, let_off}
 use Rattle.session_replay.specs.Partings.{StandsLast, IsParting, AreParting}

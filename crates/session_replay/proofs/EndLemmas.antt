@@ -8,7 +8,6 @@ use Rattle.std.proofs.lemmas.Bool.{eq-eqb, ne_eqb}
 use Rattle.std.proofs.lemmas.List.Folds.{list_any-append}
 use Rattle.kak_ports.specs.Ports.{Inlet, Rose}
 use Rattle.ui_board.specs.Told.{Kind, Silent, json_lines}
-use Rattle.written_lines.specs.Written.{Of, Bad, written, lines_for}
 use Rattle.line_reading.specs.declared.limits.TheConstants.{MAX_INPUT}
 use Rattle.session_turns.specs.Histories.{own}
 use Rattle.session_turns.specs.Turns.{phases, turns_of}
@@ -29,6 +28,7 @@ use Rattle.session_replay.specs.declared.ends.ReplayEnd.{ReplayEnd}
 use Rattle.session_replay.specs.declared.ends.ReplayEnd.TheVariants as end
 use Rattle.session_replay.specs.declared.places.Place.{Place}
 use Rattle.session_replay.specs.declared.places.Place.TheVariants as place
+use Rattle.session_replay.specs.Written.{Of, Bad, written, lines_for}
 use Rattle.session_replay.specs.Clients.{GotTo, LeftAt, Held, Keeps, IsMoment, GrowsBy}
 use Rattle.session_replay.specs.Players.{GetsStopped, IsStopped, IsCutOff}
 use Rattle.session_replay.specs.Partings.{how_at, StandsLast, IsParting, AreParting}

@@ -6,7 +6,6 @@ use Rattle.std.proofs.lemmas.List.{length-map}
 use Rattle.std.proofs.lemmas.List.Folds.{list_any-append}
 use Rattle.kak_ports.specs.Ports.{Inlet}
 use Rattle.ui_board.specs.Told.{Kind, Silent, Shown, untold, json_lines, report_of}
-use Rattle.written_lines.specs.Written.{Bad, written, lines_for}
 use Rattle.line_reading.specs.declared.limits.TheConstants.{MAX_INPUT}
 use Rattle.session_turns.specs.Histories.{own}
 use Rattle.session_turns.specs.Growth.{How}
@@ -14,6 +13,7 @@ use Rattle.session_events.specs.declared.event.Entry.{Entry}
 use Rattle.session_events.specs.Meaning.{Gives, rules}
 use Rattle.session_replay.specs.declared.ends.ReplayEnd.{ReplayEnd}
 use Rattle.session_replay.specs.declared.ends.ReplayEnd.TheVariants.{Over, Ended, BadClient, ReadFault, Full}
+use Rattle.session_replay.specs.Written.{Bad, written, lines_for}
 use Rattle.session_replay.specs.Clients.{Held, IsMoment, GrowsBy}
 use Rattle.session_replay.specs.Partings.{ends_as, how_at, AreParting}
 use Rattle.session_replay.specs.Replays.{Replay, HasEnded, StandsAt, is_bad, has_bad, is_over, leave_in_order, Reaches, StopsBehind, IsReplayed}

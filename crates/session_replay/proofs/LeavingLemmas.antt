@@ -4,7 +4,6 @@ use Rattle.std.specs.Prelude.{nat_lt, get_or, Some}
 use Rattle.std.specs.List.{list_any}
 use Rattle.std.proofs.lemmas.Bool.{eq-eqb, ne_eqb, lt-ltb, ltb-true}
 use Rattle.ui_board.specs.Told.{Kind, Silent, Shown, json_lines}
-use Rattle.written_lines.specs.Written.{lines_for}
 use Rattle.session_turns.specs.Histories.{own, answers}
 use Rattle.session_turns.specs.Growth.{How}
 use Rattle.session_turns.proofs.HistoryLemmas.{adds-answers, adds-own_events, leave-answers, leave-own}
@@ -15,6 +14,7 @@ use Rattle.session_events.specs.Entries.{is_leave}
 use Rattle.session_events.specs.Meaning.{Gives, rules}
 use Rattle.session_replay.specs.declared.places.Place.{Place}
 use Rattle.session_replay.specs.declared.places.Place.TheVariants as place
+use Rattle.session_replay.specs.Written.{lines_for}
 use Rattle.session_replay.specs.Clients.{GotTo, LeftAt, Held, Keeps, GrowsBy, Leaves}
 use Rattle.session_replay.specs.Partings.{StandsLast, IsParting, AreParting}
 use Rattle.session_replay.specs.Replays.{leave_in_order}

@@ -1,3 +1,4 @@
+pub mod LineLemmas
 pub mod BoxLemmas
 pub mod ClientLemmas
 pub mod EndingLemmas

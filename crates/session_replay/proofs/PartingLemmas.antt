@@ -3,7 +3,6 @@ use Rattle.std.proofs.Common.{◌≡◌, ◌≢◌, ℕ, ◌+◌, ◌<◌, ◌�
 use Rattle.std.specs.Prelude.{if◌then◌else◌, get_or}
 use Rattle.std.proofs.lemmas.Bool.{cases_lt, eqb-true, eqb-false, eq-eqb, ne_eqb}
 use Rattle.ui_board.specs.Told.{Kind, Json, Silent, Shown, json_lines, report_of}
-use Rattle.written_lines.specs.Written.{Of, written, lines_for}
 use Rattle.session_turns.specs.Histories.{own}
 use Rattle.session_turns.specs.Turns.{turns_of}
 use Rattle.session_turns.specs.Growth.{How, Whole, Over, Short, Unsent, Lost}
@@ -15,6 +14,7 @@ use Rattle.session_events.proofs.LegalLemmas.{presence-append}
 use Rattle.session_lines.specs.Session.{protocol}
 use Rattle.session_replay.specs.declared.places.Place.{Place}
 use Rattle.session_replay.specs.declared.places.Place.TheVariants as place
+use Rattle.session_replay.specs.Written.{Of, written, lines_for}
 use Rattle.session_replay.specs.Clients.{GotTo, Stands, Held, Keeps, IsClient, IsMoment, GrowsBy}
 use Rattle.session_replay.specs.Replays.{StandsAt}
 use Rattle.session_replay.specs.Partings.{ends_as, how_at, StandsLast, IsParting, AreParting}

@@ -4,7 +4,6 @@ use Rattle.std.specs.Prelude.{get_or, Some, None}
 use Rattle.std.specs.declared.option.Option.{Option}
 use Rattle.kak_ports.specs.Ports.{Inlet, Rose}
 use Rattle.ui_board.specs.Told.{Kind, Silent, json_lines}
-use Rattle.written_lines.specs.Written.{Bad, written, lines_for}
 use Rattle.line_reading.specs.declared.reader.Next.TheVariants as next
 use Rattle.line_reading.specs.Reading.{Reading, Reads}
 use Rattle.session_turns.specs.Growth.{Begins, Over}
@@ -17,6 +16,7 @@ use Rattle.session_replay.specs.declared.ends.ReplayEnd.TheVariants as end
 use Rattle.session_replay.specs.declared.places.Place.TheVariants as place
 use Rattle.session_replay.specs.declared.players.Taken.{Taken}
 use Rattle.session_replay.specs.declared.players.Taken.TheVariants as taken
+use Rattle.session_replay.specs.Written.{Bad, written, lines_for}
 use Rattle.session_replay.specs.Clients.{Stands, Held, IsClient, IsMoment}
 use Rattle.session_replay.specs.Players.{IsHeldStill, IsPlayed, IsCutOff, SomeIsAt, TakesWritten, AreSomewhere}
 use Rattle.session_replay.specs.Phases.{HasGiven, AreInOrder, HasPlayed, HasFinished, PlaysOn, AllPlayed, HasStopped}

@@ -5,10 +5,6 @@ use Rattle.std.specs.declared.result.Result.{Result}
 use Rattle.std.proofs.lemmas.List.{map-append, map-set, get_or-set_same, get_or-set_other, get_or-map, length-map}
 use Rattle.ui_board.specs.Told.{Kind, Silent, Shown, json_lines}
 use Rattle.ui_board.specs.Boards.{seat_at, shown_at, OthersStay, left_at, report_at}
-use Rattle.written_lines.specs.Written.{Of, Blank, written, lines_for}
-use Rattle.written_lines.specs.Places.{written_at}
-use Rattle.written_lines.specs.declared.written.Written as answer
-use Rattle.written_lines.specs.declared.written.Written.TheVariants as variant
 use Rattle.session_turns.specs.Histories.{own}
 use Rattle.session_turns.specs.Turns.{later, phases, turns_of}
 use Rattle.session_turns.specs.Growth.{How, Whole, Over, Lost, Fits}
@@ -26,6 +22,10 @@ use Rattle.session_replay.specs.Boxes.{kind_in, told_in}
 use Rattle.session_replay.specs.declared.places.Place.TheVariants as place
 use Rattle.session_replay.specs.declared.players.Client.{Client}
 use Rattle.session_replay.specs.declared.players.Taken.TheVariants as taken
+use Rattle.session_replay.specs.declared.written.Written as answer
+use Rattle.session_replay.specs.declared.written.Written.TheVariants as variant
+use Rattle.session_replay.specs.Written.{Of, Blank, written, lines_for}
+use Rattle.session_replay.specs.WrittenPlaces.{written_at}
 use Rattle.session_replay.specs.Clients.{GotTo, LeftAt, Stands, Held, Keeps, IsClient, IsMoment, GrowsBy}
 use Rattle.session_replay.specs.Replays.{is_bad}
 use Rattle.session_replay.specs.Players.{places, reports, held_of, IsHeldStill, OthersAreHeld, let_off, IsAt, IsHere, IsStopped, TakesLine, PassesLine, IsPlayed, TakesWritten, kinds_of, told_by_all}

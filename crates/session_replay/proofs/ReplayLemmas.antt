@@ -6,7 +6,6 @@ use Rattle.std.proofs.lemmas.Bool.{cases_lt, lt-ltb, ltb-true, eq-eqb, eqb-true,
 use Rattle.std.proofs.lemmas.List.{take-append-le}
 use Rattle.std.proofs.Math.Seq.{take-append_seam}
 use Rattle.ui_board.specs.Told.{Kind, Shown, json_lines}
-use Rattle.written_lines.specs.Written.{lines_for}
 use Rattle.session_turns.specs.Histories.{own}
 use Rattle.session_turns.proofs.HistoryLemmas.{own-append}
 use Rattle.session_events.specs.declared.event.Event.{Event}
@@ -14,6 +13,7 @@ use Rattle.session_events.specs.declared.event.Event.TheVariants.{Leave}
 use Rattle.session_events.specs.declared.event.Entry.{Entry}
 use Rattle.session_events.specs.Entries.{is_leave}
 use Rattle.session_events.specs.Meaning.{Gives, rules}
+use Rattle.session_replay.specs.Written.{lines_for}
 use Rattle.session_replay.specs.Clients.{Stands, Held, IsMoment, GrowsBy}
 use Rattle.session_replay.specs.Replays.{Replay, has_bad, is_over, leave_in_order, before_leavings, Reaches}
 use Rattle.session_replay.specs.Phases.{are_below}

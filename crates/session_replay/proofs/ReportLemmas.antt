@@ -3,13 +3,13 @@ use Rattle.std.proofs.Common.{◌≡◌, ℕ, zero, suc, ◌<◌, ◌⊎◌, inl
 use Rattle.std.specs.Prelude.{get_or}
 use Rattle.std.specs.List.{flat_map}
 use Rattle.ui_board.specs.Told.{Kind, Silent, Shown, untold, json_lines, report_of}
-use Rattle.written_lines.specs.Written.{lines_for}
 use Rattle.session_turns.specs.Growth.{How}
 use Rattle.session_turns.specs.Headline.{Left, Closed}
 use Rattle.session_events.specs.declared.event.Entry.{Entry}
 use Rattle.session_events.specs.Meaning.{Gives}
 use Rattle.session_replay.specs.declared.places.Place.{Place}
 use Rattle.session_replay.specs.declared.places.Place.TheVariants as place
+use Rattle.session_replay.specs.Written.{lines_for}
 use Rattle.session_replay.specs.Clients.{Held}
 use Rattle.session_replay.specs.Replays.{StandsAt}
 use Rattle.session_replay.specs.Partings.{ends_as, how_at, AreParting}

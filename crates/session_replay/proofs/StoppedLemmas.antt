@@ -7,7 +7,6 @@ use Rattle.std.proofs.lemmas.Bool.{eqb-true, eqb-false, eq-eqb, ne_eqb}
 use Rattle.std.proofs.lemmas.List.{length-map}
 use Rattle.kak_ports.specs.Ports.{Inlet}
 use Rattle.ui_board.specs.Told.{Kind, Silent, Shown, untold, json_lines}
-use Rattle.written_lines.specs.Written.{Of, written, lines_for}
 use Rattle.line_reading.specs.declared.limits.TheConstants.{MAX_INPUT}
 use Rattle.session_turns.specs.Histories.{own}
 use Rattle.session_turns.specs.Growth.{How, Short}
@@ -17,6 +16,7 @@ use Rattle.session_events.specs.Entries.{is_leave}
 use Rattle.session_events.specs.Meaning.{Gives, rules}
 use Rattle.session_lines.specs.declared.playing.Stop.{Stop}
 use Rattle.session_lines.specs.declared.playing.Stop.TheVariants.{HistoryFull, Broken, NoMemory, WriteFault}
+use Rattle.session_replay.specs.Written.{Of, written, lines_for}
 use Rattle.session_replay.specs.Clients.{Held, IsMoment, GrowsBy}
 use Rattle.session_replay.specs.Partings.{ends_as, how_at, AreParting}
 use Rattle.session_replay.specs.Replays.{EndedAs, StandsAt, has_bad, leave_in_order, before_leavings, IsReplayed}

@@ -1,7 +1,6 @@
 -- Where the clients of a replay stand behind the lines that were played.
 use Rattle.std.specs.Prelude.{◌≡◌, ◌≢◌, ℕ, ◌<◌, ◌≤◌, true, List, [], ◌∷◌, ◌++◌, length, get_or, Option, Some, None}
 use Rattle.ui_board.specs.Told.{Kind, Silent, Shown, json_lines, report_of}
-use Rattle.written_lines.specs.Written.{lines_for}
 use Rattle.session_turns.specs.Histories.{Answer, own, answers, events_of}
 use Rattle.session_turns.specs.Turns.{phases, turns_of}
 use Rattle.session_turns.specs.Growth.{How, Whole, Over, Fits, Adds}
@@ -13,6 +12,7 @@ use Rattle.session_events.specs.Meaning.{Gives, rules}
 use Rattle.session_lines.specs.Session.{protocol}
 use Rattle.session_replay.specs.declared.places.Place.{Place}
 use Rattle.session_replay.specs.declared.places.Place.TheVariants as place
+use Rattle.session_replay.specs.Written.{lines_for}
 
 -- A client got so far with its opening and these lines, as `how` says: this is its part of the history, and this it was told.
 pub record GotTo (gives : Gives) (how : How) (who : ℕ) (history : List Entry) (lines : List (List ℕ)) (told : List ℕ) : Type 0 where

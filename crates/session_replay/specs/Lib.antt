@@ -1,3 +1,5 @@
+pub mod Written
+pub mod WrittenPlaces
 pub mod Boxes
 pub mod Clients
 pub mod Players
@@ -6,3 +8,4 @@ pub mod Phases
 pub mod Replays
 pub mod WholeExample
 pub mod Examples
+pub mod WrittenExamples

@@ -1,7 +1,6 @@
 -- How the clients of a replay leave at its end, one after another.
 use Rattle.std.specs.Prelude.{◌≡◌, ◌≢◌, ℕ, ◌<◌, ◌≤◌, ◌⊎◌, true, List, [], length, get_or}
 use Rattle.ui_board.specs.Told.{Kind, Silent, Shown, json_lines}
-use Rattle.written_lines.specs.Written.{lines_for}
 use Rattle.session_turns.specs.Histories.{own}
 use Rattle.session_turns.specs.Growth.{How, Whole, Over, Short, Unsent, Lost}
 use Rattle.session_turns.specs.Headline.{End, Left, Closed, Refused, Unwritten, Lost as WasLost}
@@ -10,6 +9,7 @@ use Rattle.session_events.specs.Legal.{Away, is_here, presence_from}
 use Rattle.session_events.specs.Meaning.{Gives, rules}
 use Rattle.session_replay.specs.declared.places.Place.{Place}
 use Rattle.session_replay.specs.declared.places.Place.TheVariants as place
+use Rattle.session_replay.specs.Written.{lines_for}
 use Rattle.session_replay.specs.Clients.{GotTo, LeftAt, Held, Keeps}
 
 -- how a client ends that leaves where it got so far

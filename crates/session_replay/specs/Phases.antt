@@ -5,7 +5,6 @@ use Rattle.std.specs.List.{list_all}
 use Rattle.std.specs.Io.KnownBytes.{Consumes}
 use Rattle.kak_ports.specs.Ports.{Inlet}
 use Rattle.ui_board.specs.Told.{Kind, Silent, Shown, untold, json_lines, report_of}
-use Rattle.written_lines.specs.Written.{Bad, written, lines_for}
 use Rattle.line_reading.specs.declared.limits.TheConstants.{MAX_INPUT}
 use Rattle.line_reading.specs.Reading.{IsAll}
 use Rattle.session_turns.specs.Lines.{whole_lines, lines_of_input}
@@ -22,6 +21,7 @@ use Rattle.session_lines.specs.Stops.{IsFull}
 use Rattle.session_replay.specs.declared.ends.ReplayEnd.{ReplayEnd}
 use Rattle.session_replay.specs.declared.ends.ReplayEnd.TheVariants.{Over, Ended, BadClient, ReadFault, Full}
 use Rattle.session_replay.specs.declared.places.Place.TheVariants as place
+use Rattle.session_replay.specs.Written.{Bad, written, lines_for}
 use Rattle.session_replay.specs.Clients.{Held, IsMoment}
 use Rattle.session_replay.specs.Players.{IsHeldStill, IsCutOff}
 use Rattle.session_replay.specs.Partings.{how_at, AreParting}

@@ -3,7 +3,6 @@ use Rattle.std.specs.Prelude.{◌≡◌, ◌≢◌, ℕ, ◌<◌, ◌⊎◌, Boo
 use Rattle.std.specs.declared.result.Result.{Result}
 use Rattle.ui_board.specs.Told.{Told, Kind, Silent, Shown, json_lines}
 use Rattle.ui_board.specs.Boards.{shown_at, report_at}
-use Rattle.written_lines.specs.Written.{Of, Bad, written, lines_for}
 use Rattle.session_turns.specs.Histories.{own}
 use Rattle.session_turns.specs.Growth.{Begins, How, Over, Lost}
 use Rattle.session_events.specs.declared.event.Entry.{Entry}
@@ -16,6 +15,7 @@ use Rattle.session_replay.specs.declared.places.Place.TheVariants as place
 use Rattle.session_replay.specs.declared.players.Client.{Client}
 use Rattle.session_replay.specs.declared.players.Taken.{Taken}
 use Rattle.session_replay.specs.declared.players.Taken.TheVariants as taken
+use Rattle.session_replay.specs.Written.{Of, Bad, written, lines_for}
 use Rattle.session_replay.specs.Clients.{GotTo, LeftAt, Held, IsClient, IsMoment, GrowsBy}
 use Rattle.session_replay.specs.Replays.{is_bad}
 

@@ -6,7 +6,6 @@ use Rattle.std.specs.List.{list_all, list_any}
 use Rattle.std.specs.Io.KnownBytes.{Appends, Consumes}
 use Rattle.kak_ports.specs.Ports.{Inlet, Outlet, AppendsFront, Rose}
 use Rattle.ui_board.specs.Told.{Kind, Silent, Shown, untold, json_lines, report_of}
-use Rattle.written_lines.specs.Written.{Written, Blank, Of, Bad, written, lines_for}
 use Rattle.line_reading.specs.declared.limits.TheConstants.{MAX_INPUT, MAX_PIECE}
 use Rattle.line_reading.specs.Reading.{IsAll}
 use Rattle.session_turns.specs.Lines.{whole_lines, lines_of_input}
@@ -25,6 +24,7 @@ use Rattle.session_lines.specs.Stops.{NoneFailed}
 use Rattle.session_replay.specs.declared.ends.ReplayEnd.{ReplayEnd}
 use Rattle.session_replay.specs.declared.ends.ReplayEnd.TheVariants.{Over, Ended, BadClient, ReadFault, Full}
 use Rattle.session_replay.specs.declared.places.Place.{Place}
+use Rattle.session_replay.specs.Written.{Written, Blank, Of, Bad, written, lines_for}
 use Rattle.session_replay.specs.Clients.{Stands}
 
 -- What a replay has come to.

@@ -15,11 +15,11 @@ ghost use Rattle.session_replay.specs.Players.{places, reports, held_of, IsHeldS
 
 use crate::places::Place;
 use crate::playing::{join, let_go, open_for, play};
+use crate::written::{Written, read_written};
 use session_events::Seats;
 use session_lines::Stop;
 use std::alloc::{AllocError, Global};
 use ui_board::{Board, Ui};
-use written_lines::{Written, read_written};
 
 /// What became of a written line.
 #[derive(Clone, Copy, PartialEq, Eq, Debug)]

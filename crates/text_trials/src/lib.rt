@@ -25,5 +25,3 @@ mod server_words_tests;
 mod text_coding_tests;
 #[cfg(test)]
 mod window_view_tests;
-#[cfg(test)]
-mod written_lines_tests;

@@ -1,6 +1,6 @@
 use Rattle.std.proofs.Common.{◌≡◌, ◌<◌, ◌≤◌, ◌^◌, drop}
-use Rattle.written_lines.specs.Written.{read_number}
-use Rattle.written_lines.proofs.written.read_number.Given as goal
+use Rattle.session_replay.specs.Written.{read_number}
+use Rattle.session_replay.proofs.written.read_number.Given as goal
 
 abbrev pub invariant-loop-i : goal.invariant-loop-i
 invariant-loop-i l =

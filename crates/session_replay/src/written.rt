@@ -2,8 +2,8 @@
 
 ghost use Rattle.std.specs.Prelude.{◌≡◌, ◌<◌, ◌≤◌, length, drop, option_map, IfSome};
 ghost use Rattle.std.specs.List.{list_all};
-ghost use Rattle.written_lines.specs.Written.{is_blank, read_number, written};
-ghost use Rattle.written_lines.specs.Places.{written_at, IfOf};
+ghost use Rattle.session_replay.specs.Written.{is_blank, read_number, written};
+ghost use Rattle.session_replay.specs.WrittenPlaces.{written_at, IfOf};
 
 /// What a line of a replay is.
 #[derive(Clone, Copy, PartialEq, Eq, Debug)]

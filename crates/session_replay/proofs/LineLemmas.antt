@@ -2,7 +2,7 @@
 use Rattle.std.specs.Prelude.{if◌then◌else◌, nat_lt}
 use Rattle.std.proofs.Common.{◌≡◌, ℕ, ◌<◌, ◌==◌, Bool, true, false, List, [], ◌∷◌, ◌++◌, Option, Some, None, refl, sym, ap, ◌∙◌, arith, append_assoc, append-nil}
 use Rattle.std.proofs.lemmas.Bool.Decides.{Decides-eqb}
-use Rattle.written_lines.specs.Written.{Written, Blank, Of, Bad, is_blank, read_number, of_number, written, line_for, lines_for}
+use Rattle.session_replay.specs.Written.{Written, Blank, Of, Bad, is_blank, read_number, of_number, written, line_for, lines_for}
 
 -- a line that is blank is no client's
 pub line_for-blank : (who : ℕ) → line_for who Blank ≡ []

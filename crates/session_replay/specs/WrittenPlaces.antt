@@ -1,8 +1,8 @@
 -- What the answer of a reading says: it has the place of the client's line in place of that line.
 use Rattle.std.specs.Prelude.{ℕ, List, drop}
-use Rattle.written_lines.specs.Written.{Written, Blank, Of, Bad}
-use Rattle.written_lines.specs.declared.written.Written as answer
-use Rattle.written_lines.specs.declared.written.Written.TheVariants as variant
+use Rattle.session_replay.specs.Written.{Written, Blank, Of, Bad}
+use Rattle.session_replay.specs.declared.written.Written as answer
+use Rattle.session_replay.specs.declared.written.Written.TheVariants as variant
 
 -- what an answer says of a line: the client's line begins at the place
 abbrev pub written_at : List ℕ → answer.Written → Written

@@ -1,6 +1,6 @@
 //! Lines of a replay.
 
-use written_lines::{Written, read_written};
+use session_replay::{Written, read_written};
 
 #[test]
 fn lines_are_blank_or_of_a_client_or_bad(rt: HostRuntime) {

@@ -1,9 +1,9 @@
 -- Lines, and what they are in a replay.
 use Rattle.std.specs.Prelude.{◌≡◌, [], ◌∷◌, codes}
-use Rattle.written_lines.specs.Written.{Blank, Of, Bad, written, lines_for}
+use Rattle.session_replay.specs.Written.{Blank, Of, Bad, written, lines_for}
 
 -- the table of examples
-pub record WorkedExamples : Type 0 where
+pub record WrittenExamples : Type 0 where
   pub plain : written 2 (codes "0 {}") ≡ Of 0 (codes "{}")
   pub zeros : written 2 (codes "00 {}") ≡ Of 0 (codes "{}")
   pub four_digits : written 2 (codes "0001 {}") ≡ Of 1 (codes "{}")
