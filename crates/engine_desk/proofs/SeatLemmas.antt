@@ -17,8 +17,8 @@ use Rattle.session_events.specs.Legal.{Presence, Away, is_here, moved_by, presen
 use Rattle.session_events.specs.Meaning.{Gives, rules}
 use Rattle.session_events.specs.Seats.{Seated, IsIn, Steps, Sees}
 use Rattle.session_events.proofs.LegalLemmas.{presence-append}
-use Rattle.live_seats.specs.Missing.{is_drawing, has_news, has_missed}
-use Rattle.live_seats.proofs.MissingLemmas.{news-new, news-drawn}
+use Rattle.session_events.specs.Missing.{is_drawing, has_news, has_missed}
+use Rattle.session_events.proofs.MissingLemmas.{news-new, news-drawn}
 use Rattle.kak_engine.specs.Steps.{given_by}
 use Rattle.engine_desk.specs.Sharing.{Frame, Answers, Takes}
 use Rattle.engine_desk.specs.Sitting.{IsAtDesk, seat_of, missed_behind}

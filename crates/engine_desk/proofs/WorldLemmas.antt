@@ -9,12 +9,12 @@ use Rattle.session_events.specs.declared.event.Event.TheVariants.{Join, Key as S
 use Rattle.session_events.specs.declared.event.Answered.{Answered}
 use Rattle.session_events.specs.declared.event.Entry.{Entry}
 use Rattle.session_events.specs.Entries.{is_join, entry_with}
+use Rattle.session_events.specs.Missing.{has_news, has_missed}
 use Rattle.kak_world.specs.declared.clients.Client.{Client}
 use Rattle.kak_world.specs.declared.world.TheConstants.{MAX_CLIENTS}
 use Rattle.kak_world.specs.Flat.{Flat, opening, is_of, joined_by, left_by}
 use Rattle.kak_world.specs.Keeping.{whos_of}
 use Rattle.kak_engine.specs.Steps.{after_entry, after_event, run_from, run}
-use Rattle.live_seats.specs.Missing.{has_news, has_missed}
 use Rattle.kak_engine.specs.Honesty.{Outside}
 use Rattle.kak_engine.specs.Held.{Held, refused_at, refused_by}
 use Rattle.kak_engine.specs.Seating.{WasHonest}

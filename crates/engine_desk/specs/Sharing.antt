@@ -10,7 +10,7 @@ use Rattle.session_events.specs.declared.fault.StepFault.{StepFault}
 use Rattle.session_events.specs.declared.fault.StepFault.TheVariants.{NoMemory}
 use Rattle.session_events.specs.Entries.{entry_with, is_leave}
 use Rattle.session_events.specs.Legal.{Away, is_here, presence_from, IsLegal}
-use Rattle.live_seats.specs.Missing.{has_missed}
+use Rattle.session_events.specs.Missing.{has_missed}
 use Rattle.kak_world.specs.declared.world.TheConstants.{MAX_CLIENTS}
 use Rattle.kak_engine.specs.Honesty.{Outside}
 use Rattle.kak_engine.specs.Held.{Held, refused_at, marked_by}

@@ -9,7 +9,7 @@ use Rattle.session_events.specs.declared.fault.StepFault.{StepFault}
 use Rattle.session_events.specs.declared.fault.StepFault.TheVariants.{Broken, NoMemory}
 use Rattle.session_events.specs.Entries.{is_leave}
 use Rattle.session_events.specs.Seats.{Seated}
-use Rattle.live_seats.specs.Missing.{is_drawing, has_missed}
+use Rattle.session_events.specs.Missing.{is_drawing, has_missed}
 use Rattle.engine_desk.specs.Sharing.{Frame}
 
 -- A seat: the desk, the client's pass, and the mark of the session where the client was told it.

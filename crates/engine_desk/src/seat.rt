@@ -7,10 +7,9 @@ ghost use Rattle.engine_desk.specs.Sitting.{new_seat, told_behind, missed_behind
 
 use crate::shared::SharedEngine;
 use kak_files::Files;
-use live_seats::{LiveSeat, Missed, is_drawing};
 use regex_ports::PatternMaker;
 use session_desk::{Desk, Pass};
-use session_events::{Event, Output, Seat, StepFault, is_leave};
+use session_events::{Event, LiveSeat, Missed, Output, Seat, StepFault, is_drawing, is_leave};
 use std::alloc::Global;
 use std::marker::Model;
 use std::sync::Wait;

@@ -20,8 +20,8 @@ use Rattle.session_events.specs.Legal.{Presence, Away, is_here, moved_by, presen
 use Rattle.session_events.specs.Meaning.{Gives, rules}
 use Rattle.session_events.specs.Seats.{Seated, Sees}
 use Rattle.session_events.proofs.LegalLemmas.{presence-append}
-use Rattle.live_seats.specs.Missing.{is_drawing, has_news, has_missed}
-use Rattle.live_seats.proofs.MissingLemmas.{news-new, news-other}
+use Rattle.session_events.specs.Missing.{is_drawing, has_news, has_missed}
+use Rattle.session_events.proofs.MissingLemmas.{news-new, news-other}
 use Rattle.session_lines.specs.declared.playing.Stop.{Stop}
 use Rattle.session_lines.specs.declared.playing.Stop.TheVariants as stop
 use Rattle.session_lines.specs.Session.{protocol, keys_played, played_by}

@@ -9,7 +9,7 @@ use Rattle.session_turns.specs.Growth.{How, Whole, Lost}
 use Rattle.session_turns.proofs.TurnLemmas.{whole-none}
 use Rattle.session_events.specs.declared.event.Event.TheVariants.{Refresh}
 use Rattle.session_events.specs.Seats.{Seated, IsSameSeat, Sees}
-use Rattle.live_seats.specs.Missing.{has_missed}
+use Rattle.session_events.specs.Missing.{has_missed}
 use Rattle.session_lines.specs.declared.playing.Stop.{Stop}
 use Rattle.session_lines.specs.declared.playing.Stop.TheVariants as stop
 use Rattle.session_lines.specs.declared.playing.Reply.{Reply}

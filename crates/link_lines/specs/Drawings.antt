@@ -3,7 +3,7 @@ use Rattle.std.specs.Prelude.{◌≡◌, ℕ, Bool, true, false, not, ◌&&◌, 
 use Rattle.session_events.specs.declared.event.Event.{Event}
 use Rattle.session_events.specs.declared.event.Event.TheVariants.{Refresh}
 use Rattle.session_events.specs.declared.event.Entry.{Entry}
-use Rattle.live_seats.specs.Missing.{has_missed}
+use Rattle.session_events.specs.Missing.{has_missed}
 
 -- an event is a drawing for which the client didn't ask
 abbrev pub is_unasked : Event → Bool

@@ -7,7 +7,7 @@ use Rattle.session_turns.specs.Turns.{Phase, During, Idle}
 use Rattle.session_turns.specs.Growth.{How, Whole}
 use Rattle.session_events.specs.Seats.{Seated, IsSameSeat, Sees}
 use Rattle.session_events.specs.Meaning.{Gives}
-use Rattle.live_seats.specs.Missing.{has_missed}
+use Rattle.session_events.specs.Missing.{has_missed}
 use Rattle.client_links.specs.Wires.{Wire}
 use Rattle.line_reading.specs.Hearing.{inlet_of}
 use Rattle.session_lines.specs.declared.playing.Stop.{Stop}

@@ -19,7 +19,7 @@ use client_links::Link;
 use key_names::Key;
 use line_gates::Gate;
 use line_reading::Came;
-use live_seats::LiveSeat;
+use session_events::LiveSeat;
 use session_lines::{InputEnd, Stop};
 use std::sync::Wait;
 

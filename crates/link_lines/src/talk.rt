@@ -18,7 +18,7 @@ use client_links::Link;
 use key_names::Key;
 use line_gates::Gate;
 use line_reading::{Came, LineReader};
-use live_seats::{LiveSeat, Missed};
+use session_events::{LiveSeat, Missed};
 use session_lines::{Stop, answer_idle, answer_line, answer_opening};
 use std::alloc::{AllocError, Global};
 use std::marker::Model;

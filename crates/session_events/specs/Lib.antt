@@ -2,3 +2,5 @@ pub mod Entries
 pub mod Legal
 pub mod Meaning
 pub mod Seats
+pub mod Missing
+pub mod Examples

@@ -2,7 +2,7 @@ use Rattle.std.proofs.Common.{◌≡◌, ℕ, List, length, ap, ◌∙◌, subst
 use Rattle.std.specs.Prelude.{◌==◌, ◌&&◌}
 use Rattle.std.specs.List.{list_any}
 use Rattle.session_events.specs.declared.event.Entry.{Entry}
-use Rattle.live_seats.specs.Missing.{has_news}
+use Rattle.session_events.specs.Missing.{has_news}
 use Rattle.engine_desk.specs.Sharing.{Shared, Shows, frame_of}
 use Rattle.engine_desk.proofs.WorldLemmas.{glimpse-is}
 use Rattle.engine_desk.proofs.shared.SharedEnginePlayed.glimpse.Goals as goal

@@ -1,9 +1,9 @@
 //! What stands behind a client's last drawing.
 
 ghost use Rattle.std.specs.Prelude.{◌≡◌};
-ghost use Rattle.live_seats.specs.Missing.{is_drawing, has_news};
+ghost use Rattle.session_events.specs.Missing.{is_drawing, has_news};
 
-use session_events::{Entry, Event};
+use crate::event::{Entry, Event};
 
 /// Whether an event is a drawing, asked for or not.
 pub fn is_drawing(event: Event) -> bool

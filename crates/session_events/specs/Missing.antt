@@ -6,8 +6,8 @@ use Rattle.session_events.specs.declared.event.Event.TheVariants.{Refresh}
 use Rattle.session_events.specs.declared.event.Entry.{Entry}
 use Rattle.session_events.specs.Legal.{Away, is_here, presence_from}
 use Rattle.session_events.specs.Seats.{Seated}
-use Rattle.live_seats.specs.declared.live.Missed.{Missed}
-use Rattle.live_seats.specs.declared.live.Missed.TheVariants.{Nothing, Something, Broken}
+use Rattle.session_events.specs.declared.live.Missed.{Missed}
+use Rattle.session_events.specs.declared.live.Missed.TheVariants.{Nothing, Something, Broken}
 
 -- an event is a drawing, whether or not it was asked for
 abbrev pub is_drawing : Event → Bool

@@ -1,6 +1,6 @@
 use Rattle.std.specs.Prelude.{◌≡◌, length}
-use Rattle.live_seats.specs.Missing.{has_news}
-use Rattle.live_seats.proofs.news.has_news.Given as goal
+use Rattle.session_events.specs.Missing.{has_news}
+use Rattle.session_events.proofs.news.has_news.Given as goal
 
 -- what was looked at so far changes nothing
 abbrev pub invariant-loop-entry : goal.invariant-loop-entry

@@ -2,9 +2,9 @@
 
 ghost use Rattle.std.specs.Prelude.{◌≡◌, IfSome, Some};
 ghost use Rattle.session_events.specs.Seats.{IsIn, IsSameSeat, IsLegalSeat, Sees};
-ghost use Rattle.live_seats.specs.Missing.{Tells};
+ghost use Rattle.session_events.specs.Missing.{Tells};
 
-use session_events::Seat;
+use crate::seat::Seat;
 
 /// What a look at the session tells its client.
 #[derive(Clone, Copy, PartialEq, Eq, Debug)]

@@ -1,8 +1,8 @@
 use Rattle.std.proofs.Common.{sym, ap, ◌∙◌}
 use Rattle.std.proofs.lemmas.Bool.{eq-eqb, ne_eqb}
-use Rattle.live_seats.specs.Missing.{has_news}
-use Rattle.live_seats.proofs.MissingLemmas.{news-new, news-drawn, news-other}
-use Rattle.live_seats.proofs.news.has_news.Goals as goal
+use Rattle.session_events.specs.Missing.{has_news}
+use Rattle.session_events.proofs.MissingLemmas.{news-new, news-drawn, news-other}
+use Rattle.session_events.proofs.news.has_news.Goals as goal
 
 pub returns-then-not-is_drawing : goal.returns-then-not-is_drawing
 returns-then-not-is_drawing c =

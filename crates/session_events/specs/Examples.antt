@@ -4,7 +4,7 @@ use Rattle.key_names.specs.declared.key.Key.{Key}
 use Rattle.session_events.specs.declared.event.Event.TheVariants.{Join, Key as Struck, Refresh, Leave}
 use Rattle.session_events.specs.declared.event.Entry.{Entry}
 use Rattle.session_events.specs.Entries.{entry_of}
-use Rattle.live_seats.specs.Missing.{behind_drawing, has_missed}
+use Rattle.session_events.specs.Missing.{behind_drawing, has_missed}
 
 abbrev pub both_came : List Entry
 both_came = entry_of 1 Join ∷ entry_of 0 Join ∷ []

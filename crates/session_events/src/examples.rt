@@ -1,6 +1,6 @@
 //! Worked examples of the definitions.
 
-ghost use Rattle.live_seats.specs.Examples.{Examples};
+ghost use Rattle.session_events.specs.Examples.{Examples};
 
 /// The worked examples hold.
 pub fn worked_examples()
