@@ -5,7 +5,7 @@ use Rattle.std.specs.declared.result.Result.{Result}
 use Rattle.kak_ports.specs.Ports.{Inlet, Outlet, Rose}
 use Rattle.kak_files.specs.Files.{Shelf}
 use Rattle.key_names.specs.declared.key.Key.{Key}
-use Rattle.file_words.specs.Files.{is_file_name, edit_keys}
+use Rattle.program_words.specs.Files.{is_file_name, edit_keys}
 use Rattle.session_events.specs.declared.event.Entry.{Entry}
 use Rattle.session_events.specs.Entries.{AreOf}
 use Rattle.session_events.specs.Legal.{IsLegal}

@@ -10,11 +10,11 @@ ghost use Rattle.session_lines.specs.Serving.{service};
 ghost use Rattle.session_lines.specs.Stops.{StaysWhole};
 ghost use Rattle.kak_app.specs.Runs.{Around, around, Ran, code_of, is_ui_json, is_call, opens, Answers};
 
-use file_words::{edit_keys, is_file_name};
 use kak_engine::{EngineSeats, NoEngine};
 use kak_files::Files;
 use kak_ports::{Sink, Source};
 use key_names::Key;
+use program_words::{edit_keys, is_file_name};
 use regex_ports::PatternMaker;
 use session_events::{Event, Seat};
 use session_lines::{InputEnd, Stop, serve};

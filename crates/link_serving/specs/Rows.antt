@@ -2,7 +2,7 @@
 use Rattle.std.specs.Prelude.{◌≡◌, ◌⊎◌, ◌||◌, ℕ, Bool, true, List, [], ◌∷◌, ◌++◌, ⊤, Option, Some, None}
 use Rattle.std.specs.Str.{chars}
 use Rattle.key_names.specs.declared.key.Key.{Key}
-use Rattle.file_words.specs.Files.{edit_keys}
+use Rattle.program_words.specs.Files.{edit_keys}
 use Rattle.client_links.specs.Wires.{Wire, IsFresh, TellsNoMore}
 use Rattle.kak_world.specs.Flat.{Flat, opening}
 use Rattle.session_desk.specs.Tokens.{Home, PassView, IsOf, IsSamePass}

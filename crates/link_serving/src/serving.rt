@@ -12,11 +12,11 @@ ghost use Rattle.link_serving.specs.Rows.{opening_keys, seat_by};
 
 use client_links::Link;
 use engine_desk::{DeskSeat, SharedEngine};
-use file_words::edit_keys;
 use kak_files::Files;
 use key_names::Key;
 use line_gates::Gate;
 use link_lines::{Ended, serve_over};
+use program_words::edit_keys;
 use regex_ports::PatternMaker;
 use session_desk::{Desk, Pass};
 use std::alloc::{AllocError, Global};

@@ -2,7 +2,7 @@
 
 ghost use Rattle.std.specs.Prelude.{◌≡◌, [], map, string_bytes, true, false, IfNone, IfSome, Some};
 ghost use Rattle.kak_engine.specs.Honesty.{IsUntouched};
-ghost use Rattle.server_words.specs.Words.{is_call, session_of, file_of};
+ghost use Rattle.program_words.specs.ServerWords.{is_call, session_of, file_of};
 ghost use Rattle.session_server.specs.Running.{code_of, status_of, frame_at, HasNone, WasRun};
 
 use crate::serving::serve;
@@ -13,8 +13,8 @@ use jobs::Spawner;
 use kak_files::Files;
 use line_gates::Gate;
 use link_serving::LinkJob;
+use program_words::{WordsError, read_words};
 use regex_ports::PatternMaker;
-use server_words::{WordsError, read_words};
 use std::alloc::Global;
 use std::sync::Wait;
 

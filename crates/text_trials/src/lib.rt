@@ -12,6 +12,8 @@ mod key_names_tests;
 #[cfg(test)]
 mod move_marks_tests;
 #[cfg(test)]
+mod program_words_tests;
+#[cfg(test)]
 mod rows;
 #[cfg(test)]
 mod selection_map_tests;
@@ -19,8 +21,6 @@ mod selection_map_tests;
 mod selection_set_tests;
 #[cfg(test)]
 mod selection_texts_tests;
-#[cfg(test)]
-mod server_words_tests;
 #[cfg(test)]
 mod text_coding_tests;
 #[cfg(test)]

@@ -1,6 +1,0 @@
-use Rattle.std.proofs.Common.{◌≡◌, ◌++◌, map}
-use Rattle.file_words.specs.Files.{typed, doubled}
-use Rattle.file_words.proofs.file.push_name.Given as goal
-
-abbrev pub invariant-loop-c : goal.invariant-loop-c
-invariant-loop-c l = l.keys.items ≡ l.fn.keys.items ++ map typed (doubled l.yielded)

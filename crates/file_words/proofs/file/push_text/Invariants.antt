@@ -1,6 +1,0 @@
-use Rattle.std.proofs.Common.{◌≡◌, ◌++◌, map}
-use Rattle.file_words.specs.Files.{typed}
-use Rattle.file_words.proofs.file.push_text.Given as goal
-
-abbrev pub invariant-loop-c : goal.invariant-loop-c
-invariant-loop-c l = l.keys.items ≡ l.fn.keys.items ++ map typed l.yielded

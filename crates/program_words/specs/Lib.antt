@@ -1,0 +1,4 @@
+pub mod Files
+pub mod ServerWords
+pub mod FileExamples
+pub mod ServerExamples
