@@ -14,8 +14,8 @@ use Rattle.session_events.specs.Meaning.{Gives, rules}
 use Rattle.link_lines.specs.declared.ended.Ended.{Ended}
 use Rattle.kak_engine.specs.Steps.{given_by}
 use Rattle.engine_desk.specs.Sharing.{Frame, Shared, frame_of}
-use Rattle.link_serving.specs.Rows.{Row, IsReady, Serves}
-use Rattle.link_serving.proofs.RowLemmas.{row-later}
+use Rattle.session_server.specs.Rows.{Row, IsReady, Serves}
+use Rattle.session_server.proofs.RowLemmas.{row-later}
 use Rattle.session_server.specs.declared.session.Served.{Served}
 use Rattle.session_server.specs.declared.session.Served.TheVariants.{Ended as AllLeft, AcceptFault, SpawnFault, Broken, LinksFull, NoMemory}
 use Rattle.session_server.specs.Sessions.{RowsFrom, Stands, CausedBy}

@@ -7,7 +7,7 @@ use Rattle.session_events.specs.declared.event.Entry.{Entry}
 use Rattle.link_lines.specs.declared.ended.Ended.{Ended}
 use Rattle.engine_desk.specs.Counting.{joined_among, comings}
 use Rattle.engine_desk.specs.Sharing.{Frame, Shared, frame_of}
-use Rattle.link_serving.specs.Rows.{Row}
+use Rattle.session_server.specs.Rows.{Row}
 use Rattle.session_server.specs.declared.session.Served.{Served}
 use Rattle.session_server.specs.declared.session.Served.TheVariants.{Ended as AllLeft, AcceptFault, SpawnFault, Broken, LinksFull, NoMemory}
 use Rattle.session_server.specs.declared.host.TheConstants.{MAX_LINKS}

@@ -4,16 +4,16 @@ ghost use Rattle.std.specs.Arc.{arc_value};
 ghost use Rattle.std.specs.Prelude.{◌≡◌, IfOk, IfErr, OnErr, option_map, string_bytes, [], None};
 ghost use Rattle.client_links.specs.Wires.{IsFresh};
 ghost use Rattle.session_desk.specs.Tokens.{IsOf, IsSameKeeper};
-ghost use Rattle.link_serving.specs.Rows.{IsReady};
+ghost use Rattle.session_server.specs.Rows.{IsReady};
 ghost use Rattle.engine_desk.specs.Sharing.{frame_of};
 ghost use Rattle.session_server.specs.Hosting.{IsNewHost, LooksIn, Admits, IsRefused, job_view};
 
+use crate::job::LinkJob;
 use crate::session::Served;
 use client_links::Link;
 use engine_desk::SharedEngine;
 use kak_files::Files;
 use line_gates::Gate;
-use link_serving::LinkJob;
 use regex_ports::PatternMaker;
 use session_desk::{Desk, Keeper};
 use std::alloc::{AllocError, Global};

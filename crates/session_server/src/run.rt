@@ -5,6 +5,7 @@ ghost use Rattle.kak_engine.specs.Honesty.{IsUntouched};
 ghost use Rattle.program_words.specs.ServerWords.{is_call, session_of, file_of};
 ghost use Rattle.session_server.specs.Running.{code_of, status_of, frame_at, HasNone, WasRun};
 
+use crate::job::LinkJob;
 use crate::serving::serve;
 use crate::session::{Served, Session};
 use client_links::{Acceptor, Bound, Link};
@@ -12,7 +13,6 @@ use engine_desk::SharedEngine;
 use jobs::Spawner;
 use kak_files::Files;
 use line_gates::Gate;
-use link_serving::LinkJob;
 use program_words::{WordsError, read_words};
 use regex_ports::PatternMaker;
 use std::alloc::Global;

@@ -8,13 +8,13 @@ ghost use Rattle.session_server.specs.Sessions.{IfServed, lost, AcceptsFor, Spaw
 use crate::accepting::accept_all;
 use crate::closing::{take_back, take_rest};
 use crate::host::Host;
+use crate::job::LinkJob;
 use crate::session::{Served, Session};
 use client_links::{Acceptor, Link};
 use engine_desk::SharedEngine;
 use jobs::Spawner;
 use kak_files::Files;
 use line_gates::Gate;
-use link_serving::LinkJob;
 use regex_ports::PatternMaker;
 use std::alloc::Global;
 use std::sync::Wait;

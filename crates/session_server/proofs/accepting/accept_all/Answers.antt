@@ -5,7 +5,7 @@ use Rattle.session_desk.specs.Tokens.{PassView}
 use Rattle.session_events.specs.declared.event.Entry.{Entry}
 use Rattle.kak_engine.specs.Steps.{given_by}
 use Rattle.engine_desk.specs.Sharing.{Frame}
-use Rattle.link_serving.specs.declared.job.LinkJob.{LinkJob}
+use Rattle.session_server.specs.declared.job.LinkJob.{LinkJob}
 use Rattle.session_server.specs.Hosting.{JobView, job_view, Admitted}
 use Rattle.session_server.proofs.SessionLemmas.{IsUnused, never-own, left-behind, counted-one, admitted-one, file_left, as-admitted}
 use Rattle.session_server.proofs.accepting.accept_all.Goals as goal

@@ -1,4 +1,4 @@
-use Rattle.link_serving.proofs.Crossing.{crosses}
+use Rattle.session_server.proofs.Crossing.{crosses}
 use Rattle.kakd.proofs.fn.main.new.Goals as goal
 
 pub begin-requires-send-J : goal.begin-requires-send-J

@@ -1,4 +1,4 @@
-use Rattle.link_serving.proofs.Crossing.{crosses}
+use Rattle.session_server.proofs.Crossing.{crosses}
 use Rattle.server_trials.proofs.server_tests.fn.a_client_is_drawn_while_another_one_is_held_back.new.Goals as goal
 
 pub begin-requires-send-J : goal.begin-requires-send-J

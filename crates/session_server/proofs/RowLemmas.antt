@@ -21,7 +21,7 @@ use Rattle.link_lines.proofs.LaterLemmas.{over-later}
 use Rattle.link_lines.proofs.DrawingLemmas.{others-draw}
 use Rattle.kak_engine.specs.Steps.{given_by, crowded_by, is_full, after_entry, run_from}
 use Rattle.engine_desk.specs.Sharing.{Frame}
-use Rattle.link_serving.specs.Rows.{opening_keys, seat_by, was_crowded_from, was_crowded, LeavesLast, HasLeftBy, Row, Serves}
+use Rattle.session_server.specs.Rows.{opening_keys, seat_by, was_crowded_from, was_crowded, LeavesLast, HasLeftBy, Row, Serves}
 
 -- a mark that a client was told is the one that its pass has met
 ends-broken : (at : ℕ) (told mark : Option ℕ) → Met told mark → told ≡ Some at → mark ≡ Some at

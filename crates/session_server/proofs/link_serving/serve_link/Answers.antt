@@ -4,8 +4,8 @@ use Rattle.link_lines.specs.declared.ended.Ended.TheVariants.{NoMemory}
 use Rattle.link_lines.proofs.ComingLemmas.{refused-over}
 use Rattle.link_lines.proofs.DrawingLemmas.{refused-draws}
 use Rattle.kak_engine.specs.Steps.{given_by, crowded_by}
-use Rattle.link_serving.specs.Rows.{opening_keys, seat_by}
-use Rattle.link_serving.proofs.serving.serve_link.Goals as goal
+use Rattle.session_server.specs.Rows.{opening_keys, seat_by}
+use Rattle.session_server.proofs.link_serving.serve_link.Goals as goal
 
 pub returns-in_default-clause-served : goal.returns-in_default-clause-served
 returns-in_default-clause-served g c =

@@ -7,9 +7,9 @@ use Rattle.session_events.specs.Meaning.{rules}
 use Rattle.link_lines.specs.Endings.{NeverCame}
 use Rattle.kak_world.specs.Flat.{joined_by, left_by, with_own, with_view, with_list_of}
 use Rattle.kak_engine.specs.Steps.{given_by}
-use Rattle.link_serving.specs.Rows.{LeavesLast}
-use Rattle.link_serving.specs.Examples.{one_went}
-use Rattle.link_serving.proofs.examples.worked_examples.Goals as goal
+use Rattle.session_server.specs.Rows.{LeavesLast}
+use Rattle.session_server.specs.RowExamples.{one_went}
+use Rattle.session_server.proofs.examples.row_examples.Goals as goal
 
 -- whether the last of some events is a leaving
 abbrev ends_leaving : List Event → Bool

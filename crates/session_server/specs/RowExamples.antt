@@ -9,7 +9,7 @@ use Rattle.client_links.specs.Wires.{Wire}
 use Rattle.link_lines.specs.declared.ended.Ended.TheVariants.{Closed, Full, HistoryFull, Broken}
 use Rattle.link_lines.specs.Endings.{EndsFor}
 use Rattle.kak_engine.specs.Steps.{given_by, crowded_by}
-use Rattle.link_serving.specs.Rows.{opening_keys, seat_by, was_crowded, HasLeftBy}
+use Rattle.session_server.specs.Rows.{opening_keys, seat_by, was_crowded, HasLeftBy}
 
 abbrev pub both_came : List Entry
 both_came = entry_of 1 Join ∷ entry_of 0 Join ∷ entry_of 0 (Refresh true) ∷ []
@@ -26,7 +26,7 @@ all_came (suc count) = all_came count ++ entry_of count Join ∷ []
 abbrev pub place_free : List Entry
 place_free = all_came 64 ++ entry_of 0 Leave ∷ []
 
-pub record Examples : Type 0 where
+pub record RowExamples : Type 0 where
   -- a file that is named is opened by the keys of its command, and else no key is struck
   pub file : opening_keys (Some (codes "a")) ≡ bare (Char 58) ∷ bare (Char 101) ∷ bare (Char 100) ∷ bare (Char 105) ∷ bare (Char 116) ∷ bare (Char 32) ∷ bare (Char 39) ∷ bare (Char 97) ∷ bare (Char 39) ∷ bare Ret ∷ []
   pub no_file : opening_keys None ≡ []

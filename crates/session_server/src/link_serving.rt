@@ -8,7 +8,7 @@ ghost use Rattle.session_lines.specs.Serving.{service};
 ghost use Rattle.link_lines.specs.Drawings.{DrawsOnlyMissed};
 ghost use Rattle.link_lines.specs.Endings.{WasServedOver, EndsFor, HasLeftAt, NeverCame};
 ghost use Rattle.kak_engine.specs.Steps.{given_by, crowded_by};
-ghost use Rattle.link_serving.specs.Rows.{opening_keys, seat_by};
+ghost use Rattle.session_server.specs.Rows.{opening_keys, seat_by};
 
 use client_links::Link;
 use engine_desk::{DeskSeat, SharedEngine};

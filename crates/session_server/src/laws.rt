@@ -8,7 +8,7 @@ ghost use Rattle.session_events.specs.declared.event.Entry.{Entry};
 ghost use Rattle.session_events.specs.Meaning.{rules};
 ghost use Rattle.link_lines.specs.declared.ended.Ended.{Ended};
 ghost use Rattle.kak_engine.specs.Steps.{given_by};
-ghost use Rattle.link_serving.specs.Rows.{Row};
+ghost use Rattle.session_server.specs.Rows.{Row};
 
 /// The row of a link goes on to hold while others go on: by each later history, in which only others have further entries,
 /// and by each later mark.

@@ -1,9 +1,9 @@
 use Rattle.std.proofs.Common.{ℕ, List, Option, option_map, string_bytes, subst}
 use Rattle.session_desk.specs.Tokens.{Home}
 use Rattle.engine_desk.specs.Sharing.{Frame}
-use Rattle.link_serving.specs.Rows.{Serves}
-use Rattle.link_serving.proofs.RowLemmas.{row-served}
-use Rattle.link_serving.proofs.job.LinkJobJob.run.Goals as goal
+use Rattle.session_server.specs.Rows.{Serves}
+use Rattle.session_server.proofs.RowLemmas.{row-served}
+use Rattle.session_server.proofs.job.LinkJobJob.run.Goals as goal
 
 pub returns : goal.returns
 returns g c =

@@ -1,6 +1,6 @@
 //! The job of a connection.
 
-use crate::serving::serve_link;
+use crate::link_serving::serve_link;
 use client_links::Link;
 use engine_desk::SharedEngine;
 use jobs::Job;
@@ -27,7 +27,7 @@ pub struct LinkJob<L: Link, F: Files + Drop, M: PatternMaker + Drop, G: Gate> {
 impl<L: Link, F: Files + Drop, M: PatternMaker + Drop, G: Gate> Job for LinkJob<L, F, M, G> {
     ghost use Rattle.std.specs.Arc.{arc_value};
     ghost use Rattle.std.specs.Prelude.{option_map, string_bytes};
-    ghost use Rattle.link_serving.specs.Rows.{IsReady, Serves};
+    ghost use Rattle.session_server.specs.Rows.{IsReady, Serves};
 
     /// How the link was served, the pass, and what is left of the link.
     type Gives = (Ended, Pass<SharedEngine<F, M>>, L::Spent);
