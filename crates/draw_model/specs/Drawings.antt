@@ -9,10 +9,10 @@ use Rattle.kak_text.specs.Cells.{cells_of, column_behind, display_column}
 use Rattle.window_view.specs.View.{View, followed}
 use Rattle.kak_faces.specs.declared.standard.StandardFace.TheVariants as name
 use Rattle.kak_faces.specs.Standard.{standard_face}
-use Rattle.json_writing.specs.declared.drawing.DrawnLine.{DrawnLine}
-use Rattle.json_writing.specs.declared.drawing.Cursor.{Cursor}
-use Rattle.json_writing.specs.declared.drawing.Info.TheVariants.{Keep}
-use Rattle.json_writing.specs.declared.drawing.Drawing.{Drawing}
+use Rattle.drawings.specs.declared.drawing.DrawnLine.{DrawnLine}
+use Rattle.drawings.specs.declared.drawing.Cursor.{Cursor}
+use Rattle.drawings.specs.declared.drawing.Info.TheVariants.{Keep}
+use Rattle.drawings.specs.declared.drawing.Drawing.{Drawing}
 use Rattle.kak_world.specs.declared.own.Mode.{Mode}
 use Rattle.kak_world.specs.declared.own.Mode.TheVariants.{Normal, Insert, Prompt}
 use Rattle.kak_world.specs.declared.own.Status.{Status}

@@ -4,7 +4,7 @@ use Rattle.list_model.specs.Ranges.{only}
 use Rattle.edit_line.specs.Halves.{Halves, empty}
 use Rattle.kak_faces.specs.declared.colour.NamedColour.TheVariants as named
 use Rattle.kak_faces.specs.Standard.{plain_face, default_face}
-use Rattle.json_writing.specs.declared.drawing.Info.TheVariants.{Keep}
+use Rattle.drawings.specs.declared.drawing.Info.TheVariants.{Keep}
 use Rattle.kak_world.specs.declared.own.Mode.TheVariants.{Normal, Insert, Prompt}
 use Rattle.kak_world.specs.declared.own.Status.TheVariants.{Quiet, Said, Refused}
 use Rattle.kak_world.specs.declared.purpose.Toward.TheVariants.{Next, Former}

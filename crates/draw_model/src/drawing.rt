@@ -7,8 +7,8 @@ ghost use Rattle.kak_world.specs.Flat.{is_joined, text_of, sels_of, tabstop_of};
 ghost use Rattle.draw_model.specs.Drawings.{main_cursor, main_column, main_cells, prompt_column, cursor_drawn, drawing_of, after_following};
 
 use crate::status::{draw_mode, draw_status, prompt_name};
+use drawings::{Cursor, Drawing, Info};
 use edit_line::EditLine;
-use json_writing::{Cursor, Drawing, Info};
 use kak_faces::StandardFace;
 use kak_text::{Coord, MAX_TABSTOP, cells};
 use kak_world::{Mode, Purpose, World};

@@ -5,8 +5,8 @@ ghost use Rattle.list_model.specs.Ranges.{Selected};
 ghost use Rattle.line_painting.specs.Atoms.{shown_in, atoms_of};
 ghost use Rattle.draw_model.specs.Drawings.{status_shown, under_cursor, search_name, use_name, prompt_name, prompt_shown, status_line, mode_name, place_text, IsModeLine};
 
+use drawings::{Atoms, DrawnLine};
 use edit_line::EditLine;
-use json_writing::{Atoms, DrawnLine};
 use kak_faces::{Face, StandardFace};
 use kak_text::{Chars, Coord};
 use kak_world::{Mode, Purpose, Status, Toward, Use};

@@ -1,7 +1,7 @@
 //! What a client is shown of the world, and where its cursor stands.
 
 use draw_model::{draw, follow_cursor};
-use json_writing::{Drawing, DrawnLine};
+use drawings::{Drawing, DrawnLine};
 use kak_world::{Mode, World};
 use std::alloc::Global;
 use std::process::Abort;

@@ -1,7 +1,7 @@
 //! Plays the scripts at engines.
 
 use crate::engine_scripts::{Act, SCRIPTS, Script, Told};
-use json_writing::{Drawing, DrawnLine};
+use drawings::{Drawing, DrawnLine};
 use kak_engine::Engine;
 use kak_files::NoFiles;
 use key_names::read_keys;

@@ -14,7 +14,7 @@ use Rattle.serde_json.specs.Events.{items_len}
 use Rattle.serde_json.specs.Read.{read}
 use Rattle.key_names.specs.declared.key.Key as key
 use Rattle.key_names.specs.Reading.{read_text}
-use Rattle.json_writing.specs.declared.refusal.Refusal.TheVariants.{Parse, Params}
+use Rattle.drawings.specs.declared.refusal.Refusal.TheVariants.{Parse, Params}
 use Rattle.json_ui.specs.declared.request.LineError.{LineError}
 use Rattle.json_ui.specs.declared.request.LineError.TheVariants.{Refused, NoMemory}
 use Rattle.json_ui.specs.Requests.{texts_of, keys_then, keys_of_texts, keys_request, texts_request, texts_in, request_of, request_in, IsLineError}

@@ -3,7 +3,7 @@ use Rattle.std.specs.Prelude.{◌≡◌, ℕ, List, [], false, Result, Err, Some
 use Rattle.serde_json.specs.declared.value.Value.{Value}
 use Rattle.serde_json.specs.View.{items_view}
 use Rattle.key_names.specs.declared.key.Key as key
-use Rattle.json_writing.specs.declared.refusal.Refusal.TheVariants.{Parse, Key}
+use Rattle.drawings.specs.declared.refusal.Refusal.TheVariants.{Parse, Key}
 use Rattle.json_ui.specs.declared.request.LineError.{LineError}
 use Rattle.json_ui.specs.declared.request.LineError.TheVariants.{Refused, NoMemory}
 use Rattle.serde_json.specs.Data.{Data, Items}

@@ -3,7 +3,7 @@ use Rattle.std.specs.Prelude.{◌≡◌, [], ◌∷◌, Ok, Err, codes}
 use Rattle.key_names.specs.declared.key.Base.TheVariants.{Char, Esc}
 use Rattle.key_names.specs.Reading.{bare}
 use Rattle.json_ui.specs.declared.request.Request.TheVariants.{Nothing, Keys}
-use Rattle.json_writing.specs.declared.refusal.Refusal.TheVariants.{Parse, Invalid, Method, Params, Key}
+use Rattle.drawings.specs.declared.refusal.Refusal.TheVariants.{Parse, Invalid, Method, Params, Key}
 use Rattle.json_ui.specs.Requests.{read_request}
 
 -- the table of examples

@@ -9,8 +9,8 @@ use Rattle.key_names.specs.declared.key.Key as key
 use Rattle.key_names.specs.Reading.{read_text}
 use Rattle.json_ui.specs.declared.request.Request.{Request}
 use Rattle.json_ui.specs.declared.request.Request.TheVariants.{Nothing, Keys}
-use Rattle.json_writing.specs.declared.refusal.Refusal.{Refusal}
-use Rattle.json_writing.specs.declared.refusal.Refusal.TheVariants.{TooLong, Parse, Invalid, Method, Params, Key}
+use Rattle.drawings.specs.declared.refusal.Refusal.{Refusal}
+use Rattle.drawings.specs.declared.refusal.Refusal.TheVariants.{TooLong, Parse, Invalid, Method, Params, Key}
 use Rattle.json_ui.specs.declared.request.LineError.{LineError}
 use Rattle.json_ui.specs.declared.request.LineError.TheVariants.{Refused, NoMemory}
 

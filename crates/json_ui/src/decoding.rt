@@ -12,7 +12,7 @@ ghost use Rattle.json_ui.specs.Parameters.{IsParameterError, IsJsonError, HasFew
 ghost use Rattle.json_ui.specs.Requests.{is_blank, text_at, is_text, texts_of, texts_in, keys_request, keys_of_texts, texts_request, method_request, value_request, read_request, IsLineError};
 
 use crate::request::{LineError, Request};
-use json_writing::Refusal;
+use drawings::Refusal;
 use key_names::{Key, KeyError, Keys, read_keys};
 use serde_json::Value;
 use std::alloc::{AllocError, Global};

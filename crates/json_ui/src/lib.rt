@@ -7,9 +7,7 @@ mod examples;
 mod request;
 
 pub use decoding::{MAX_LINE, decode_line};
+pub use drawings::{Atom, Atoms, Cursor, Drawing, DrawnLine, DrawnLines, Info, InfoBox, Refusal};
 pub use examples::read_examples;
-pub use json_writing::{
-    Atom, Atoms, Cursor, Drawing, DrawnLine, DrawnLines, Info, InfoBox, Refusal, encode_drawing,
-    encode_refusal,
-};
+pub use json_writing::{encode_drawing, encode_refusal};
 pub use request::{LineError, Request};

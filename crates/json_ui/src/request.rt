@@ -3,7 +3,7 @@
 ghost use Rattle.std.specs.Prelude.{◌≡◌};
 ghost use Rattle.json_ui.specs.declared.request.LineError.TheVariants.{NoMemory};
 
-use json_writing::Refusal;
+use drawings::Refusal;
 use key_names::Keys;
 use std::alloc::AllocError;
 use thiserror::Error;

@@ -2,13 +2,13 @@
 use Rattle.std.proofs.Common.{◌≡◌, ℕ, List, [], ◌∷◌, ◌++◌, refl, sym, ap, ◌∙◌, append_assoc, append-nil}
 use Rattle.std.specs.Prelude.{codes, decimal}
 use Rattle.kak_faces.specs.declared.face.Face.{Face}
-use Rattle.json_writing.specs.declared.drawing.Atom.{Atom}
-use Rattle.json_writing.specs.declared.drawing.DrawnLine.{DrawnLine}
-use Rattle.json_writing.specs.declared.drawing.Cursor.{Cursor}
-use Rattle.json_writing.specs.declared.drawing.InfoBox.{InfoBox}
-use Rattle.json_writing.specs.declared.drawing.Drawing.{Drawing}
-use Rattle.json_writing.specs.declared.refusal.Refusal.{Refusal}
-use Rattle.json_writing.specs.declared.refusal.Refusal.TheVariants.{TooLong, Parse, Invalid, Method, Params, Key}
+use Rattle.drawings.specs.declared.drawing.Atom.{Atom}
+use Rattle.drawings.specs.declared.drawing.DrawnLine.{DrawnLine}
+use Rattle.drawings.specs.declared.drawing.Cursor.{Cursor}
+use Rattle.drawings.specs.declared.drawing.InfoBox.{InfoBox}
+use Rattle.drawings.specs.declared.drawing.Drawing.{Drawing}
+use Rattle.drawings.specs.declared.refusal.Refusal.{Refusal}
+use Rattle.drawings.specs.declared.refusal.Refusal.TheVariants.{TooLong, Parse, Invalid, Method, Params, Key}
 use Rattle.json_writing.specs.JsonText.{separated, string_text, plain_string, array_text, object_text, member_text}
 use Rattle.json_writing.specs.Drawings.{colour_text, attribute_texts, face_text, atom_text, line_text, lines_text, request_line, draw_lines, status_lines, cursor_lines, cursor_word, place_text, options_lines, info_lines, refresh_lines, drawing_bytes, box_lines}
 use Rattle.json_writing.specs.Refusals.{refusal_code, refusal_message, refusal_bytes}

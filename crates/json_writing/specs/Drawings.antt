@@ -6,13 +6,13 @@ use Rattle.kak_faces.specs.declared.colour.Colour.TheVariants.{Named, Rgb}
 use Rattle.kak_faces.specs.declared.colour.Attributes.{Attributes}
 use Rattle.kak_faces.specs.declared.face.Face.{Face}
 use Rattle.kak_faces.specs.Colours.{colour_name, attribute_name, all_attributes, has_attribute}
-use Rattle.json_writing.specs.declared.drawing.Atom.{Atom}
-use Rattle.json_writing.specs.declared.drawing.DrawnLine.{DrawnLine}
-use Rattle.json_writing.specs.declared.drawing.Cursor.{Cursor}
-use Rattle.json_writing.specs.declared.drawing.InfoBox.{InfoBox}
-use Rattle.json_writing.specs.declared.drawing.Info.{Info}
-use Rattle.json_writing.specs.declared.drawing.Info.TheVariants.{Keep, Hide, Show}
-use Rattle.json_writing.specs.declared.drawing.Drawing.{Drawing}
+use Rattle.drawings.specs.declared.drawing.Atom.{Atom}
+use Rattle.drawings.specs.declared.drawing.DrawnLine.{DrawnLine}
+use Rattle.drawings.specs.declared.drawing.Cursor.{Cursor}
+use Rattle.drawings.specs.declared.drawing.InfoBox.{InfoBox}
+use Rattle.drawings.specs.declared.drawing.Info.{Info}
+use Rattle.drawings.specs.declared.drawing.Info.TheVariants.{Keep, Hide, Show}
+use Rattle.drawings.specs.declared.drawing.Drawing.{Drawing}
 use Rattle.json_writing.specs.JsonText.{string_text, plain_string, array_text, member_text, object_text}
 
 -- a byte as two small hexadecimal digits

@@ -3,9 +3,9 @@ use Rattle.std.specs.Prelude.{◌≡◌, [], ◌∷◌, ◌++◌, true, false, c
 use Rattle.kak_faces.specs.declared.colour.Colour.TheVariants.{Rgb}
 use Rattle.kak_faces.specs.declared.standard.StandardFace.TheVariants as name
 use Rattle.kak_faces.specs.Standard.{no_attributes, default_face, standard_face}
-use Rattle.json_writing.specs.declared.drawing.Drawing.{Drawing}
-use Rattle.json_writing.specs.declared.drawing.Info.TheVariants.{Keep, Hide, Show}
-use Rattle.json_writing.specs.declared.refusal.Refusal.TheVariants.{TooLong, Parse, Method, Key}
+use Rattle.drawings.specs.declared.drawing.Drawing.{Drawing}
+use Rattle.drawings.specs.declared.drawing.Info.TheVariants.{Keep, Hide, Show}
+use Rattle.drawings.specs.declared.refusal.Refusal.TheVariants.{TooLong, Parse, Method, Key}
 use Rattle.json_writing.specs.JsonText.{string_text}
 use Rattle.json_writing.specs.Drawings.{colour_text, face_text, info_lines, drawing_bytes}
 use Rattle.json_writing.specs.Refusals.{refusal_bytes}

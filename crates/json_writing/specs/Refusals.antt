@@ -1,7 +1,7 @@
 -- The line that answers a refused line.
 use Rattle.std.specs.Prelude.{ℕ, List, [], ◌∷◌, ◌++◌, codes, decimal}
-use Rattle.json_writing.specs.declared.refusal.Refusal.{Refusal}
-use Rattle.json_writing.specs.declared.refusal.Refusal.TheVariants.{TooLong, Parse, Invalid, Method, Params, Key}
+use Rattle.drawings.specs.declared.refusal.Refusal.{Refusal}
+use Rattle.drawings.specs.declared.refusal.Refusal.TheVariants.{TooLong, Parse, Invalid, Method, Params, Key}
 use Rattle.json_writing.specs.JsonText.{plain_string, member_text, object_text}
 
 -- the code of a refusal

@@ -4,10 +4,10 @@ ghost use Rattle.std.specs.Prelude.{◌≡◌, ◌++◌, ◌∷◌, [], if◌the
 ghost use Rattle.json_writing.specs.Grows.{Grows};
 ghost use Rattle.json_writing.specs.Drawings.{face_text, line_text, lines_text, options_lines, draw_lines, status_lines, cursor_lines, place_text, cursor_word, info_lines, box_lines, refresh_lines, drawing_bytes};
 
-use crate::drawing::{Cursor, Drawing, DrawnLine, DrawnLines, Info, InfoBox};
 use crate::face_bytes::push_face;
 use crate::line_bytes::{push_line, push_lines};
 use crate::text_bytes::{push_byte, push_number, push_text};
+use drawings::{Cursor, Drawing, DrawnLine, DrawnLines, Info, InfoBox};
 use kak_faces::Face;
 use std::alloc::AllocError;
 

@@ -5,9 +5,9 @@ ghost use Rattle.json_writing.specs.Grows.{Grows};
 ghost use Rattle.json_writing.specs.JsonText.{separated};
 ghost use Rattle.json_writing.specs.Drawings.{face_text, atom_text, line_text, lines_text};
 
-use crate::drawing::{Atom, DrawnLine};
 use crate::face_bytes::push_face;
 use crate::text_bytes::{push_byte, push_comma, push_string, push_text};
+use drawings::{Atom, DrawnLine};
 use kak_faces::Face;
 use std::alloc::AllocError;
 

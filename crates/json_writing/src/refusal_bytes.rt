@@ -4,8 +4,8 @@ ghost use Rattle.std.specs.Prelude.{◌≡◌, ◌++◌, codes, OnOk};
 ghost use Rattle.json_writing.specs.Grows.{Grows};
 ghost use Rattle.json_writing.specs.Refusals.{refusal_code, refusal_message, refusal_bytes};
 
-use crate::refusal::Refusal;
 use crate::text_bytes::{push_number, push_text};
+use drawings::Refusal;
 use std::alloc::AllocError;
 
 // The code of a refusal.

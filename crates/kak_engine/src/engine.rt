@@ -18,7 +18,7 @@ ghost use Rattle.draw_model.specs.Drawings.{drawing_of, after_following};
 use crate::doing::{Ending, strike};
 use crate::outside::Outside;
 use draw_model::{draw, follow_cursor};
-use json_writing::Drawing;
+use drawings::Drawing;
 use kak_files::Files;
 use kak_text::Chars;
 use kak_world::{MAX_CLIENTS, Mode, Status, World};

@@ -2,7 +2,7 @@
 use Rattle.std.proofs.Common.{◌≡◌, Bool, true, false, List, [], ◌∷◌, ◌++◌, refl, sym, ap, ◌∙◌, append_assoc}
 use Rattle.std.specs.Prelude.{if◌then◌else◌}
 use Rattle.kak_faces.specs.Same.{same_face}
-use Rattle.json_writing.specs.declared.drawing.Atom.{Atom}
+use Rattle.drawings.specs.declared.drawing.Atom.{Atom}
 use Rattle.line_painting.specs.Atoms.{Shown, atom_of, longer, with_shown, with_all_shown, atoms_of}
 
 if-front : (t : Bool) (x : Atom) (a b : List Atom) → x ∷ (if t then a else b) ≡ (if t then x ∷ a else x ∷ b)

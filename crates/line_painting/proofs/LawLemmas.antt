@@ -8,7 +8,7 @@ use Rattle.kak_faces.specs.declared.colour.Colour.TheVariants.{Named, Rgb}
 use Rattle.kak_faces.specs.declared.colour.Attributes.{Attributes}
 use Rattle.kak_faces.specs.declared.face.Face.{Face}
 use Rattle.kak_faces.specs.Same.{palette_place, same_colour, same_word, same_attributes, same_face}
-use Rattle.json_writing.specs.declared.drawing.Atom.{Atom}
+use Rattle.drawings.specs.declared.drawing.Atom.{Atom}
 use Rattle.line_painting.specs.Atoms.{Shown, shown_in, atom_of, longer, with_shown, with_all_shown, atoms_of}
 use Rattle.line_painting.specs.Laws.{spelled, AreRuns}
 

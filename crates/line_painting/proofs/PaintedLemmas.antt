@@ -6,7 +6,7 @@ use Rattle.std.proofs.lemmas.List.{get_or-take, get_or-drop}
 use Rattle.list_model.specs.Ranges.{Range, Selected, cursor, IsRange}
 use Rattle.kak_text.specs.Cells.{column_behind}
 use Rattle.window_view.specs.View.{View}
-use Rattle.json_writing.specs.declared.drawing.Atom.{Atom}
+use Rattle.drawings.specs.declared.drawing.Atom.{Atom}
 use Rattle.line_painting.specs.declared.paint.Colors.{Colors}
 use Rattle.line_painting.specs.Atoms.{shown_in, with_all_shown}
 use Rattle.line_painting.specs.Cells.{right_of}

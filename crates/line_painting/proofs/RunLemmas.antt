@@ -5,7 +5,7 @@ use Rattle.kak_faces.specs.declared.colour.Colour.{Colour}
 use Rattle.kak_faces.specs.declared.colour.Colour.TheVariants.{Named, Rgb}
 use Rattle.kak_faces.specs.declared.face.Face.{Face}
 use Rattle.kak_faces.specs.Same.{palette_place, same_colour, same_word, same_face}
-use Rattle.json_writing.specs.declared.drawing.Atom.{Atom}
+use Rattle.drawings.specs.declared.drawing.Atom.{Atom}
 use Rattle.std.proofs.lemmas.List.{map-append}
 use Rattle.line_painting.specs.Atoms.{Shown, shown_in, atom_of, longer, with_all_shown}
 use Rattle.line_painting.specs.Painting.{Grown, grown_by}

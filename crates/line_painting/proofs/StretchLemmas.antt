@@ -7,7 +7,7 @@ use Rattle.std.proofs.Math.Seq.{drop-cons}
 use Rattle.kak_text.specs.Cells.{cells_of, column_behind}
 use Rattle.window_view.specs.View.{View}
 use Rattle.kak_faces.specs.declared.face.Face.{Face}
-use Rattle.json_writing.specs.declared.drawing.Atom.{Atom}
+use Rattle.drawings.specs.declared.drawing.Atom.{Atom}
 use Rattle.line_painting.specs.Atoms.{Shown, shown_in, with_all_shown}
 use Rattle.line_painting.specs.Cells.{right_of, char_drawn}
 use Rattle.line_painting.specs.Laws.{IsPlain}

@@ -6,7 +6,7 @@ use Rattle.text_model.specs.Texts.{joined}
 use Rattle.text_model.proofs.LineLemmas.{joined-append}
 use Rattle.list_model.specs.Ranges.{Selected}
 use Rattle.window_view.specs.View.{View}
-use Rattle.json_writing.specs.declared.drawing.DrawnLine.{DrawnLine}
+use Rattle.drawings.specs.declared.drawing.DrawnLine.{DrawnLine}
 use Rattle.line_painting.specs.Atoms.{atoms_of}
 use Rattle.line_painting.specs.Lines.{shown_from, drawn_from}
 

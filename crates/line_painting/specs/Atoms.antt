@@ -2,7 +2,7 @@
 use Rattle.std.specs.Prelude.{ℕ, if◌then◌else◌, List, [], ◌∷◌, ◌++◌, map}
 use Rattle.kak_faces.specs.declared.face.Face.{Face}
 use Rattle.kak_faces.specs.Same.{same_face}
-use Rattle.json_writing.specs.declared.drawing.Atom.{Atom}
+use Rattle.drawings.specs.declared.drawing.Atom.{Atom}
 
 -- a character in its face
 pub record Shown : Type 0 where

@@ -5,8 +5,8 @@ use Rattle.window_view.specs.View.{View}
 use Rattle.kak_faces.specs.declared.colour.NamedColour.{NamedColour}
 use Rattle.kak_faces.specs.declared.colour.NamedColour.TheVariants as named
 use Rattle.kak_faces.specs.Standard.{plain_face, default_face}
-use Rattle.json_writing.specs.declared.drawing.Atom.{Atom}
-use Rattle.json_writing.specs.declared.drawing.DrawnLine.{DrawnLine}
+use Rattle.drawings.specs.declared.drawing.Atom.{Atom}
+use Rattle.drawings.specs.declared.drawing.DrawnLine.{DrawnLine}
 use Rattle.line_painting.specs.Cells.{char_drawn}
 use Rattle.line_painting.specs.Lines.{drawn_lines}
 use Rattle.line_painting.specs.Laws.{seen_of}

@@ -7,7 +7,7 @@ use Rattle.kak_text.specs.Cells.{cells_of, column_behind, display_column}
 use Rattle.window_view.specs.View.{View, text_columns}
 use Rattle.window_view.specs.Holding.{HoldsCell}
 use Rattle.kak_faces.specs.Same.{same_face}
-use Rattle.json_writing.specs.declared.drawing.Atom.{Atom}
+use Rattle.drawings.specs.declared.drawing.Atom.{Atom}
 use Rattle.line_painting.specs.Atoms.{Shown, shown_in}
 use Rattle.line_painting.specs.Cells.{right_of, is_inside, cells_inside, whole_drawn}
 use Rattle.line_painting.specs.Lines.{face_at, shown_from}

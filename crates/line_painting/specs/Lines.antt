@@ -9,7 +9,7 @@ use Rattle.kak_faces.specs.declared.standard.StandardFace.{StandardFace}
 use Rattle.kak_faces.specs.declared.standard.StandardFace.TheVariants as name
 use Rattle.kak_faces.specs.Faces.{merged}
 use Rattle.kak_faces.specs.Standard.{standard_face}
-use Rattle.json_writing.specs.declared.drawing.DrawnLine.{DrawnLine}
+use Rattle.drawings.specs.declared.drawing.DrawnLine.{DrawnLine}
 use Rattle.line_painting.specs.Atoms.{Shown, shown_in, atoms_of}
 use Rattle.line_painting.specs.Cells.{char_drawn}
 

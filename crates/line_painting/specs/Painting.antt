@@ -13,7 +13,7 @@ use Rattle.kak_faces.specs.declared.standard.StandardFace.{StandardFace}
 use Rattle.kak_faces.specs.declared.standard.StandardFace.TheVariants as name
 use Rattle.kak_faces.specs.Faces.{merged}
 use Rattle.kak_faces.specs.Standard.{standard_face}
-use Rattle.json_writing.specs.declared.drawing.Atom.{Atom}
+use Rattle.drawings.specs.declared.drawing.Atom.{Atom}
 use Rattle.line_painting.specs.declared.paint.Colors.{Colors}
 use Rattle.line_painting.specs.declared.paint.Paint.{Paint}
 use Rattle.line_painting.specs.declared.parts.Parts.{Parts}

@@ -3,7 +3,7 @@
 ghost use Rattle.std.specs.Prelude.{◌≡◌, ◌∷◌, [], ◌++◌, OnOk};
 ghost use Rattle.line_painting.specs.Atoms.{shown_in, with_shown, with_all_shown};
 
-use json_writing::Atom;
+use drawings::Atom;
 use kak_faces::Face;
 use kak_text::Chars;
 use std::alloc::{AllocError, Global};

@@ -6,7 +6,7 @@ ghost use Rattle.line_painting.specs.Atoms.{shown_in, with_all_shown};
 
 use crate::atoms::push_run;
 use compact_chars::CharsRef;
-use json_writing::Atom;
+use drawings::Atom;
 use kak_faces::{Face, StandardFace};
 use kak_text::Chars;
 use std::alloc::{AllocError, Global};

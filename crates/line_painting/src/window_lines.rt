@@ -18,7 +18,7 @@ use crate::paint::{Colors, Paint};
 use crate::parts::Parts;
 use crate::stretches::{Frame, push_stretch};
 use compact_chars::CharsRef;
-use json_writing::{Atoms, DrawnLine, DrawnLines};
+use drawings::{Atoms, DrawnLine, DrawnLines};
 use kak_text::{Coord, MAX_TABSTOP};
 use line_buffer::Lines;
 use selection_set::{Sel, Sels};

@@ -8,7 +8,7 @@ use Rattle.key_names.specs.declared.key.Key.{Key}
 use Rattle.json_ui.specs.declared.request.Request.{Request}
 use Rattle.json_ui.specs.declared.request.Request.TheVariants.{Nothing, Keys}
 use Rattle.json_ui.specs.Requests.{read_request}
-use Rattle.json_writing.specs.declared.refusal.Refusal.{Refusal}
+use Rattle.drawings.specs.declared.refusal.Refusal.{Refusal}
 use Rattle.session_turns.specs.Histories.{Answer, own, events_of, is_leaving}
 use Rattle.session_turns.specs.Turns.{Phase, Opening, During, Line, Idle, plays, size, due}
 use Rattle.session_turns.specs.Growth.{Begins, How, Whole, Over, Short, Unsent, Lost, Fits}

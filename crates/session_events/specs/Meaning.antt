@@ -1,7 +1,7 @@
 -- What the entries of a session are to their clients.
 use Rattle.std.specs.Prelude.{◌≡◌, ℕ, Bool, false, if◌then◌else◌, List, [], ◌∷◌, None, Some}
 use Rattle.std.specs.declared.option.Option.{Option}
-use Rattle.json_writing.specs.declared.drawing.Drawing.{Drawing}
+use Rattle.drawings.specs.declared.drawing.Drawing.{Drawing}
 use Rattle.json_writing.specs.Drawings.{drawing_bytes}
 use Rattle.session_turns.specs.Histories.{Answer, Rules}
 use Rattle.key_names.specs.declared.key.Key.{Key}

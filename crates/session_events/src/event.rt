@@ -3,7 +3,7 @@
 ghost use Rattle.std.specs.Prelude.{◌≡◌, [], ◌∷◌, ◌++◌, OnOk, OnErr, None, false};
 ghost use Rattle.session_events.specs.Entries.{is_join, is_leave};
 
-use json_writing::Drawing;
+use drawings::Drawing;
 use kak_ports::Octets;
 use key_names::Key;
 use std::alloc::{AllocError, Global};

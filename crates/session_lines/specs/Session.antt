@@ -4,7 +4,7 @@ use Rattle.std.specs.declared.result.Result.{Result}
 use Rattle.key_names.specs.declared.key.Key.{Key}
 use Rattle.json_ui.specs.declared.request.Request.{Request}
 use Rattle.json_ui.specs.declared.request.Request.TheVariants.{Nothing, Keys}
-use Rattle.json_writing.specs.declared.refusal.Refusal.{Refusal}
+use Rattle.drawings.specs.declared.refusal.Refusal.{Refusal}
 use Rattle.json_writing.specs.Refusals.{refusal_bytes}
 use Rattle.json_ui.specs.Requests.{read_request}
 use Rattle.session_turns.specs.Turns.{Protocol}

@@ -9,7 +9,7 @@ ghost use Rattle.session_lines.specs.Session.{keys_played};
 ghost use Rattle.session_lines.specs.Serving.{telling_bytes, Takes, TakesDrawing, Answers, Leaves};
 ghost use Rattle.session_lines.specs.Stops.{IsReady, Stays, Stops, IsLoss, StaysWhole};
 
-use json_writing::{Drawing, Refusal};
+use drawings::{Drawing, Refusal};
 use key_names::Key;
 use session_events::{Event, Output, Seat, StepFault};
 use std::alloc::{AllocError, Global};

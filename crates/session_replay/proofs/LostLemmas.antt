@@ -5,7 +5,7 @@ use Rattle.std.specs.declared.result.Result.{Result}
 use Rattle.std.specs.List.{flat_map, list_any}
 use Rattle.std.proofs.lemmas.List.Folds.{list_any-append}
 use Rattle.key_names.specs.declared.key.Key.{Key}
-use Rattle.json_writing.specs.declared.refusal.Refusal.{Refusal}
+use Rattle.drawings.specs.declared.refusal.Refusal.{Refusal}
 use Rattle.json_ui.specs.declared.request.Request.{Request}
 use Rattle.json_ui.specs.declared.request.Request.TheVariants.{Nothing, Keys}
 use Rattle.json_ui.specs.Requests.{read_request}

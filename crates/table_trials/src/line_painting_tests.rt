@@ -5,7 +5,7 @@ ghost use Rattle.std.specs.List.{AllByRecursion};
 ghost use Rattle.selection_set.specs.Held.{IsHeld};
 ghost use Rattle.selection_set.specs.Listing.{IsPairInside};
 
-use json_writing::DrawnLine;
+use drawings::DrawnLine;
 use kak_faces::{Face, StandardFace, merge};
 use kak_text::{Chars, MAX_TABSTOP, Text};
 use line_buffer::Lines;

@@ -1,6 +1,7 @@
 //! Boxes and a board, as a program uses them.
 
-use json_writing::{Atoms, Cursor, Drawing, DrawnLine, DrawnLines, Info, Refusal, encode_drawing};
+use drawings::{Atoms, Cursor, Drawing, DrawnLine, DrawnLines, Info, Refusal};
+use json_writing::encode_drawing;
 use kak_faces::{Face, StandardFace};
 use std::alloc::Global;
 use std::test::Fail;

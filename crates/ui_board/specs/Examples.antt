@@ -1,6 +1,6 @@
 -- The definitions at given boxes.
 use Rattle.std.specs.Prelude.{◌≡◌, List, [], ◌∷◌, ◌++◌, true, false, Option, Some, None, codes}
-use Rattle.json_writing.specs.declared.refusal.Refusal.TheVariants.{Parse, Method}
+use Rattle.drawings.specs.declared.refusal.Refusal.TheVariants.{Parse, Method}
 use Rattle.ui_board.specs.Told.{Json, Silent, Shown, Refused, untold, telling, report_of}
 use Rattle.ui_board.specs.Boards.{seat_at, is_free, free_seat, seated, left_at, report_at}
 

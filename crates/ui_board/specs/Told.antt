@@ -1,7 +1,7 @@
 -- What a user interface was told, and what it reports of that.
 use Rattle.std.specs.Prelude.{ℕ, List, [], ◌∷◌, ◌++◌}
-use Rattle.json_writing.specs.declared.drawing.Drawing.{Drawing}
-use Rattle.json_writing.specs.declared.refusal.Refusal.{Refusal}
+use Rattle.drawings.specs.declared.drawing.Drawing.{Drawing}
+use Rattle.drawings.specs.declared.refusal.Refusal.{Refusal}
 use Rattle.json_writing.specs.Drawings.{drawing_bytes}
 use Rattle.json_writing.specs.Refusals.{refusal_bytes}
 

@@ -5,7 +5,7 @@ ghost use Rattle.ui_board.specs.Told.{Drawn, Refused, telling};
 ghost use Rattle.ui_board.specs.Boards.{seat_at, shown_at, IsTaken, free_seat, seated, left_at, is_free, OthersStay, report_at};
 
 use crate::ui::Ui;
-use json_writing::{Drawing, Refusal};
+use drawings::{Drawing, Refusal};
 use std::alloc::{AllocError, Global};
 
 /// User interfaces by the numbers of their seats, which are from 0 to 4,294,967,295.

@@ -8,7 +8,8 @@ ghost use Rattle.ui_board.specs.Notes.{told_of};
 
 use crate::notes::{Note, Notes};
 use crate::ui::Ui;
-use json_writing::{Drawing, Refusal, encode_drawing, encode_refusal};
+use drawings::{Drawing, Refusal};
+use json_writing::{encode_drawing, encode_refusal};
 use std::alloc::{AllocError, Global};
 use std::marker::Model;
 use std::snapshot::Snapshot;

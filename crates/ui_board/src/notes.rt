@@ -3,7 +3,7 @@
 ghost use Rattle.std.specs.Prelude.{◌≡◌, ◌==◌, [], ◌∷◌, ◌++◌, length, OnOk, OnErr};
 ghost use Rattle.ui_board.specs.Notes.{told_of};
 
-use json_writing::{Drawing, Refusal};
+use drawings::{Drawing, Refusal};
 use std::alloc::{AllocError, Global};
 use std::marker::Model;
 use std::snapshot::Snapshot;

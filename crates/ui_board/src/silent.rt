@@ -5,7 +5,7 @@ ghost use Rattle.ui_board.specs.Told.{Silent};
 
 use crate::notes::{Note, Notes};
 use crate::ui::Ui;
-use json_writing::{Drawing, Refusal};
+use drawings::{Drawing, Refusal};
 use std::alloc::{AllocError, Global};
 use std::marker::Model;
 use std::snapshot::Snapshot;

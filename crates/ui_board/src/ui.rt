@@ -3,7 +3,7 @@
 ghost use Rattle.std.specs.Prelude.{◌≡◌, ◌==◌, length, IfOk, OnOk, OnErr};
 ghost use Rattle.ui_board.specs.Told.{Shown, Drawn, Refused, telling, report_of};
 
-use json_writing::{Drawing, Refusal};
+use drawings::{Drawing, Refusal};
 use std::alloc::{AllocError, Global};
 
 /// A user interface, which shows one client what it is told.

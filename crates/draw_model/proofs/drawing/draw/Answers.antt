@@ -3,12 +3,12 @@ use Rattle.std.specs.Prelude.{not, length}
 use Rattle.list_model.specs.Ranges.{Selected}
 use Rattle.text_model.specs.declared.coords.Coord.{Coord}
 use Rattle.window_view.specs.Views.{view_of as window_seen}
-use Rattle.json_writing.specs.declared.drawing.DrawnLine.{DrawnLine}
+use Rattle.drawings.specs.declared.drawing.DrawnLine.{DrawnLine}
 use Rattle.kak_world.specs.Flat.{Flat, text_of, number_of, name_of, mode_of, sels_of, view_of, tabstop_of, status_of, purpose_of, prompt_of, is_drawn}
 use Rattle.kak_world.specs.declared.own.Mode.{Mode}
 use Rattle.kak_world.specs.declared.own.Own.{Own}
-use Rattle.json_writing.specs.declared.drawing.Drawing.{Drawing}
-use Rattle.json_writing.specs.declared.drawing.Info.TheVariants.{Keep}
+use Rattle.drawings.specs.declared.drawing.Drawing.{Drawing}
+use Rattle.drawings.specs.declared.drawing.Info.TheVariants.{Keep}
 use Rattle.selection_set.specs.Held.{selected}
 use Rattle.line_painting.specs.Atoms.{Shown, atoms_of}
 use Rattle.line_painting.specs.Lines.{drawn_lines}

@@ -1,5 +1,5 @@
 use Rattle.std.proofs.Common.{List, ap, ap₂, ◌∙◌, sym}
-use Rattle.json_writing.specs.declared.drawing.Atom.{Atom}
+use Rattle.drawings.specs.declared.drawing.Atom.{Atom}
 use Rattle.std.specs.Str.{chars}
 use Rattle.edit_line.specs.Halves.{Halves}
 use Rattle.line_painting.specs.Atoms.{shown_in, with_all_shown, atoms_of}

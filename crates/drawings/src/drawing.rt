@@ -22,7 +22,7 @@ pub struct Atoms {
 
 impl Model for Atoms {
     ghost use Rattle.std.specs.Prelude.{List};
-    ghost use Rattle.json_writing.specs.declared.drawing.Atom.{Atom};
+    ghost use Rattle.drawings.specs.declared.drawing.Atom.{Atom};
 
     ghost Value = { List Atom };
 
@@ -84,7 +84,7 @@ pub struct DrawnLines {
 
 impl Model for DrawnLines {
     ghost use Rattle.std.specs.Prelude.{List};
-    ghost use Rattle.json_writing.specs.declared.drawing.DrawnLine.{DrawnLine};
+    ghost use Rattle.drawings.specs.declared.drawing.DrawnLine.{DrawnLine};
 
     ghost Value = { List DrawnLine };
 
