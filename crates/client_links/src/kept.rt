@@ -4,7 +4,8 @@ ghost use Rattle.std.specs.Prelude.{◌≡◌, ◌+◌, length};
 ghost use Rattle.client_links.specs.Sizes.{total};
 
 use crate::planned::PlannedCalls;
-use kak_ports::{MemSink, Octets};
+use byte_texts::Octets;
+use kak_ports::MemSink;
 use std::collections::VecDeque;
 
 /// A link over memory, whose client sends what a script says, and which keeps what it is sent. It tells everything, and

@@ -11,7 +11,8 @@ ghost use Rattle.client_links.specs.Memory.{memory_wire, empty_among, heard_from
 use crate::kept::MemLink;
 use crate::link::{Heard, Link};
 use crate::planned::PlannedCalls;
-use kak_ports::{FailingCalls, MemSink, Octets, Put, Sink};
+use byte_texts::Octets;
+use kak_ports::{FailingCalls, MemSink, Put, Sink};
 use std::alloc::{AllocError, Global};
 use std::collections::VecDeque;
 use std::sync::Wait;

@@ -6,7 +6,7 @@ ghost use Rattle.client_links.specs.Memory.{memory_wire};
 
 use crate::kept::MemLink;
 use crate::planned::PlannedCalls;
-use kak_ports::small::Utf8Text;
+use byte_texts::Utf8Text;
 use std::alloc::Global;
 use std::collections::VecDeque;
 

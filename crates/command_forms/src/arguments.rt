@@ -6,8 +6,7 @@ ghost use Rattle.command_forms.specs.Errors.{IsDue};
 
 use crate::error::OrderError;
 use crate::order::Order;
-use kak_ports::Words;
-use kak_ports::small::Utf8Text;
+use byte_texts::{Utf8Text, Words};
 use std::alloc::{AllocError, Global};
 
 // A copy of a word.

@@ -3,7 +3,7 @@
 ghost use Rattle.std.specs.Prelude.{◌≡◌};
 ghost use Rattle.command_forms.specs.declared.error.OrderError.TheVariants.{NoMemory};
 
-use kak_ports::small::Utf8Text;
+use byte_texts::Utf8Text;
 use std::alloc::AllocError;
 use thiserror::Error;
 

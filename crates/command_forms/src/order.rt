@@ -1,8 +1,7 @@
 //! What a command orders.
 
 use crate::places::Selection;
-use kak_ports::Words;
-use kak_ports::small::Utf8Text;
+use byte_texts::{Utf8Text, Words};
 use scope_options::OptionType;
 
 /// What a command orders, with the words that it is about.

@@ -11,7 +11,7 @@ use crate::names::{CommandName, named};
 use crate::order::{Declaration, OptionName, Order, RegisterValues, Setting};
 use crate::places::{Columns, Selection};
 use crate::switches::{Given, Switch, is_given, take_switches};
-use kak_ports::Words;
+use byte_texts::Words;
 use scope_options::OptionType;
 use std::alloc::{AllocError, Global};
 

@@ -7,7 +7,7 @@ ghost use Rattle.command_forms.specs.Errors.{IsDue};
 
 use crate::error::OrderError;
 use crate::names::CommandName;
-use kak_ports::small::Utf8Text;
+use byte_texts::Utf8Text;
 use std::alloc::{AllocError, Global};
 
 /// The switches that there are.

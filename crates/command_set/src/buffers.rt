@@ -8,7 +8,7 @@ ghost use Rattle.kak_world.specs.Rows.{Gives, Answers};
 ghost use Rattle.command_set.specs.Buffers.{show_row, edit_row, unsaved_in, drop_at, drop_row, drop_if, quit_row, write_row};
 ghost use Rattle.kak_world.specs.Saving.{number_named};
 
-use kak_ports::small::Utf8Text;
+use byte_texts::Utf8Text;
 use kak_text::Chars;
 use kak_world::{Ask, CommandError, EditError, Saving, World};
 use key_rows::string_of;

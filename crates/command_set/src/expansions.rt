@@ -11,8 +11,8 @@ ghost use Rattle.kak_world.specs.Flat.{is_joined, option_of, text_of, story_of};
 ghost use Rattle.command_set.specs.Expanding.{truth, main_selection, main_place, value_strings, value_named, option_strings, register_strings, arguments, table_of};
 
 use crate::value_names::{Kind, ValueName, kind_named, value_named};
+use byte_texts::Words;
 use command_forms::{Columns, Place};
-use kak_ports::Words;
 use kak_registers::register_named;
 use kak_words::Lookup;
 use kak_world::World;

@@ -13,9 +13,9 @@ ghost use Rattle.command_set.specs.Files.{set_to, eol_word, bom_word, formatted,
 ghost use Rattle.text_coding.specs.Coding.{loaded};
 
 use crate::buffers::quit;
+use byte_texts::{Utf8Text, Words};
 use kak_files::FileRead;
-use kak_ports::small::Utf8Text;
-use kak_ports::{Put, Words};
+use kak_ports::Put;
 use kak_text::{Chars, Text};
 use kak_world::{Ask, CommandError, EditError, Saving, World, WorldError};
 use line_buffer::Lines;

@@ -6,8 +6,8 @@ ghost use Rattle.kak_world.specs.Flat.{is_joined};
 ghost use Rattle.kak_world.specs.Rows.{Answers};
 ghost use Rattle.command_set.specs.Options.{scope_named, is_declared, refusal_by, declare_row, set_option_row, unset_option_row};
 
+use byte_texts::Utf8Text;
 use command_forms::{Declaration, OptionName, Setting};
-use kak_ports::small::Utf8Text;
 use kak_world::{CommandError, EditError, World};
 use scope_options::{OptionError, Scope};
 use std::alloc::Global;

@@ -7,9 +7,8 @@ ghost use Rattle.kak_world.specs.Flat.{is_joined, with_own};
 ghost use Rattle.kak_world.specs.Rows.{Answers};
 ghost use Rattle.command_set.specs.Registers.{register_row, echo_row, failing};
 
+use byte_texts::{Utf8Text, Words};
 use command_forms::RegisterValues;
-use kak_ports::Words;
-use kak_ports::small::Utf8Text;
 use kak_registers::register_named;
 use kak_text::Chars;
 use kak_world::{CommandError, EditError, Status, World};

@@ -5,8 +5,9 @@ ghost use Rattle.std.specs.Io.KnownBytes.{Appends};
 ghost use Rattle.kak_files.specs.Files.{IsWithin, one_more};
 ghost use Rattle.disk_files.specs.Whole.{IsWhole};
 
+use byte_texts::Octets;
 use kak_files::{FileRead, Files};
-use kak_ports::{Octets, Put};
+use kak_ports::Put;
 use std::alloc::{AllocError, Global};
 use std::fs::{self, Metadata, OpenFile, OpenOptions};
 use std::io::{self, ErrorKind, Read, Write};

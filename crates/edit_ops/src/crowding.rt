@@ -6,7 +6,7 @@ ghost use Rattle.edit_ops.specs.Putting.{nth_string};
 ghost use Rattle.edit_ops.specs.Crowding.{strings_together};
 ghost use Rattle.edit_ops.specs.declared.crowding.PutError.TheVariants.{NoMemory};
 
-use kak_ports::Words;
+use byte_texts::Words;
 use kak_text::MAX_CHARS;
 use std::alloc::AllocError;
 use thiserror::Error;

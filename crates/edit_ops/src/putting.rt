@@ -14,7 +14,7 @@ use crate::crowding::{PutError, are_crowded};
 use crate::kinds::Put;
 use crate::places::{behind, line_start, next_line};
 use buffer_store::Splice;
-use kak_ports::Words;
+use byte_texts::Words;
 use kak_text::{Chars, Coord};
 use line_buffer::Lines;
 use selection_set::{Sel, Sels};

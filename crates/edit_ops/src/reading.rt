@@ -7,7 +7,7 @@ ghost use Rattle.selection_set.specs.Held.{IsHeld};
 ghost use Rattle.edit_ops.specs.Reading.{text_of_range, texts_of};
 
 use crate::places::behind;
-use kak_ports::Words;
+use byte_texts::Words;
 use kak_text::Chars;
 use line_buffer::Lines;
 use selection_set::{Sel, Sels};

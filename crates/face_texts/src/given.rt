@@ -5,8 +5,8 @@ ghost use Rattle.face_texts.specs.Given.{standard_name, standard_row, given};
 
 use crate::rows::Named;
 use crate::text::FaceText;
+use byte_texts::Utf8Text;
 use kak_faces::StandardFace;
-use kak_ports::small::Utf8Text;
 use std::alloc::{AllocError, Global};
 
 const ALL: [StandardFace; 16] = [

@@ -8,8 +8,8 @@ ghost use Rattle.face_texts.specs.Errors.{IsBadFace};
 use crate::colours::{colours_of, up_to};
 use crate::letters::attributes_at;
 use crate::text::{FaceError, FaceText};
+use byte_texts::Utf8Text;
 use kak_faces::{Attributes, Face};
-use kak_ports::small::Utf8Text;
 use std::alloc::{AllocError, Global};
 
 // The characters of a text.

@@ -6,7 +6,7 @@ ghost use Rattle.tables.specs.Tables.{place_where, put_where};
 ghost use Rattle.face_texts.specs.Tables.{is_named, text_named, text_of_base, is_base};
 
 use crate::text::FaceText;
-use kak_ports::small::Utf8Text;
+use byte_texts::Utf8Text;
 use std::alloc::AllocError;
 
 /// A face under a name.

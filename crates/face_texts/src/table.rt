@@ -12,8 +12,8 @@ use crate::palette::{Palette, palette_of};
 use crate::reading::read_face;
 use crate::rows::{Named, is_named, put, text_named};
 use crate::text::{FaceError, FaceText};
+use byte_texts::Utf8Text;
 use kak_faces::Face;
-use kak_ports::small::Utf8Text;
 use std::alloc::{AllocError, Global};
 use std::marker::Model;
 

@@ -3,8 +3,8 @@
 ghost use Rattle.std.specs.Prelude.{◌≡◌};
 ghost use Rattle.face_texts.specs.declared.text.FaceError.TheVariants.{NoMemory};
 
+use byte_texts::Utf8Text;
 use kak_faces::Face;
-use kak_ports::small::Utf8Text;
 use std::alloc::AllocError;
 use thiserror::Error;
 

@@ -11,8 +11,8 @@ ghost use Rattle.key_rows.specs.Naming.{register_named};
 ghost use Rattle.insert_prompt.specs.Rows.{awaiting, prompt_edited, line_edited, leave_prompt, typed_kept, commands_accepted, pattern_typed, accepted, prompt_base, prompt_control, prompt_register, prompt_named, prompt_first, row_prompt};
 
 use crate::inserts::set_pending;
+use byte_texts::Words;
 use edit_line::EditLine;
-use kak_ports::Words;
 use kak_text::Chars;
 use kak_world::{Ask, EditError, Mode, PatternUse, Purpose, Use, World};
 use key_names::{Base, Key};

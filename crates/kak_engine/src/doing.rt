@@ -10,10 +10,10 @@ ghost use Rattle.kak_engine.specs.Seen.{Ends, end_seen, under_way};
 
 use crate::asking::{make, read_told, write};
 use crate::outside::Outside;
+use byte_texts::Utf8Text;
 use command_set::{finish, note_saved, open_read, read, run_command};
 use insert_prompt::{insert_key, prompt_key};
 use kak_files::Files;
-use kak_ports::small::Utf8Text;
 use kak_text::Chars;
 use kak_words::Command;
 use kak_world::{Ask, EditError, Mode, PatternUse, Saving, World};

@@ -3,7 +3,8 @@
 ghost use Rattle.std.specs.Prelude.{◌≡◌, IfOk, OnErr};
 ghost use Rattle.kak_files.specs.Files.{Shelf, Reads, IsWithin, ReadIsCounted, Writes, WriteIsCounted};
 
-use kak_ports::{Octets, Put};
+use byte_texts::Octets;
+use kak_ports::Put;
 use std::alloc::{AllocError, Global};
 
 /// The most bytes that are asked of a file: those of the longest text in UTF-8, with a mark of the byte order before it.

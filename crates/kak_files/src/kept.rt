@@ -3,8 +3,8 @@
 ghost use Rattle.std.specs.Prelude.{◌≡◌, ◌+◌, ◌<◌, ◌≤◌, length, IsTrue, string_bytes, vec_capacity};
 ghost use Rattle.kak_files.specs.Memory.{are_within, taken_by};
 
-use kak_ports::small::Utf8Text;
-use kak_ports::{FailingCalls, Octets};
+use byte_texts::{Octets, Utf8Text};
+use kak_ports::FailingCalls;
 
 /// A file of files in memory.
 #[derive(Drop, Debug)]

@@ -8,7 +8,8 @@ ghost use Rattle.kak_files.specs.MemoryShelf.{opening_of, held_by, shelf_of, has
 
 use crate::files::{FileRead, Files};
 use crate::kept::{MemFile, MemFiles, Piece};
-use kak_ports::{FailingCalls, Octets, Put};
+use byte_texts::Octets;
+use kak_ports::{FailingCalls, Put};
 use std::alloc::{AllocError, Global};
 
 // What a write takes of the room beside its name and its bytes.

@@ -3,7 +3,7 @@
 ghost use Rattle.std.specs.Prelude.{◌<◌, ◌≤◌, length, vec_capacity};
 
 use crate::memory::FailingCalls;
-use crate::small::Octets;
+use byte_texts::Octets;
 
 /// A source over bytes in memory, which gives them in pieces.
 #[derive(Drop, Debug)]

@@ -7,12 +7,11 @@ pub mod kept;
 pub mod memory;
 pub mod real;
 pub mod sink;
-pub mod small;
 pub mod source;
 
+pub use byte_texts::{Octets, Words};
 pub use kept::{MemSink, MemSource};
 pub use memory::FailingCalls;
 pub use real::{ReadSource, WriteSink};
 pub use sink::{Put, Sink};
-pub use small::{Octets, Words};
 pub use source::{Source, Took};

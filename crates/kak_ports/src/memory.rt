@@ -7,8 +7,8 @@ ghost use Rattle.kak_ports.specs.Memory.{memory_inlet, taken_from, memory_outlet
 
 use crate::kept::{MemSink, MemSource};
 use crate::sink::{Put, Sink};
-use crate::small::Octets;
 use crate::source::{Source, Took};
+use byte_texts::Octets;
 use std::alloc::{AllocError, Global};
 
 /// Which calls of a port are to fail: the first call has the number 0.

@@ -9,7 +9,7 @@ ghost use Rattle.kak_registers.specs.Refusals.{refusal_of, IsDue};
 
 use crate::names::{RegisterError, is_read_only, is_settable};
 use crate::row::{MAX_REGISTER_CHARS, Register};
-use kak_ports::Words;
+use byte_texts::Words;
 use std::alloc::{AllocError, Global};
 use std::marker::Model;
 

@@ -1,6 +1,7 @@
 //! One register that was set, and how much it may hold.
 
-use kak_ports::Words;
+use byte_texts::Words;
+
 
 /// How many characters the strings of a register may have together.
 pub const MAX_REGISTER_CHARS: usize = 16_777_216;

@@ -9,7 +9,7 @@ ghost use Rattle.kak_words.specs.declared.parts.Piece.{Piece};
 use crate::forms::form_at;
 use crate::parts::{Named, Piece, WordError};
 use crate::placed::{Placed, text_of};
-use kak_ports::small::Utf8Text;
+use byte_texts::Utf8Text;
 use std::alloc::{AllocError, Global};
 
 /// The expansion of a kind and a name.

@@ -8,8 +8,7 @@ ghost use Rattle.kak_words.specs.Errors.{IsUnknown};
 ghost use Rattle.kak_words.specs.Adding.{Adds};
 
 use crate::parts::{Command, Piece, Word, WordError};
-use kak_ports::Words;
-use kak_ports::small::Utf8Text;
+use byte_texts::{Utf8Text, Words};
 use std::alloc::{AllocError, Global};
 
 /// A table of expansions.

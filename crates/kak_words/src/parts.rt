@@ -3,7 +3,7 @@
 ghost use Rattle.std.specs.Prelude.{◌≡◌};
 ghost use Rattle.kak_words.specs.declared.parts.WordError.TheVariants.{NoMemory};
 
-use kak_ports::small::Utf8Text;
+use byte_texts::Utf8Text;
 use std::alloc::AllocError;
 use std::marker::Model;
 use thiserror::Error;

@@ -5,7 +5,7 @@ ghost use Rattle.std.specs.Str.{chars};
 ghost use Rattle.kak_words.specs.Characters.{is_blank, ends_command, ends_word, is_opening, is_escapable, is_mark};
 ghost use Rattle.kak_words.specs.Closing.{placed_from, text_of};
 
-use kak_ports::small::Utf8Text;
+use byte_texts::Utf8Text;
 use std::alloc::{AllocError, Global};
 
 /// A character of a text, and how many characters stand before it.

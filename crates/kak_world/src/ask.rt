@@ -7,7 +7,7 @@ ghost use Rattle.kak_world.specs.Refusals.{of_edit, of_move, of_register};
 use crate::command_error::CommandError;
 use crate::purpose::PatternUse;
 use buffer_store::{BufferError, MoveError};
-use kak_ports::small::Utf8Text;
+use byte_texts::Utf8Text;
 use kak_registers::RegisterError;
 use kak_text::Chars;
 use std::alloc::{AllocError, Global};

@@ -5,7 +5,7 @@ ghost use Rattle.kak_world.specs.declared.ask.EditError.TheVariants.{Command as 
 ghost use Rattle.kak_world.specs.CommandErrors.{command_text};
 
 use crate::ask::EditError;
-use kak_ports::small::Utf8Text;
+use byte_texts::Utf8Text;
 use kak_text::Chars;
 use std::alloc::{AllocError, Global};
 

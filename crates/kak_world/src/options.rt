@@ -7,7 +7,7 @@ ghost use Rattle.kak_world.specs.Flat.{is_joined, options_of, with_options, tabs
 ghost use Rattle.kak_world.specs.declared.options.TheConstants.{MAX_INDENT};
 
 use crate::world::World;
-use kak_ports::Words;
+use byte_texts::Words;
 use kak_text::MAX_TABSTOP;
 use scope_options::{OptionError, OptionType, Options, Scope};
 use std::alloc::Global;

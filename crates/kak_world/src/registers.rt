@@ -8,7 +8,7 @@ ghost use Rattle.kak_world.specs.Rows.{Answers};
 
 use crate::ask::EditError;
 use crate::world::World;
-use kak_ports::Words;
+use byte_texts::Words;
 use kak_registers::Registers;
 
 impl World {

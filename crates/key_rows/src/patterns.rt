@@ -11,8 +11,8 @@ ghost use Rattle.kak_world.specs.Rows.{Answers, Gives};
 ghost use Rattle.key_rows.specs.Patterns.{last_string, last_pattern, asks_for_last, is_special, escaped_one, escaped, is_word_at, begins_word, ends_word, word_end, pattern_of, main_remembered};
 
 use crate::reading::string_of;
+use byte_texts::Words;
 use edit_ops::text_of;
-use kak_ports::Words;
 use kak_text::{Chars, Class, Coord, class};
 use kak_world::{Ask, EditError, PatternUse, Use, World};
 use line_buffer::Lines;

@@ -14,9 +14,9 @@ ghost use Rattle.key_rows.specs.Edits.{puts_of, keep_row};
 ghost use Rattle.key_rows.specs.Handing.{ArePuts, IsTooMuch, IsRefused};
 
 use buffer_store::Splice;
+use byte_texts::Words;
 use compact_chars::CharsRef;
 use edit_ops::{Put, PutError, put, strings};
-use kak_ports::Words;
 use kak_text::Chars;
 use kak_world::{EditError, World};
 use line_buffer::Lines;

@@ -1,6 +1,6 @@
 //! The matches of patterns, and patterns that are refused.
 
-use kak_ports::Words;
+use byte_texts::Words;
 use regex_ports::{
     Made, Pattern, PatternMaker, RefusingMaker, RegexMaker, RegexPattern, Span, Texts,
 };

@@ -7,7 +7,7 @@ ghost use Rattle.regex_ports.specs.Making.{IfBuilt, IsCounted, IsRefused};
 
 use crate::maker::{Made, PatternMaker};
 use crate::regular::{RegexMaker, RegexPattern};
-use kak_ports::Words;
+use byte_texts::Words;
 use std::alloc::{AllocError, Global};
 
 /// A maker of patterns over regular expressions that refuses the texts of a list as well.

@@ -10,7 +10,7 @@ use crate::scope::{Scope, is_same};
 use crate::setting::Setting;
 use crate::value::{OptionValue, added, kind_of, read_value};
 use crate::within::is_within;
-use kak_ports::Words;
+use byte_texts::Words;
 use std::alloc::{AllocError, Global};
 
 /// Whether a row is that of a scope and a name.

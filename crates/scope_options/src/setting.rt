@@ -2,7 +2,7 @@
 
 use crate::scope::Scope;
 use crate::value::OptionValue;
-use kak_ports::small::Utf8Text;
+use byte_texts::Utf8Text;
 
 /// An option as it is set at a scope. That of the global scope declares the option and its type.
 #[derive(Drop, Debug)]

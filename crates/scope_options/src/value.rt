@@ -3,8 +3,7 @@
 ghost use Rattle.std.specs.Prelude.{◌≡◌, ◌==◌, ◌++◌, slice_index, IfOk};
 ghost use Rattle.scope_options.specs.Values.{kind_of, is_same_type, int_of, bool_of, read_word, read_value, added};
 
-use kak_ports::Words;
-use kak_ports::small::Utf8Text;
+use byte_texts::{Utf8Text, Words};
 use std::alloc::{AllocError, Global};
 
 /// The type of an option: a whole number of 32 bits, a truth value, a text, or a list of texts.

@@ -9,8 +9,8 @@ ghost use Rattle.selection_set.specs.Held.{IsHeld, selected, main_of};
 ghost use Rattle.selection_texts.specs.Telling.{place_told, told, told_text, description_text, told_from_main};
 
 use crate::columns::column_told;
+use byte_texts::Words;
 use command_forms::{Columns, Described, Place};
-use kak_ports::Words;
 use kak_text::Coord;
 use line_buffer::Lines;
 use selection_set::{Sel, Sels};

@@ -3,8 +3,8 @@
 ghost use Rattle.std.specs.Prelude.{◌≡◌, [], ◌∷◌, ◌++◌, OnOk, OnErr, None, false};
 ghost use Rattle.session_events.specs.Entries.{is_join, is_leave};
 
+use byte_texts::Octets;
 use drawings::Drawing;
-use kak_ports::Octets;
 use key_names::Key;
 use std::alloc::{AllocError, Global};
 use std::marker::Model;

@@ -1,6 +1,6 @@
 //! Sources and sinks in memory and over std, and small lists.
 
-use kak_ports::small::{Octets, Utf8Text, Words};
+use byte_texts::{Octets, Utf8Text, Words};
 use kak_ports::{FailingCalls, MemSink, MemSource, Put, ReadSource, Sink, Source, Took, WriteSink};
 use std::test::Fail;
 

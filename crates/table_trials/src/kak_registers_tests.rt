@@ -1,6 +1,6 @@
 //! Registers and the words that name them.
 
-use kak_ports::Words;
+use byte_texts::Words;
 use kak_registers::{RegisterError, Registers, register_named};
 use std::alloc::{AllocError, Global};
 use std::test::Fail;

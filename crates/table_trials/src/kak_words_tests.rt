@@ -3,7 +3,7 @@
 ghost use Rattle.std.specs.Prelude.{Some, None, [], ◌∷◌, if◌then◌else◌, codes};
 ghost use Rattle.std.specs.Str.{bytes_eq};
 
-use kak_ports::Words;
+use byte_texts::Words;
 use kak_words::{Lookup, WordError, expand, quote, read_commands};
 use std::alloc::{AllocError, Global};
 use std::test::Fail;

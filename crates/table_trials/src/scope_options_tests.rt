@@ -1,6 +1,6 @@
 //! Options that are set, unset and declared.
 
-use kak_ports::Words;
+use byte_texts::Words;
 use scope_options::{OptionError, OptionType, OptionValue, Options, Scope};
 use std::alloc::{AllocError, Global};
 use std::test::Fail;

@@ -7,8 +7,8 @@ ghost use Rattle.unix_links.specs.Streams.{untold_door};
 
 use crate::door::DoorSocket;
 use crate::link::{UnixLink, over_socket};
+use byte_texts::Utf8Text;
 use client_links::{Acceptor, Bound, Link, Next};
-use kak_ports::small::Utf8Text;
 use std::alloc::Global;
 use std::fs::{File, Files};
 use std::io;
