@@ -24,7 +24,7 @@ use Rattle.kak_engine.specs.Steps.{given_by, AllAsked}
 use Rattle.kak_engine.specs.Honesty.{Outside}
 use Rattle.kak_engine.specs.Seating.{WasHonest}
 use Rattle.kak_engine.proofs.HonestLemmas.{honest-none, stays-still}
-use Rattle.kak_app.specs.declared.program.TheConstants.{MAX_ENTRIES}
+use Rattle.session_events.specs.declared.limits.TheConstants.{MAX_ENTRIES}
 use Rattle.kak_app.specs.Runs.{Around}
 use Rattle.kak_app.specs.Replays.{Replayed, ReplayedOutside, is_kind, is_ui_count, is_replay_call}
 use Rattle.kak_app.proofs.RunLemmas.{nothing-legal, before, whole}

@@ -31,7 +31,7 @@ use Rattle.kak_engine.specs.Steps.{given_by, exchanges, answers_in, AllAsked}
 use Rattle.kak_engine.specs.Honesty.{Outside, IsHonest}
 use Rattle.kak_engine.specs.Seating.{WasHonest}
 use Rattle.kak_engine.proofs.HonestLemmas.{honest-none, stays-still}
-use Rattle.kak_app.specs.declared.program.TheConstants.{MAX_ENTRIES}
+use Rattle.session_events.specs.declared.limits.TheConstants.{MAX_ENTRIES}
 use Rattle.kak_app.specs.Runs.{Around, WasHonestBefore, OutsideIs, Ran, IsFull, ReadsAre, WritesAre}
 
 -- without an entry a history is one that there can be

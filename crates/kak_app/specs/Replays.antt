@@ -13,7 +13,7 @@ use Rattle.session_replay.specs.declared.ends.ReplayEnd.TheVariants as ending
 use Rattle.session_replay.specs.Replays.{WasReplayed, FaultIs}
 use Rattle.kak_engine.specs.Honesty.{Outside, IsHonest}
 use Rattle.kak_engine.specs.Steps.{given_by, exchanges, answers_in, AllAsked}
-use Rattle.kak_app.specs.declared.program.TheConstants.{MAX_ENTRIES}
+use Rattle.session_events.specs.declared.limits.TheConstants.{MAX_ENTRIES}
 use Rattle.kak_app.specs.declared.program.Status.{Status}
 use Rattle.kak_app.specs.declared.program.Status.TheVariants.{Done, Usage, ReadFault, WriteFault, NoMemory, HistoryFull, InputFull, BadClient}
 use Rattle.kak_app.specs.Runs.{Around, WasHonestBefore}

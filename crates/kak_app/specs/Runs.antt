@@ -18,7 +18,7 @@ use Rattle.session_lines.specs.Stops.{NoneFailed}
 use Rattle.session_lines.specs.Connections.{WasServed}
 use Rattle.kak_engine.specs.Steps.{given_by, exchanges, answers_in, AllAsked}
 use Rattle.kak_engine.specs.Honesty.{Outside, outside_of, Stays, IsHonest}
-use Rattle.kak_app.specs.declared.program.TheConstants.{MAX_ENTRIES}
+use Rattle.session_events.specs.declared.limits.TheConstants.{MAX_ENTRIES}
 use Rattle.kak_app.specs.declared.program.Status.{Status}
 use Rattle.kak_app.specs.declared.program.Status.TheVariants.{Done, Usage, ReadFault, WriteFault, NoMemory, HistoryFull, InputFull, BadClient}
 

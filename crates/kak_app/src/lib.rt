@@ -5,5 +5,5 @@ pub mod limits;
 pub mod program;
 pub mod replaying;
 
-pub use program::{MAX_ENTRIES, Status, run};
+pub use program::{Status, run};
 pub use replaying::{MAX_UIS, replay};

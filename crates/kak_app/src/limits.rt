@@ -2,9 +2,9 @@
 
 ghost use Rattle.std.specs.Prelude.{◌≡◌};
 
-use crate::program::MAX_ENTRIES;
+use crate::replaying::MAX_UIS;
 
-/// A history has 4,000,000 entries at most, the leaving aside.
+/// A replay has 64 user interfaces at most.
 pub fn limits_are_these()
-    ensures entries { MAX_ENTRIES ≡ 4000000 }
+    ensures user_interfaces { MAX_UIS ≡ 64 }
 {}

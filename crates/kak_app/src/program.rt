@@ -16,12 +16,9 @@ use kak_ports::{Sink, Source};
 use key_names::Key;
 use program_words::{edit_keys, is_file_name};
 use regex_ports::PatternMaker;
-use session_events::{Event, Seat};
+use session_events::{Event, MAX_ENTRIES, Seat};
 use session_lines::{InputEnd, Stop, serve};
 use std::alloc::{AllocError, Global};
-
-/// How many entries the history may have, the leaving aside: 4,000,000.
-pub const MAX_ENTRIES: u64 = 4_000_000;
 
 /// How a run of the program ended.
 #[derive(Clone, Copy, PartialEq, Eq, Debug)]

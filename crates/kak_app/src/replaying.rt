@@ -8,11 +8,12 @@ ghost use Rattle.kak_engine.specs.Honesty.{IsUntouched};
 ghost use Rattle.kak_app.specs.Runs.{Around, around};
 ghost use Rattle.kak_app.specs.Replays.{is_kind, is_ui_count, is_replay_call, Replayed, ReplayAnswers};
 
-use crate::program::{MAX_ENTRIES, Status};
+use crate::program::Status;
 use kak_engine::{EngineSeats, NoEngine};
 use kak_files::Files;
 use kak_ports::{Sink, Source};
 use regex_ports::PatternMaker;
+use session_events::MAX_ENTRIES;
 use session_lines::Stop;
 use session_replay::{ReplayEnd, replay_session};
 use std::alloc::Global;

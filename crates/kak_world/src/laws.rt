@@ -5,6 +5,19 @@ ghost use Rattle.kak_world.specs.Examples.{Examples};
 ghost use Rattle.kak_world.specs.Names.{NamesAreLeast};
 ghost use Rattle.kak_world.specs.Showing.{GapsAreTaken};
 ghost use Rattle.kak_world.specs.ShowingExamples.{ShowingExamples};
+ghost use Rattle.std.specs.Prelude.{◌≡◌};
+
+use crate::options::MAX_INDENT;
+use crate::slots::MAX_BUFFERS;
+use crate::world::MAX_CLIENTS;
+
+/// At most 64 clients are here at once, there are at most 1,024 buffers, and a line is indented by at most 64 columns at
+/// once.
+pub fn limits_are_these()
+    ensures clients { MAX_CLIENTS ≡ 64 }
+    ensures buffers { MAX_BUFFERS ≡ 1024 }
+    ensures indent { MAX_INDENT ≡ 64 }
+{}
 
 /// The number in a new client's name is the least that no other client has.
 pub fn names_are_least()

@@ -11,7 +11,7 @@ use Rattle.session_server.specs.declared.session.Served.{Served}
 use Rattle.session_server.specs.declared.session.Served.TheVariants as served
 use Rattle.session_server.specs.declared.run.ServerStatus.{ServerStatus}
 use Rattle.session_server.specs.declared.run.ServerStatus.TheVariants.{Ended as AllLeft, Usage, AcceptFault, SpawnFault, NoMemory, Broken, LinksFull, BindFault}
-use Rattle.session_server.specs.declared.run.TheConstants.{MAX_ENTRIES}
+use Rattle.session_events.specs.declared.limits.TheConstants.{MAX_ENTRIES}
 use Rattle.session_server.specs.declared.host.TheConstants.{MAX_LINKS}
 use Rattle.session_server.specs.Sessions.{IfServed, lost, Stands, CausedBy, AcceptsFor, SpawnsFor}
 

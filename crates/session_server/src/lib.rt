@@ -17,6 +17,6 @@ pub mod session;
 pub use host::MAX_LINKS;
 pub use job::LinkJob;
 pub use link_serving::serve_link;
-pub use run::{MAX_ENTRIES, ServerStatus, run_server};
+pub use run::{ServerStatus, run_server};
 pub use serving::serve;
 pub use session::{Served, Session};

@@ -15,11 +15,9 @@ use kak_files::Files;
 use line_gates::Gate;
 use program_words::{WordsError, read_words};
 use regex_ports::PatternMaker;
+use session_events::MAX_ENTRIES;
 use std::alloc::Global;
 use std::sync::Wait;
-
-/// How many entries the history may have, leavings aside: 4,000,000.
-pub const MAX_ENTRIES: u64 = 4_000_000;
 
 /// How a run of a server ended.
 #[derive(Clone, Copy, PartialEq, Eq, Debug)]
