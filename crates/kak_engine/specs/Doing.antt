@@ -1,5 +1,5 @@
 -- What a row asks for is done: the one recursion of the editor, bounded by the units that are left.
-use Rattle.std.specs.Prelude.{ℕ, zero, suc, ◌+◌, ◌*◌, Bool, true, false, List, [], ◌∷◌, ◌++◌, codes, encode_utf8_all, Some, None, Ok, Err}
+use Rattle.std.specs.Prelude.{ℕ, zero, suc, ◌+◌, ◌*◌, Bool, true, false, List, [], ◌∷◌, ◌++◌, encode_utf8_all, Some, None, Ok, Err}
 use Rattle.std.specs.declared.option.Option.{Option}
 use Rattle.std.specs.declared.result.Result.{Result}
 use Rattle.key_names.specs.declared.key.Key.{Key}
@@ -60,7 +60,7 @@ Go = Place → Row → Part
 
 -- the text of a step that had no unit left
 abbrev pub budget_spent : List ℕ
-budget_spent = codes "given up: budget spent"
+budget_spent = error_text BudgetSpent
 
 abbrev pub ends : End → Part
 ends end m = record { moment = m; end = end }

@@ -21,7 +21,7 @@ use draw_model::{draw, follow_cursor};
 use drawings::Drawing;
 use kak_files::Files;
 use kak_text::Chars;
-use kak_world::{MAX_CLIENTS, Mode, Status, World};
+use kak_world::{BUDGET_SPENT, MAX_CLIENTS, Mode, Status, World};
 use key_names::Key;
 use regex_ports::PatternMaker;
 use session_events::{Answers, Entry, Event, Output, StepFault, is_join, is_leave};
@@ -74,7 +74,7 @@ fn tell(alloc: Global, world: &mut World, who: u32, ending: Ending) -> Result<()
         Ending::Fine => {}
         Ending::Failed(text) => refuse(world, who, text),
         Ending::GivenUp => {
-            let text = Chars::from_str(alloc, "given up: budget spent")?;
+            let text = Chars::from_str(alloc, BUDGET_SPENT)?;
             refuse(world, who, text);
         }
     }

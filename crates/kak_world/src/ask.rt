@@ -4,13 +4,30 @@ ghost use Rattle.std.specs.Prelude.{◌≡◌, ◌++◌, ◌∷◌, [], chars, I
 ghost use Rattle.kak_world.specs.declared.ask.EditError.TheVariants.{NoMemory};
 ghost use Rattle.kak_world.specs.Refusals.{of_edit, of_move, of_register};
 
-use crate::command_error::CommandError;
+use crate::command_error::{CommandError, NO_SUCH_REGISTER};
 use crate::purpose::PatternUse;
 use buffer_store::{BufferError, MoveError};
 use byte_texts::Utf8Text;
 use kak_registers::RegisterError;
 use kak_text::Chars;
 use std::alloc::{AllocError, Global};
+use thiserror::Error;
+
+/// The status text of a step that had no unit left for what was still due.
+pub const BUDGET_SPENT: &str = "given up: budget spent";
+
+// The status texts of the other refusals, each before what it names, where it names something.
+const TEXT_FULL: &str = "text is full";
+const UNDO_FULL: &str = "undo tree full";
+const NOTHING_TO_UNDO: &str = "nothing to undo";
+const NOTHING_TO_REDO: &str = "nothing to redo";
+const NO_SUCH_NODE: &str = "no such undo node";
+const READ_ONLY_REGISTER: &str = "register is read only: ";
+const REGISTER_FULL: &str = "register is full";
+const SHARED_LINE: &str = "align needs one selection per line";
+const BAD_PATTERN: &str = "bad pattern";
+const NOTHING_SELECTED: &str = "nothing selected";
+const TOO_MANY_SELECTIONS: &str = "too many selections";
 
 /// What the engine is to do after a key or a command.
 #[derive(Drop, Debug)]
@@ -41,37 +58,52 @@ pub struct Saving {
 }
 
 /// Why a key or a command was refused. Its status text is what the user is told.
-#[derive(Drop, Debug)]
+#[derive(Drop, Debug, Error)]
 pub enum EditError {
     /// The text would have more characters than a text may have.
+    #[error("{text}", text = TEXT_FULL)]
     TextFull,
     /// The undo tree has as many nodes as it may have, and the edit would begin one.
+    #[error("{text}", text = UNDO_FULL)]
     UndoFull,
     /// There is nothing to take back.
+    #[error("{text}", text = NOTHING_TO_UNDO)]
     NothingToUndo,
     /// There is nothing to make again.
+    #[error("{text}", text = NOTHING_TO_REDO)]
     NothingToRedo,
     /// The undo tree has no such node.
+    #[error("{text}", text = NO_SUCH_NODE)]
     NoSuchNode,
     /// There is no register of that name.
+    #[error("{text}{0}", text = NO_SUCH_REGISTER)]
     NoSuchRegister(char),
     /// The register is only read.
+    #[error("{text}{0}", text = READ_ONLY_REGISTER)]
     ReadOnlyRegister(char),
     /// The register would hold more characters than one may.
+    #[error("{text}", text = REGISTER_FULL)]
     RegisterFull,
     /// Two selections begin on one line, where one on each is asked for.
+    #[error("{text}", text = SHARED_LINE)]
     SharedLine,
     /// Why a command was.
+    #[error("{0}")]
     Command(CommandError),
     /// The text of a pattern is none, or that of one that is too big.
+    #[error("{text}", text = BAD_PATTERN)]
     BadPattern,
     /// No selection would be left.
+    #[error("{text}", text = NOTHING_SELECTED)]
     NothingSelected,
     /// There would be more selections than there may be.
+    #[error("{text}", text = TOO_MANY_SELECTIONS)]
     TooManySelections,
     /// A further run was due, and the step had no unit left; what was done before stays done.
+    #[error("{text}", text = BUDGET_SPENT)]
     BudgetSpent,
     /// Memory ran out; the world may have been changed in part.
+    #[error("out of memory")]
     NoMemory,
 }
 
@@ -139,21 +171,19 @@ impl EditError {
         ensures memory { self.now ≡ EditError.NoMemory → IsErr result }
     {
         match self {
-            EditError::TextFull => Chars::from_str(alloc, "text is full"),
-            EditError::UndoFull => Chars::from_str(alloc, "undo tree full"),
-            EditError::NothingToUndo => Chars::from_str(alloc, "nothing to undo"),
-            EditError::NothingToRedo => Chars::from_str(alloc, "nothing to redo"),
-            EditError::NoSuchNode => Chars::from_str(alloc, "no such undo node"),
-            EditError::BadPattern => Chars::from_str(alloc, "bad pattern"),
-            EditError::NothingSelected => Chars::from_str(alloc, "nothing selected"),
-            EditError::TooManySelections => Chars::from_str(alloc, "too many selections"),
-            EditError::BudgetSpent => Chars::from_str(alloc, "given up: budget spent"),
-            EditError::RegisterFull => Chars::from_str(alloc, "register is full"),
-            EditError::SharedLine => Chars::from_str(alloc, "align needs one selection per line"),
-            EditError::NoSuchRegister(name) => with_name(alloc, "no such register: ", *name),
-            EditError::ReadOnlyRegister(name) => {
-                with_name(alloc, "register is read only: ", *name)
-            }
+            EditError::TextFull => Chars::from_str(alloc, TEXT_FULL),
+            EditError::UndoFull => Chars::from_str(alloc, UNDO_FULL),
+            EditError::NothingToUndo => Chars::from_str(alloc, NOTHING_TO_UNDO),
+            EditError::NothingToRedo => Chars::from_str(alloc, NOTHING_TO_REDO),
+            EditError::NoSuchNode => Chars::from_str(alloc, NO_SUCH_NODE),
+            EditError::BadPattern => Chars::from_str(alloc, BAD_PATTERN),
+            EditError::NothingSelected => Chars::from_str(alloc, NOTHING_SELECTED),
+            EditError::TooManySelections => Chars::from_str(alloc, TOO_MANY_SELECTIONS),
+            EditError::BudgetSpent => Chars::from_str(alloc, BUDGET_SPENT),
+            EditError::RegisterFull => Chars::from_str(alloc, REGISTER_FULL),
+            EditError::SharedLine => Chars::from_str(alloc, SHARED_LINE),
+            EditError::NoSuchRegister(name) => with_name(alloc, NO_SUCH_REGISTER, *name),
+            EditError::ReadOnlyRegister(name) => with_name(alloc, READ_ONLY_REGISTER, *name),
             EditError::Command(error) => error.text(alloc),
             EditError::NoMemory => Err(AllocError),
         }

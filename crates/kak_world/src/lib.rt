@@ -22,7 +22,7 @@ pub mod showing;
 pub mod slots;
 pub mod world;
 
-pub use ask::{Ask, EditError, Saving};
+pub use ask::{Ask, BUDGET_SPENT, EditError, Saving};
 pub use buffer::Buffer;
 pub use clients::Client;
 pub use command_error::CommandError;

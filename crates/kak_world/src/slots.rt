@@ -7,6 +7,7 @@ ghost use Rattle.kak_world.specs.declared.slots.TheConstants.{MAX_BUFFERS};
 ghost use Rattle.kak_world.specs.declared.slots.WorldError.TheVariants.{TooManyBuffers, NoMemory};
 
 use crate::buffer::Buffer;
+use crate::command_error::TOO_MANY_BUFFERS;
 use crate::world::World;
 use kak_text::Chars;
 use line_buffer::Lines;
@@ -20,7 +21,7 @@ pub const MAX_BUFFERS: usize = 1024;
 #[derive(Drop, Debug, Error)]
 pub enum WorldError {
     /// There are as many buffers as there can be.
-    #[error("too many buffers")]
+    #[error("{text}", text = TOO_MANY_BUFFERS)]
     TooManyBuffers,
     /// Memory ran out.
     #[error("out of memory")]
