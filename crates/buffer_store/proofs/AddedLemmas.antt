@@ -9,9 +9,9 @@ use Rattle.undo_model.specs.Tree.{node_at}
 use Rattle.undo_model.specs.Stories.{Story, pending, added}
 use Rattle.undo_model.specs.Kept.{IsStory}
 use Rattle.undo_model.proofs.StoryLemmas.{added-story}
-use Rattle.buffer_store.specs.Stored.{flat, flats, made, Fits, AllFit}
-use Rattle.buffer_store.specs.Seen.{Branch, Pending, nodes_of, pending_changes, seen_group, story_from, story_of, IsTold}
-use Rattle.buffer_store.specs.Laws.{Tells, one_pending}
+use Rattle.buffer_store.specs.Stored.{flat, flats, made, KeptFits, AllFit}
+use Rattle.buffer_store.specs.Seen.{Branch, Pending, nodes_of, pending_changes, seen_group, story_from, story_kept, IsTold}
+use Rattle.buffer_store.specs.Laws.{TellsStory, one_pending}
 use Rattle.buffer_store.proofs.MakingLemmas.{made-append, flats-append}
 use Rattle.buffer_store.proofs.SeenLemmas.{nodes-long, told-story}
 
@@ -32,7 +32,7 @@ added-told text bs current saved who group k h =
     flats-append node (pending_changes group) (k ∷ []) ∙ ap₂ (λ cs t. cs ++ flat t k ∷ []) (sym (seen-pending node group)) (sym h.text_is) in
     ap (λ cs. (let s : Story = record { text = changed text (flat text k); nodes = nodes_of h.opening bs; current = current; group = Some (record { owner = who; changes = cs }); saved = saved } in s)) more
 
-told-added : (text : List ℕ) (bs : List Branch) (current saved who : ℕ) (group : Option Pending) (k : Kept) → IsTold text bs current saved group → Fits text k → length bs + 1 ≤ MAX_NODES → IsTold (changed text (flat text k)) bs current saved (Some (one_pending who group k))
+told-added : (text : List ℕ) (bs : List Branch) (current saved who : ℕ) (group : Option Pending) (k : Kept) → IsTold text bs current saved group → KeptFits text k → length bs + 1 ≤ MAX_NODES → IsTold (changed text (flat text k)) bs current saved (Some (one_pending who group k))
 told-added text bs current saved who group k h f room =
     let node : List ℕ = (node_at (nodes_of h.opening bs) current).text in
     let s : Story = story_from h.opening text bs current saved group in
@@ -47,7 +47,7 @@ told-added text bs current saved who group k h f room =
       text_is = ap (λ t. changed t (flat t k)) h.text_is ∙ sym (made-append node (pending_changes group) (k ∷ []));
     }
 
-pub tells-added : (text : List ℕ) (bs : List Branch) (current saved who : ℕ) (group : Option Pending) (k : Kept) → IsTold text bs current saved group → Fits text k → length bs + 1 ≤ MAX_NODES → Tells (changed text (flat text k)) bs current saved (Some (one_pending who group k)) (added who (flat text k ∷ []) (story_of text bs current saved group))
+pub tells-added : (text : List ℕ) (bs : List Branch) (current saved who : ℕ) (group : Option Pending) (k : Kept) → IsTold text bs current saved group → KeptFits text k → length bs + 1 ≤ MAX_NODES → TellsStory (changed text (flat text k)) bs current saved (Some (one_pending who group k)) (added who (flat text k ∷ []) (story_kept text bs current saved group))
 unfolding told-added
 tells-added text bs current saved who group k h f room = record {
   told = told-added text bs current saved who group k h f room;

@@ -13,9 +13,9 @@ use Rattle.undo_model.proofs.TreeLemmas.{same-text, IsTreeAs, remembering-tree, 
 use Rattle.undo_model.proofs.WayLemmas.{route-by_nodes, remembering-by_nodes, way-by_nodes}
 use Rattle.undo_model.proofs.StoryLemmas.{went-story}
 use Rattle.buffer_store.specs.Stored.{AllFit, flats, made, backs, IsMade}
-use Rattle.buffer_store.specs.Seen.{Branch, branch_at, nodes_of, story_from, story_of, IsTold}
-use Rattle.buffer_store.specs.Laws.{aimed_branch, Tells}
-use Rattle.buffer_store.specs.Walks.{back_over, CanGoBack, on_over, CanGoOn, way_changes, CanGo, aimed_at, aimed_over, AreThere, changes_from}
+use Rattle.buffer_store.specs.Seen.{Branch, branch_at, nodes_of, story_from, story_kept, IsTold}
+use Rattle.buffer_store.specs.Laws.{aimed_branch, TellsStory}
+use Rattle.buffer_store.specs.Walks.{back_over, CanGoBack, on_over, CanGoForth, way_changes, CanGoWay, heir_aimed_at, aimed_over, AreThere, changes_from}
 use Rattle.buffer_store.proofs.MakingLemmas.{made-flats, backs-undoing}
 use Rattle.buffer_store.proofs.SeenLemmas.{nodes-long, node-parent, node-text, node-changes, nodes-with_heir, told-story}
 use Rattle.buffer_store.proofs.MovedLemmas.{aimed-parent, aimed-changes}
@@ -77,7 +77,7 @@ risen o bs a c (n ∷ ls) h r =
 
 -- down from a node to another: what is made, and where it leads
 pub record IsFallen (o : List ℕ) (bs : List Branch) (c b : ℕ) (es : List ℕ) : Type 0 where
-  pub can : CanGoOn bs (node_at (nodes_of o bs) c).text es
+  pub can : CanGoForth bs (node_at (nodes_of o bs) c).text es
   pub changes : on_over bs (node_at (nodes_of o bs) c).text es ≡ falling (nodes_of o bs) es
   pub text : all_changed (node_at (nodes_of o bs) c).text (on_over bs (node_at (nodes_of o bs) c).text es) ≡ (node_at (nodes_of o bs) b).text
   pub there : AreThere bs es
@@ -92,7 +92,7 @@ fallen o bs c b (n ∷ es) h f =
     let from : List ℕ = (node_at (nodes_of o bs) p).text in
     let rest : IsFallen o bs n b es = fallen o bs n b es h f.3 in
     let here : p ≡ c = sym k.parent ∙ f.0 in
-    let Q : List ℕ → Type 0 = λ x. CanGoOn bs x es in
+    let Q : List ℕ → Type 0 = λ x. CanGoForth bs x es in
     let R : ℕ → Type 0 = λ m. IsFallen o bs m b (n ∷ es) in
     subst R here (record {
       can = (k.in_list, k.fits, subst Q k.text rest.can);
@@ -110,7 +110,7 @@ pub record AreSameBranches (cs bs : List Branch) : Type 0 where
 aimed-same : (bs : List Branch) (ns : List ℕ) → AreThere bs ns → AreSameBranches (aimed_over bs ns) bs
 aimed-same bs [] h = record { long = refl; parents = λ n. refl; changes = λ n. refl }
 aimed-same bs (n ∷ ns) h =
-    let rest : AreSameBranches (aimed_over (aimed_at bs n) ns) (aimed_at bs n) = aimed-same (aimed_at bs n) ns (there-aimed bs n ns h.1 h.2) in
+    let rest : AreSameBranches (aimed_over (heir_aimed_at bs n) ns) (heir_aimed_at bs n) = aimed-same (heir_aimed_at bs n) ns (there-aimed bs n ns h.1 h.2) in
     record {
       long = rest.long ∙ length-set bs (branch_at bs n).parent (aimed_branch (branch_at bs (branch_at bs n).parent) n);
       parents = λ m. rest.parents m ∙ aimed-parent bs (branch_at bs n).parent n m h.1;
@@ -119,13 +119,13 @@ aimed-same bs (n ∷ ns) h =
 
 pub there-over : (bs : List Branch) (ns ms : List ℕ) → AreThere bs ns → AreThere bs ms → AreThere (aimed_over bs ns) ms
 there-over bs [] ms h k = k
-there-over bs (n ∷ ns) ms h k = there-over (aimed_at bs n) ns ms (there-aimed bs n ns h.1 h.2) (there-aimed bs n ms h.1 k)
+there-over bs (n ∷ ns) ms h k = there-over (heir_aimed_at bs n) ns ms (there-aimed bs n ns h.1 h.2) (there-aimed bs n ms h.1 k)
 
 -- and their nodes
 nodes-over : (o : List ℕ) (bs : List Branch) (ns : List ℕ) → AreThere bs ns → nodes_of o (aimed_over bs ns) ≡ remembered (nodes_of o bs) ns
 nodes-over o bs [] h = refl
 nodes-over o bs (n ∷ ns) h =
-    nodes-over o (aimed_at bs n) ns (there-aimed bs n ns h.1 h.2) ∙ ap (λ xs. remembered xs ns) (nodes-with_heir o bs (branch_at bs n).parent n h.1 ∙ ap (λ m. with_heir m n (nodes_of o bs)) (sym (node-parent o bs n h.0)))
+    nodes-over o (heir_aimed_at bs n) ns (there-aimed bs n ns h.1 h.2) ∙ ap (λ xs. remembered xs ns) (nodes-with_heir o bs (branch_at bs n).parent n h.1 ∙ ap (λ m. with_heir m n (nodes_of o bs)) (sym (node-parent o bs n h.0)))
 
 -- the buffer has gone to a node, and heirs alone are others
 told-went : (text new : List ℕ) (bs cs : List Branch) (current saved n : ℕ) (h : IsTold text bs current saved None) → AreSameBranches cs bs → n < length bs → nodes_of h.opening cs ≡ (went_to n (story_from h.opening text bs current saved None)).nodes → new ≡ (node_at (nodes_of h.opening bs) n).text → IsTold new cs n saved None
@@ -153,7 +153,7 @@ told-went text new bs cs current saved n h same lt nodes t = record {
         let from : (node_at (nodes_of h.opening cs) (branch_at cs m).parent).text ≡ (node_at (nodes_of h.opening bs) (branch_at bs m).parent).text = stays (branch_at cs m).parent ∙ ap (λ x. (node_at (nodes_of h.opening bs) x).text) (same.parents m) in
         subst (λ (ks : List Kept). P (node_at (nodes_of h.opening cs) (branch_at cs m).parent).text ks) (sym (same.changes m)) (subst (λ (x : List ℕ). P x (branch_at bs m).changes) (sym from) (h.fits m q (omega (arith, same.long))))
 
-tells-went : (text new : List ℕ) (bs cs : List Branch) (current saved n : ℕ) (h : IsTold text bs current saved None) → AreSameBranches cs bs → n < length bs → nodes_of h.opening cs ≡ (went_to n (story_from h.opening text bs current saved None)).nodes → new ≡ (node_at (nodes_of h.opening bs) n).text → Tells new cs n saved None (went_to n (story_from h.opening text bs current saved None))
+tells-went : (text new : List ℕ) (bs cs : List Branch) (current saved n : ℕ) (h : IsTold text bs current saved None) → AreSameBranches cs bs → n < length bs → nodes_of h.opening cs ≡ (went_to n (story_from h.opening text bs current saved None)).nodes → new ≡ (node_at (nodes_of h.opening bs) n).text → TellsStory new cs n saved None (went_to n (story_from h.opening text bs current saved None))
 unfolding told-went
 tells-went text new bs cs current saved n h same lt nodes t = record {
   told = told-went text new bs cs current saved n h same lt nodes t;
@@ -162,13 +162,13 @@ tells-went text new bs cs current saved n h same lt nodes t = record {
 
 -- going to a node by the nodes of the way
 pub record IsGoing (text : List ℕ) (bs : List Branch) (saved n : ℕ) (ls es : List ℕ) (s : Story) : Type 0 where
-  pub can : CanGo bs text ls es
+  pub can : CanGoWay bs text ls es
   pub changes : way_changes bs text ls es ≡ changes_from n s
   pub left_there : AreThere bs ls
   pub entered_there : AreThere (aimed_over bs ls) es
-  pub arrived : Tells (all_changed text (way_changes bs text ls es)) (aimed_over (aimed_over bs ls) es) n saved None (went_to n s)
+  pub arrived : TellsStory (all_changed text (way_changes bs text ls es)) (aimed_over (aimed_over bs ls) es) n saved None (went_to n s)
 
-pub going : (text : List ℕ) (bs : List Branch) (current saved n : ℕ) (ls es : List ℕ) (s : Story) → IsTold text bs current saved None → story_of text bs current saved None ≡ s → n < length bs → ((o : List ℕ) → ls ≡ leaving (current + n) (nodes_of o bs) current n) → ((o : List ℕ) → es ≡ entering (current + n) (nodes_of o bs) current n) → IsGoing text bs saved n ls es s
+pub going : (text : List ℕ) (bs : List Branch) (current saved n : ℕ) (ls es : List ℕ) (s : Story) → IsTold text bs current saved None → story_kept text bs current saved None ≡ s → n < length bs → ((o : List ℕ) → ls ≡ leaving (current + n) (nodes_of o bs) current n) → ((o : List ℕ) → es ≡ entering (current + n) (nodes_of o bs) current n) → IsGoing text bs saved n ls es s
 going text bs current saved n ls es s h is lt left entered =
     let o : List ℕ = h.opening in
     let ns : List Node = nodes_of o bs in
@@ -191,7 +191,7 @@ going text bs current saved n ls es s h is lt left entered =
     let new : List ℕ = all_changed text (way_changes bs text ls es) in
     let new_is : new ≡ (node_at ns n).text = ap₂ all_changed here changes ∙ leads.lead in
     let B : List ℕ → Type 0 = λ x. CanGoBack bs x ls in
-    let F : List ℕ → Type 0 = λ x. CanGoOn bs x es in
+    let F : List ℕ → Type 0 = λ x. CanGoForth bs x es in
     let S : List ℕ → List Change → Type 0 = λ x cs. AreSteps x cs in
     let entered_there : AreThere (aimed_over bs ls) es = there-over bs ls es up.there down.there in
     let cs : List Branch = aimed_over (aimed_over bs ls) es in
@@ -199,7 +199,7 @@ going text bs current saved n ls es s h is lt left entered =
     let second : AreSameBranches cs (aimed_over bs ls) = aimed-same (aimed_over bs ls) es entered_there in
     let same : AreSameBranches cs bs = record { long = second.long ∙ first.long; parents = λ m. second.parents m ∙ first.parents m; changes = λ m. second.changes m ∙ first.changes m } in
     let nodes : nodes_of o cs ≡ remembering k ns current n = nodes-over o (aimed_over bs ls) es entered_there ∙ ap (λ xs. remembered xs es) (nodes-over o bs ls up.there) ∙ ap₂ (λ xs ys. remembered (remembered ns xs) ys) (left o) (entered o) ∙ sym (remembering-by_nodes k ns current n h.story.tree h.story.current there) in
-    let T : Story → Type 0 = λ x. Tells new cs n saved None (went_to n x) in
+    let T : Story → Type 0 = λ x. TellsStory new cs n saved None (went_to n x) in
     record {
       can = record {
         back = subst B (sym here) up.can;

@@ -13,7 +13,7 @@ use Rattle.std.proofs.lemmas.Bool.{eqb-false}
 use Rattle.text_model.proofs.CoordLemmas.{test_cases}
 use Rattle.change_list.specs.declared.change.Change.{Change as Kept}
 use Rattle.undo_model.specs.Steps.{IsStep}
-use Rattle.buffer_store.specs.Stored.{turn, flat, Fits, IsKept}
+use Rattle.buffer_store.specs.Stored.{turn, flat, KeptFits, IsKeptAlone}
 
 -- what is really put in is put in as it is
 pub put_in-twice : (text : List ℕ) (p : ℕ) (s : List ℕ) → p ≤ length text → put_in text p (put_in text p s) ≡ put_in text p s
@@ -45,13 +45,13 @@ insertion_of-some p [] h = absurd (omega arith)
 insertion_of-some p (c ∷ cs) h = refl
 
 -- a change with its shift, as it is kept
-kept_as : (old new : List ℕ) (at : Coord) (insert : Bool) (chars : List ℕ) (s : Shift) (c : Change) → c ≡ turn insert (offset old at) chars → inverse old c ≡ turn (not insert) (offset old at) chars → IsStored old → IsStep old c → new ≡ changed old c → IsShift old new s (move_of old c) → s.insert ≡ insert → s.begin ≡ at → IsKept old new (c ∷ []) (record { shift = s; chars = chars })
+kept_as : (old new : List ℕ) (at : Coord) (insert : Bool) (chars : List ℕ) (s : Shift) (c : Change) → c ≡ turn insert (offset old at) chars → inverse old c ≡ turn (not insert) (offset old at) chars → IsStored old → IsStep old c → new ≡ changed old c → IsShift old new s (move_of old c) → s.insert ≡ insert → s.begin ≡ at → IsKeptAlone old new (c ∷ []) (record { shift = s; chars = chars })
 kept_as old new at insert chars s c is back h step n shift i b =
     let k : Kept = record { shift = s; chars = chars } in
     let same : flat old k ≡ c = ap₂ (λ x y. turn x (offset old y) chars) i b ∙ sym is in
     let P : Change → Type 0 = λ x. IsShift old (changed old x) s (move_of old x) in
     let Q : List ℕ → Type 0 = λ t. IsShift old t s (move_of old c) in
-    let fits : Fits old k = record {
+    let fits : KeptFits old k = record {
       stored = h;
       step = subst (IsStep old) (sym same) step;
       shift = subst P (sym same) (subst Q n shift);
@@ -65,7 +65,7 @@ kept_as old new at insert chars s c is back h step n shift i b =
     }
 
 -- characters put in, as they are kept
-pub kept-insertion : (old new : List ℕ) (at : Coord) (chars put : List ℕ) (s : Shift) → IsStored old → IsStored new → IsPlaceOrEnd old at → 0 < length chars → put ≡ put_in old (offset old at) chars → new ≡ inserted old (offset old at) put → IsShift old new s (move_of old (Insertion (offset old at) (put_in old (offset old at) put))) → s.begin ≡ at → IsKept old new (insertion old (offset old at) chars) (record { shift = s; chars = put })
+pub kept-insertion : (old new : List ℕ) (at : Coord) (chars put : List ℕ) (s : Shift) → IsStored old → IsStored new → IsPlaceOrEnd old at → 0 < length chars → put ≡ put_in old (offset old at) chars → new ≡ inserted old (offset old at) put → IsShift old new s (move_of old (Insertion (offset old at) (put_in old (offset old at) put))) → s.begin ≡ at → IsKeptAlone old new (insertion old (offset old at) chars) (record { shift = s; chars = put })
 kept-insertion old new at chars put s h k place some is n shift b =
     let p : ℕ = offset old at in
     let inside : p ≤ length old = offset-le old at place in
@@ -75,7 +75,7 @@ kept-insertion old new at chars put s h k place some is n shift b =
     let P : List ℕ → Type 0 = λ x. IsShift old new s (move_of old (Insertion p x)) in
     let step : IsStep old (Insertion p put) = record { inside = inside; some = real; stored = subst IsStored new_is k } in
     let one : insertion old p chars ≡ Insertion p put ∷ [] = ap (insertion_of p) (sym is) ∙ insertion_of-some p put real in
-    let Q : List Change → Type 0 = λ cs. IsKept old new cs (record { shift = s; chars = put }) in
+    let Q : List Change → Type 0 = λ cs. IsKeptAlone old new cs (record { shift = s; chars = put }) in
     subst Q (sym one) (kept_as old new at true put s (Insertion p put) refl refl h step new_is (subst P twice shift) shift.insert_is b)
 
 -- how much is taken
@@ -86,7 +86,7 @@ taken-long old p q taken h k l is =
     omega (arith, ap length is, length-take-le (taken_end old p q - p) (drop p old) room, within.0)
 
 -- characters taken out, as they are kept
-pub kept-erasure : (old new : List ℕ) (from to : Coord) (taken : List ℕ) (s : Shift) → IsStored old → IsStored new → IsPlaceOrEnd old to → offset old from ≤ offset old to → 0 < length taken → taken ≡ slice_range old (offset old from) (taken_end old (offset old from) (offset old to)) → new ≡ erased old (offset old from) (offset old to) → IsShift old new s (move_of old (Erasure (offset old from) (taken_end old (offset old from) (offset old to)))) → s.begin ≡ from → IsKept old new (erasure old (offset old from) (offset old to)) (record { shift = s; chars = taken })
+pub kept-erasure : (old new : List ℕ) (from to : Coord) (taken : List ℕ) (s : Shift) → IsStored old → IsStored new → IsPlaceOrEnd old to → offset old from ≤ offset old to → 0 < length taken → taken ≡ slice_range old (offset old from) (taken_end old (offset old from) (offset old to)) → new ≡ erased old (offset old from) (offset old to) → IsShift old new s (move_of old (Erasure (offset old from) (taken_end old (offset old from) (offset old to)))) → s.begin ≡ from → IsKeptAlone old new (erasure old (offset old from) (offset old to)) (record { shift = s; chars = taken })
 kept-erasure old new from to taken s h k place o some is n shift b =
     let p : ℕ = offset old from in
     let q : ℕ = offset old to in
@@ -97,7 +97,7 @@ kept-erasure old new from to taken s h k place o some is n shift b =
     let lt : p < e = omega arith in
     let step : IsStep old (Erasure p e) = record { inside = (within.0, omega (arith, within.1)); some = omega arith; stored = subst IsStored n k } in
     let one : erasure old p q ≡ Erasure p e ∷ [] = ap (λ v. cond v (Erasure p e ∷ []) []) (lt-ltb p e lt) in
-    let Q : List Change → Type 0 = λ cs. IsKept old new cs (record { shift = s; chars = taken }) in
+    let Q : List Change → Type 0 = λ cs. IsKeptAlone old new cs (record { shift = s; chars = taken }) in
     subst Q (sym one) (kept_as old new from false taken s (Erasure p e) (ap (Erasure p) (sym long)) (ap (Insertion p) (sym is)) h step n shift shift.insert_is b)
 
 -- where nothing is taken there is no change

@@ -13,7 +13,7 @@ use Rattle.line_buffer.proofs.InsertLemmas.{put_in-ended}
 use Rattle.change_list.specs.declared.change.Change.{Change as Kept}
 use Rattle.undo_model.specs.Steps.{IsStep, undoing}
 use Rattle.undo_model.proofs.StepLemmas.{inverse-step}
-use Rattle.buffer_store.specs.Stored.{turn, flat, flat_back, shift_of, shifts_of, Fits, AllFit, flats, made, backs, IsMade}
+use Rattle.buffer_store.specs.Stored.{turn, flat, flat_back, shift_of, change_shifts, KeptFits, AllFit, flats, made, backs, IsMade}
 
 -- what ends a text is one
 text_tail : (xs ys : List ℕ) → IsText (xs ++ ys) → 0 < length ys → IsText ys
@@ -110,7 +110,7 @@ turns text false b e chars h step bis eis =
     let short : p ≤ length text = omega (arith, step.inside.1) in
     record { begin_in = place_of text b p h.is_text short bis; last_in = inr (place_of text e q h.is_text step.inside.1 eis, offset_of_place text e q step.inside.1 eis); step = step }
 
-pub fits-turns : (text : List ℕ) (k : Kept) → Fits text k → CanTurn text k.shift.insert k.shift.begin k.shift.end k.chars
+pub fits-turns : (text : List ℕ) (k : Kept) → KeptFits text k → CanTurn text k.shift.insert k.shift.begin k.shift.end k.chars
 fits-turns text k h = turns text k.shift.insert k.shift.begin k.shift.end k.chars h.stored h.step h.shift.begin_is h.shift.end_is
 
 -- and what was made begins at the same offset, and can be taken back
@@ -150,11 +150,11 @@ turns_back text false b e chars h step bis eis back =
       };
     }
 
-pub fits-turns_back : (text : List ℕ) (k : Kept) → Fits text k → CanTurnBack (changed text (flat text k)) (offset text k.shift.begin) k.shift.insert k.shift.begin k.shift.end k.chars
+pub fits-turns_back : (text : List ℕ) (k : Kept) → KeptFits text k → CanTurnBack (changed text (flat text k)) (offset text k.shift.begin) k.shift.insert k.shift.begin k.shift.end k.chars
 fits-turns_back text k h = turns_back text k.shift.insert k.shift.begin k.shift.end k.chars h.stored h.step h.shift.begin_is h.shift.end_is h.chars
 
 -- what takes a change back is its inverse
-pub flat_back-is : (text : List ℕ) (k : Kept) → Fits text k → flat_back (changed text (flat text k)) k ≡ inverse text (flat text k)
+pub flat_back-is : (text : List ℕ) (k : Kept) → KeptFits text k → flat_back (changed text (flat text k)) k ≡ inverse text (flat text k)
 flat_back-is text k h = ap (λ n. turn (not k.shift.insert) n k.chars) (fits-turns_back text k h).same ∙ sym h.chars
 
 -- the last change of a text
@@ -172,7 +172,7 @@ pub flats-append : (text : List ℕ) (xs ys : List Kept) → flats text (xs ++ y
 flats-append text [] ys = refl
 flats-append text (x ∷ xs) ys = ap (λ cs. flat text x ∷ cs) (flats-append (changed text (flat text x)) xs ys)
 
-pub shifts_of-append : (text : List ℕ) (cs ds : List Change) → shifts_of text (cs ++ ds) ≡ shifts_of text cs ++ shifts_of (all_changed text cs) ds
+pub shifts_of-append : (text : List ℕ) (cs ds : List Change) → change_shifts text (cs ++ ds) ≡ change_shifts text cs ++ change_shifts (all_changed text cs) ds
 shifts_of-append text [] ds = refl
 shifts_of-append text (c ∷ cs) ds = ap (λ ss. shift_of text c ∷ ss) (shifts_of-append (changed text c) cs ds)
 
@@ -213,7 +213,7 @@ weaker_on_err (Ok x) P Q f h = tt
 weaker_on_err (Err e) P Q f h = f h
 
 -- the n-th kept change fits the text behind those before it
-pub fit-at : (text : List ℕ) (ks : List Kept) (n : ℕ) (k : Kept) → AllFit text ks → n < length ks → k ≡ get_or ks n k → Fits (made text (take n ks)) k
+pub fit-at : (text : List ℕ) (ks : List Kept) (n : ℕ) (k : Kept) → AllFit text ks → n < length ks → k ≡ get_or ks n k → KeptFits (made text (take n ks)) k
 fit-at text ks n k h lt is =
     let P : List Kept → Type 0 = AllFit text in
     let Q : List Kept → Type 0 = AllFit (made text (take n ks)) in
@@ -223,9 +223,9 @@ fit-at text ks n k h lt is =
 pub made-more : (text : List ℕ) (ks : List Kept) (n : ℕ) (k : Kept) → n < length ks → k ≡ get_or ks n k → made text (take (n + 1) ks) ≡ changed (made text (take n ks)) (flat (made text (take n ks)) k)
 made-more text ks n k lt is = ap (made text) (take_more ks n k lt ∙ ap (λ x. take n ks ++ x ∷ []) (sym is)) ∙ made-append text (take n ks) (k ∷ [])
 
-pub shifts-more : (text : List ℕ) (ks : List Kept) (n : ℕ) (k : Kept) → n < length ks → k ≡ get_or ks n k → shifts_of text (flats text (take (n + 1) ks)) ≡ shifts_of text (flats text (take n ks)) ++ shift_of (made text (take n ks)) (flat (made text (take n ks)) k) ∷ []
+pub shifts-more : (text : List ℕ) (ks : List Kept) (n : ℕ) (k : Kept) → n < length ks → k ≡ get_or ks n k → change_shifts text (flats text (take (n + 1) ks)) ≡ change_shifts text (flats text (take n ks)) ++ shift_of (made text (take n ks)) (flat (made text (take n ks)) k) ∷ []
 shifts-more text ks n k lt is =
-    ap (λ x. shifts_of text (flats text x)) (take_more ks n k lt ∙ ap (λ x. take n ks ++ x ∷ []) (sym is)) ∙ ap (shifts_of text) (flats-append text (take n ks) (k ∷ [])) ∙ shifts_of-append text (flats text (take n ks)) (flat (made text (take n ks)) k ∷ []) ∙ ap (λ t. shifts_of text (flats text (take n ks)) ++ shift_of t (flat (made text (take n ks)) k) ∷ []) (sym (made-flats text (take n ks)))
+    ap (λ x. change_shifts text (flats text x)) (take_more ks n k lt ∙ ap (λ x. take n ks ++ x ∷ []) (sym is)) ∙ ap (change_shifts text) (flats-append text (take n ks) (k ∷ [])) ∙ shifts_of-append text (flats text (take n ks)) (flat (made text (take n ks)) k ∷ []) ∙ ap (λ t. change_shifts text (flats text (take n ks)) ++ shift_of t (flat (made text (take n ks)) k) ∷ []) (sym (made-flats text (take n ks)))
 
 -- one kept change less
 pub backs-more : (text : List ℕ) (ks : List Kept) (n m : ℕ) (k : Kept) → n + 1 ≡ m → n < length ks → k ≡ get_or ks n k → backs text (drop n ks) ≡ backs text (drop m ks) ++ flat_back (all_changed text (backs text (drop m ks))) k ∷ []
@@ -235,9 +235,9 @@ pub text_back-more : (text : List ℕ) (ks : List Kept) (n m : ℕ) (k : Kept) �
 text_back-more text ks n m k e lt is =
     ap (all_changed text) (backs-more text ks n m k e lt is) ∙ all_changed-append text (backs text (drop m ks)) (flat_back (all_changed text (backs text (drop m ks))) k ∷ [])
 
-pub shifts_back-more : (text : List ℕ) (ks : List Kept) (n m : ℕ) (k : Kept) → n + 1 ≡ m → n < length ks → k ≡ get_or ks n k → shifts_of text (backs text (drop n ks)) ≡ shifts_of text (backs text (drop m ks)) ++ shift_of (all_changed text (backs text (drop m ks))) (flat_back (all_changed text (backs text (drop m ks))) k) ∷ []
+pub shifts_back-more : (text : List ℕ) (ks : List Kept) (n m : ℕ) (k : Kept) → n + 1 ≡ m → n < length ks → k ≡ get_or ks n k → change_shifts text (backs text (drop n ks)) ≡ change_shifts text (backs text (drop m ks)) ++ shift_of (all_changed text (backs text (drop m ks))) (flat_back (all_changed text (backs text (drop m ks))) k) ∷ []
 shifts_back-more text ks n m k e lt is =
-    ap (shifts_of text) (backs-more text ks n m k e lt is) ∙ shifts_of-append text (backs text (drop m ks)) (flat_back (all_changed text (backs text (drop m ks))) k ∷ [])
+    ap (change_shifts text) (backs-more text ks n m k e lt is) ∙ shifts_of-append text (backs text (drop m ks)) (flat_back (all_changed text (backs text (drop m ks))) k ∷ [])
 
 -- behind some kept changes taken back, those before them were made
 pub is_made-back : (text : List ℕ) (ks : List Kept) (n m : ℕ) (k : Kept) → IsMade text ks → n + 1 ≡ m → n < length ks → k ≡ get_or ks n k → IsMade (all_changed text (backs text (drop m ks))) (k ∷ [])
@@ -254,9 +254,9 @@ is_made-back text ks n m k h e lt is =
     }
 
 -- a change that was taken back fits again
-pub back-fits : (text : List ℕ) (k : Kept) → IsMade text (k ∷ []) → Fits (changed text (flat_back text k)) k
+pub back-fits : (text : List ℕ) (k : Kept) → IsMade text (k ∷ []) → KeptFits (changed text (flat_back text k)) k
 back-fits text k h =
-    let P : List ℕ → Type 0 = λ t. Fits (changed t (flat_back t k)) k in
-    let Q : List ℕ → Type 0 = λ t. Fits t k in
+    let P : List ℕ → Type 0 = λ t. KeptFits (changed t (flat_back t k)) k in
+    let Q : List ℕ → Type 0 = λ t. KeptFits t k in
     let back : changed (changed h.before (flat h.before k)) (flat_back (changed h.before (flat h.before k)) k) ≡ h.before = ap (changed (changed h.before (flat h.before k))) (flat_back-is h.before k h.fit.0) ∙ changed-inverse h.before (flat h.before k) h.fit.0.step.inside in
     subst P (sym h.is_made) (subst Q (sym back) h.fit.0)

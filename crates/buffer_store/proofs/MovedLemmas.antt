@@ -13,8 +13,8 @@ use Rattle.undo_model.specs.Kept.{IsStory, IsHeir}
 use Rattle.undo_model.proofs.TreeLemmas.{same-text, with_heir-same, remembering-one_up, remembering-one_down}
 use Rattle.undo_model.proofs.StoryLemmas.{went-story, undone-goes}
 use Rattle.buffer_store.specs.Stored.{AllFit, made, backs}
-use Rattle.buffer_store.specs.Seen.{Branch, branch_at, nodes_of, story_from, story_of, IsTold}
-use Rattle.buffer_store.specs.Laws.{aimed_branch, Tells}
+use Rattle.buffer_store.specs.Seen.{Branch, branch_at, nodes_of, story_from, story_kept, IsTold}
+use Rattle.buffer_store.specs.Laws.{aimed_branch, TellsStory}
 use Rattle.buffer_store.proofs.MakingLemmas.{backs-undoing}
 use Rattle.buffer_store.proofs.SeenLemmas.{nodes-long, node-parent, node-heir, node-text, nodes-with_heir, told-story}
 
@@ -60,7 +60,7 @@ told-stepped text new bs current saved p child n h lt t story = record {
         subst (λ (ks : List Kept). P (node_at (nodes_of h.opening (set bs p (aimed_branch (branch_at bs p) child))) (branch_at (set bs p (aimed_branch (branch_at bs p) child)) m).parent).text ks) (sym (aimed-changes bs p child m lt)) (subst (λ (x : List ℕ). P x (branch_at bs m).changes) (sym from) (h.fits m q there))
 
 -- a step to a node whose number is there, when the nodes remember it so
-stepped : (text new : List ℕ) (bs : List Branch) (current saved p child n : ℕ) (h : IsTold text bs current saved None) → p < length bs → n < length bs → new ≡ (node_at (nodes_of h.opening bs) n).text → with_heir p child (nodes_of h.opening bs) ≡ (went_to n (story_from h.opening text bs current saved None)).nodes → Tells new (set bs p (aimed_branch (branch_at bs p) child)) n saved None (went_to n (story_from h.opening text bs current saved None))
+stepped : (text new : List ℕ) (bs : List Branch) (current saved p child n : ℕ) (h : IsTold text bs current saved None) → p < length bs → n < length bs → new ≡ (node_at (nodes_of h.opening bs) n).text → with_heir p child (nodes_of h.opening bs) ≡ (went_to n (story_from h.opening text bs current saved None)).nodes → TellsStory new (set bs p (aimed_branch (branch_at bs p) child)) n saved None (went_to n (story_from h.opening text bs current saved None))
 unfolding told-stepped
 stepped text new bs current saved p child n h lp ln t nodes =
     let o : List ℕ = h.opening in
@@ -83,7 +83,7 @@ text-up text bs current saved h p =
     ap (λ x. all_changed x (backs x (branch_at bs current).changes)) (h.text_is ∙ node-text o bs current there below) ∙ (backs-undoing (node_at (nodes_of o bs) (branch_at bs current).parent).text (branch_at bs current).changes (h.fits current p there)).1
 
 -- undo
-pub told-undone : (text : List ℕ) (bs : List Branch) (current saved : ℕ) → IsTold text bs current saved None → 0 < current → Tells (all_changed text (backs text (branch_at bs current).changes)) (set bs (branch_at bs current).parent (aimed_branch (branch_at bs (branch_at bs current).parent) current)) (branch_at bs current).parent saved None (undone (story_of text bs current saved None))
+pub told-undone : (text : List ℕ) (bs : List Branch) (current saved : ℕ) → IsTold text bs current saved None → 0 < current → TellsStory (all_changed text (backs text (branch_at bs current).changes)) (set bs (branch_at bs current).parent (aimed_branch (branch_at bs (branch_at bs current).parent) current)) (branch_at bs current).parent saved None (undone (story_kept text bs current saved None))
 told-undone text bs current saved h p =
     let o : List ℕ = h.opening in
     let s : Story = story_from o text bs current saved None in
@@ -92,14 +92,14 @@ told-undone text bs current saved h p =
     let parent : (node_at (nodes_of o bs) current).parent ≡ (branch_at bs current).parent = node-parent o bs current there in
     let below : (branch_at bs current).parent < current = omega (arith, (h.story.tree.children current p h.story.current).below, parent) in
     let nodes : with_heir (branch_at bs current).parent current (nodes_of o bs) ≡ (went_to (branch_at bs current).parent s).nodes = sym (remembering-one_up (current + (branch_at bs current).parent) (nodes_of o bs) current (branch_at bs current).parent (omega arith) parent below) in
-    let goes : went_to (branch_at bs current).parent s ≡ undone (story_of text bs current saved None) = ap (λ m. went_to m s) (sym parent) ∙ sym (undone-goes s h.story p) ∙ ap undone (sym (told-story text bs current saved None h)) in
+    let goes : went_to (branch_at bs current).parent s ≡ undone (story_kept text bs current saved None) = ap (λ m. went_to m s) (sym parent) ∙ sym (undone-goes s h.story p) ∙ ap undone (sym (told-story text bs current saved None h)) in
     let new : List ℕ = all_changed text (backs text (branch_at bs current).changes) in
     let bs' : List Branch = set bs (branch_at bs current).parent (aimed_branch (branch_at bs (branch_at bs current).parent) current) in
-    let P : Story → Type 0 = λ x. Tells new bs' (branch_at bs current).parent saved None x in
+    let P : Story → Type 0 = λ x. TellsStory new bs' (branch_at bs current).parent saved None x in
     subst P goes (stepped text new bs current saved (branch_at bs current).parent current (branch_at bs current).parent h (omega arith) (omega arith) (text-up text bs current saved h p) nodes)
 
 -- redo
-pub told-redone : (text : List ℕ) (bs : List Branch) (current saved n : ℕ) → IsTold text bs current saved None → (branch_at bs current).heir ≡ Some n → Tells (made text (branch_at bs n).changes) (set bs current (aimed_branch (branch_at bs current) n)) n saved None (redone (story_of text bs current saved None))
+pub told-redone : (text : List ℕ) (bs : List Branch) (current saved n : ℕ) → IsTold text bs current saved None → (branch_at bs current).heir ≡ Some n → TellsStory (made text (branch_at bs n).changes) (set bs current (aimed_branch (branch_at bs current) n)) n saved None (redone (story_kept text bs current saved None))
 told-redone text bs current saved n h e =
     let o : List ℕ = h.opening in
     let s : Story = story_from o text bs current saved None in
@@ -113,6 +113,6 @@ told-redone text bs current saved n h e =
     let below : current < n = omega (arith, (h.story.tree.children n k.isnt_root k.is_there).below, k.is_child) in
     let text_is : made text (branch_at bs n).changes ≡ (node_at (nodes_of o bs) n).text = ap (λ x. made x (branch_at bs n).changes) (h.text_is ∙ ap (λ m. (node_at (nodes_of o bs) m).text) (sym parent)) ∙ sym (node-text o bs n inside (omega arith)) in
     let nodes : with_heir current n (nodes_of o bs) ≡ (went_to n s).nodes = sym (remembering-one_down (current + n) (nodes_of o bs) current n (omega arith) k.is_child below) in
-    let goes : went_to n s ≡ redone (story_of text bs current saved None) = ap (λ x. went_on x s) (sym heir) ∙ ap redone (sym (told-story text bs current saved None h)) in
-    let Q : Story → Type 0 = λ x. Tells (made text (branch_at bs n).changes) (set bs current (aimed_branch (branch_at bs current) n)) n saved None x in
+    let goes : went_to n s ≡ redone (story_kept text bs current saved None) = ap (λ x. went_on x s) (sym heir) ∙ ap redone (sym (told-story text bs current saved None h)) in
+    let Q : Story → Type 0 = λ x. TellsStory (made text (branch_at bs n).changes) (set bs current (aimed_branch (branch_at bs current) n)) n saved None x in
     subst Q goes (stepped text (made text (branch_at bs n).changes) bs current saved current n n h there inside text_is nodes)

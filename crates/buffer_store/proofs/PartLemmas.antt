@@ -14,7 +14,7 @@ use Rattle.undo_model.specs.declared.TheConstants.{MAX_NODES}
 use Rattle.undo_model.specs.Steps.{AreSteps}
 use Rattle.undo_model.specs.Stories.{Story, pending, is_own, added, committed, edited, is_undo_full, nodes_due}
 use Rattle.undo_model.proofs.StoryLemmas.{committed-text}
-use Rattle.buffer_store.specs.Stored.{shifts_of}
+use Rattle.buffer_store.specs.Stored.{change_shifts}
 use Rattle.buffer_store.specs.Histories.{IsWholly, IsPartly}
 use Rattle.buffer_store.proofs.MakingLemmas.{shifts_of-append}
 
@@ -67,7 +67,7 @@ partly-none who cs old new before after e f = record { made = 0; story = e; shif
 pub wholly-then : (who : ℕ) (cs ds : List Change) (old mid new : Story) (before between after : List Shift) → IsWholly who cs old mid before between → IsWholly who ds mid new between after → IsWholly who (cs ++ ds) old new before after
 wholly-then who cs ds old mid new before between after h k = record {
   story = k.story ∙ ap (edited who ds) h.story ∙ sym (edited-append who cs ds old);
-  shifts_are = k.shifts_are ∙ ap₂ (λ x t. x ++ shifts_of t ds) h.shifts_are (ap (λ (s : Story). s.text) h.story ∙ edited-text who cs old) ∙ append_assoc before (shifts_of old.text cs) (shifts_of (all_changed old.text cs) ds) ∙ ap (λ x. before ++ x) (sym (shifts_of-append old.text cs ds));
+  shifts_are = k.shifts_are ∙ ap₂ (λ x t. x ++ change_shifts t ds) h.shifts_are (ap (λ (s : Story). s.text) h.story ∙ edited-text who cs old) ∙ append_assoc before (change_shifts old.text cs) (change_shifts (all_changed old.text cs) ds) ∙ ap (λ x. before ++ x) (sym (shifts_of-append old.text cs ds));
 }
 
 -- all of them are some of them
@@ -77,7 +77,7 @@ wholly-partly who cs old new before after h =
     record {
       made = length cs;
       story = h.story ∙ ap (λ x. edited who x old) (sym all);
-      shifts_are = h.shifts_are ∙ ap (λ x. before ++ shifts_of old.text x) (sym all);
+      shifts_are = h.shifts_are ∙ ap (λ x. before ++ change_shifts old.text x) (sym all);
     }
   where
     take-all : (xs : List Change) → take (length xs) xs ≡ xs
@@ -92,7 +92,7 @@ wholly-then_partly who cs ds old mid new before between after h k =
     record {
       made = length cs + k.made;
       story = w.story ∙ ap (λ x. edited who x old) (sym some);
-      shifts_are = w.shifts_are ∙ ap (λ x. before ++ shifts_of old.text x) (sym some);
+      shifts_are = w.shifts_are ∙ ap (λ x. before ++ change_shifts old.text x) (sym some);
     }
   where
     take-both : (xs ys : List Change) (n : ℕ) → take (length xs + n) (xs ++ ys) ≡ xs ++ take n ys
@@ -108,7 +108,7 @@ partly-more who cs ds old new before after h =
     record {
       made = n;
       story = h.story ∙ ap (λ x. edited who x old) (sym same);
-      shifts_are = h.shifts_are ∙ ap (λ x. before ++ shifts_of old.text x) (sym same);
+      shifts_are = h.shifts_are ∙ ap (λ x. before ++ change_shifts old.text x) (sym same);
     }
 
 -- the first of some steps
@@ -143,7 +143,7 @@ edited-all who ss s new log old told e steps w =
       made = length cs;
       story = ap (λ x. (let b : Stored = record { story = x; log = log } in b)) (w.story ∙ ap (λ x. edited who x s) (sym (take-all cs)));
       steps = steps-take (length cs) s.text cs steps;
-      shifts_are = w.shifts_are ∙ ap (shifts_of s.text) (sym (take-all cs));
+      shifts_are = w.shifts_are ∙ ap (change_shifts s.text) (sym (take-all cs));
       all = take-all cs;
     })
   where

@@ -17,7 +17,7 @@ use Rattle.undo_model.specs.Edits.{Splice, AreInOrder, splice_changes, edit_chan
 use Rattle.undo_model.proofs.StepLemmas.{steps-stored}
 use Rattle.undo_model.proofs.EditLemmas.{edit-steps}
 use Rattle.buffer_store.specs.declared.edits.Splice.{Splice as CodeSplice}
-use Rattle.buffer_store.specs.declared.limits.Passed.{Passed}
+use Rattle.buffer_store.specs.declared.limits.PassedText.{PassedText}
 use Rattle.buffer_store.specs.Buffers.{AreSplicesOf, IsSpliceOf, flat_splice, flat_splices}
 use Rattle.buffer_store.specs.Limits.{added, begins_behind, IsPassed, CanPass}
 use Rattle.buffer_store.proofs.EditingLemmas.{tied-on, ends-at}
@@ -31,7 +31,7 @@ abbrev pub next_text : List ℕ → List ℕ → CodeSplice → List ℕ
 next_text old now s = all_changed now (splice_changes (length old) now (flat_splice old s))
 
 -- whether a line begins where it goes, as the code finds it
-abbrev pub begins_there : Passed → CodeSplice → Bool
+abbrev pub begins_there : PassedText → CodeSplice → Bool
 begins_there w s = cond (is_at_most s.from w.behind) w.begins (ltb 0 s.from.line && eqb s.from.column 0)
 
 -- a line begins behind an equal character
@@ -43,7 +43,7 @@ same-begin old now f t a h lt =
     ap (λ n. get_or old n 0) i ∙ sym (get_or-drop f old (a - 1 - f) 0) ∙ ap (λ xs. get_or xs (a - 1 - f) 0) h.same ∙ get_or-drop t now (a - 1 - f) 0 ∙ ap (λ n. get_or now n 0) j) in
     ap₂ (λ v x. v && eqb x 10) (lt-ltb 0 a (omega arith) ∙ sym (lt-ltb 0 (t + (a - f)) (omega arith))) here
 
-begins-is : (old now : List ℕ) (f : ℕ) (w : Passed) (s : CodeSplice) (h : IsPassed old now f w) → IsStored old → IsPlaceOrEnd old s.from → f ≤ offset old s.from → begins_there w s ≡ begins_line now (h.t + (offset old s.from - f))
+begins-is : (old now : List ℕ) (f : ℕ) (w : PassedText) (s : CodeSplice) (h : IsPassed old now f w) → IsStored old → IsPlaceOrEnd old s.from → f ≤ offset old s.from → begins_there w s ≡ begins_line now (h.t + (offset old s.from - f))
 begins-is old now f w s h stored place le =
     let a : ℕ = offset old s.from in
     let test : is_at_most s.from w.behind ≡ leb a f = ap₂ is_at_most (sym (coord_at-offset_or_end old s.from stored.is_text place)) h.behind_is ∙ order-coords old a f stored.is_text (offset-le old s.from place) h.tied.from_in in
@@ -87,12 +87,12 @@ begins-behind text new p q (c ∷ cs) k l e =
     sym (ap (λ v. v && eqb (get_or new (p + length s - 1) 0) 10) (lt-ltb 0 (p + length s) (omega arith)) ∙ ap (λ x. eqb x 10) last)
 
 -- what one replacement more does
-pub record Passes (old now : List ℕ) (w : Passed) (s : CodeSplice) : Type 0 where
+pub record Passes (old now : List ℕ) (w : PassedText) (s : CodeSplice) : Type 0 where
   pub taken : offset old s.to - offset old s.from ≤ length now
   pub long : length (next_text old now s) + (offset old s.to - offset old s.from) ≡ length now + added s.text (eqb s.to.line (length (lines_of old))) (begins_there w s)
   pub next : (chars : ℕ) → length (next_text old now s) ≤ MAX_CHARS → chars ≡ length (next_text old now s) → IsPassed old (next_text old now s) (offset old s.to) (record { behind = s.to; begins = eqb s.to.line (length (lines_of old)) || begins_behind s.text (begins_there w s); chars = chars })
 
-pub passes : (old now : List ℕ) (f : ℕ) (w : Passed) (s : CodeSplice) → IsStored old → IsPassed old now f w → IsPlaceOrEnd old s.from → IsPlaceOrEnd old s.to → f ≤ offset old s.from → offset old s.from ≤ offset old s.to → Passes old now w s
+pub passes : (old now : List ℕ) (f : ℕ) (w : PassedText) (s : CodeSplice) → IsStored old → IsPassed old now f w → IsPlaceOrEnd old s.from → IsPlaceOrEnd old s.to → f ≤ offset old s.from → offset old s.from ≤ offset old s.to → Passes old now w s
 passes old now f w s stored h fp tp low high =
     let n : ℕ = length old in
     let a : ℕ = offset old s.from in
@@ -167,7 +167,7 @@ passes old now f w s stored h fp tp low high =
         }
 
 -- how far the code has got, and what is left to decide
-pub record IsPassing (old : List ℕ) (ss : List CodeSplice) (i : ℕ) (w : Passed) : Type 0 where
+pub record IsPassing (old : List ℕ) (ss : List CodeSplice) (i : ℕ) (w : PassedText) : Type 0 where
   pub now : List ℕ
   pub f : ℕ
   pub passed : IsPassed old now f w
@@ -191,7 +191,7 @@ passing-first old ss n h a e = record {
 }
 
 -- the next replacement
-pub record IsPassingNext (old : List ℕ) (ss : List CodeSplice) (i : ℕ) (s : CodeSplice) (w : Passed) : Type 0 where
+pub record IsPassingNext (old : List ℕ) (ss : List CodeSplice) (i : ℕ) (s : CodeSplice) (w : PassedText) : Type 0 where
   pub passing : IsPassing old ss i w
   pub ends : IsSpliceOf old s
   pub behind : passing.f ≤ offset old s.from
@@ -199,7 +199,7 @@ pub record IsPassingNext (old : List ℕ) (ss : List CodeSplice) (i : ℕ) (s : 
   pub later : AreInOrder (offset old s.to) (length old) (flat_splices old (drop (i + 1) ss))
   pub whole : is_too_long (length old) old (flat_splices old ss) ≡ ltb MAX_CHARS (length (next_text old passing.now s)) || is_too_long (length old) (next_text old passing.now s) (flat_splices old (drop (i + 1) ss))
 
-pub passing-next : (old : List ℕ) (ss : List CodeSplice) (i : ℕ) (s : CodeSplice) (w : Passed) → AreSplicesOf old ss → i < length ss → s ≡ get_or ss i s → IsPassing old ss i w → IsPassingNext old ss i s w
+pub passing-next : (old : List ℕ) (ss : List CodeSplice) (i : ℕ) (s : CodeSplice) (w : PassedText) → AreSplicesOf old ss → i < length ss → s ≡ get_or ss i s → IsPassing old ss i w → IsPassingNext old ss i s w
 passing-next old ss i s w a lt e k =
     let cut : drop i ss ≡ s ∷ drop (i + 1) ss = drop_more ss i s lt ∙ ap (λ y. y ∷ drop (i + 1) ss) (sym e) in
     let rest : flat_splices old (drop i ss) ≡ flat_splice old s ∷ flat_splices old (drop (i + 1) ss) = ap (flat_splices old) cut in
@@ -213,13 +213,13 @@ passing-next old ss i s w a lt e k =
       whole = k.whole ∙ ap (is_too_long (length old) k.now) rest;
     }
 
-pub passing-can : (old : List ℕ) (ss : List CodeSplice) (i : ℕ) (s : CodeSplice) (w : Passed) → IsStored old → IsPassingNext old ss i s w → CanPass old w s
+pub passing-can : (old : List ℕ) (ss : List CodeSplice) (i : ℕ) (s : CodeSplice) (w : PassedText) → IsStored old → IsPassingNext old ss i s w → CanPass old w s
 passing-can old ss i s w h k = record { now = k.passing.now; f = k.passing.f; stored = h; passed = k.passing.passed; from = k.ends.from; «to» = k.ends.to; behind = k.behind; ordered = k.ordered }
 
-pub passing-full : (old : List ℕ) (ss : List CodeSplice) (i : ℕ) (s : CodeSplice) (w : Passed) (k : IsPassingNext old ss i s w) → MAX_CHARS < length (next_text old k.passing.now s) → is_too_long (length old) old (flat_splices old ss) ≡ true
+pub passing-full : (old : List ℕ) (ss : List CodeSplice) (i : ℕ) (s : CodeSplice) (w : PassedText) (k : IsPassingNext old ss i s w) → MAX_CHARS < length (next_text old k.passing.now s) → is_too_long (length old) old (flat_splices old ss) ≡ true
 passing-full old ss i s w k over = k.whole ∙ ap (λ v. v || is_too_long (length old) (next_text old k.passing.now s) (flat_splices old (drop (i + 1) ss))) (lt-ltb MAX_CHARS (length (next_text old k.passing.now s)) over)
 
-pub passing-more : (old : List ℕ) (ss : List CodeSplice) (i : ℕ) (s : CodeSplice) (w v : Passed) (k : IsPassingNext old ss i s w) → length (next_text old k.passing.now s) ≤ MAX_CHARS → IsPassed old (next_text old k.passing.now s) (offset old s.to) v → IsPassing old ss (i + 1) v
+pub passing-more : (old : List ℕ) (ss : List CodeSplice) (i : ℕ) (s : CodeSplice) (w v : PassedText) (k : IsPassingNext old ss i s w) → length (next_text old k.passing.now s) ≤ MAX_CHARS → IsPassed old (next_text old k.passing.now s) (offset old s.to) v → IsPassing old ss (i + 1) v
 passing-more old ss i s w v k small p = record {
   now = next_text old k.passing.now s;
   f = offset old s.to;
@@ -228,5 +228,5 @@ passing-more old ss i s w v k small p = record {
   whole = k.whole ∙ ap (λ u. u || is_too_long (length old) (next_text old k.passing.now s) (flat_splices old (drop (i + 1) ss))) (le-ltb MAX_CHARS (length (next_text old k.passing.now s)) small);
 }
 
-pub passing-all : (old : List ℕ) (ss : List CodeSplice) (i : ℕ) (w : Passed) → length ss ≤ i → IsPassing old ss i w → is_too_long (length old) old (flat_splices old ss) ≡ false
+pub passing-all : (old : List ℕ) (ss : List CodeSplice) (i : ℕ) (w : PassedText) → length ss ≤ i → IsPassing old ss i w → is_too_long (length old) old (flat_splices old ss) ≡ false
 passing-all old ss i w le k = k.whole ∙ ap (λ ys. is_too_long (length old) k.now (flat_splices old ys)) (drop_all i ss le)

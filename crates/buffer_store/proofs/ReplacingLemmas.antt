@@ -13,7 +13,7 @@ use Rattle.text_model.proofs.PlaceLemmas.{offset-below, offset-coord_at, coord_a
 use Rattle.text_model.proofs.ChangeLemmas.{IsText-append, IsText-drop, IsText-erased, taken_end-within, taken_end-inside, erasure-changes, exchange-changes, put_in-inside, replacement-plain, replacement-kept, replacement-inside}
 use Rattle.line_buffer.proofs.InsertLemmas.{place_by_line, end_by_line}
 use Rattle.undo_model.specs.Stories.{Story, edited, is_undo_full}
-use Rattle.buffer_store.specs.Stored.{shift_of, shifts_of}
+use Rattle.buffer_store.specs.Stored.{shift_of, change_shifts}
 use Rattle.buffer_store.specs.Histories.{IsWholly, IsBehind, end_of}
 use Rattle.buffer_store.proofs.PartLemmas.{edited-text, undo_full-behind, wholly-then}
 
@@ -62,7 +62,7 @@ can-go_in who at s old mid q h place k l e small full =
 
 -- both changes, with their shifts
 pub exchange-wholly : (who : ℕ) (at : Coord) (s : List ℕ) (old mid new : Story) (p q : ℕ) (before reserved between after : List Shift) (taken put : Option Shift) → CanGoIn who at s old mid p q → mid ≡ edited who (erasure old.text p q) old → new ≡ edited who (insertion mid.text (offset mid.text at) s) mid
-    → reserved ≡ before → between ≡ reserved ++ option_to_list taken → after ≡ between ++ option_to_list put → option_to_list taken ≡ shifts_of old.text (erasure old.text p q) → option_to_list put ≡ shifts_of mid.text (insertion mid.text (offset mid.text at) s)
+    → reserved ≡ before → between ≡ reserved ++ option_to_list taken → after ≡ between ++ option_to_list put → option_to_list taken ≡ change_shifts old.text (erasure old.text p q) → option_to_list put ≡ change_shifts mid.text (insertion mid.text (offset mid.text at) s)
     → IsWholly who (exchange old.text p q s) old new before after
 exchange-wholly who at s old mid new p q before reserved between after taken put c e f r b a ts ps =
     let first : IsWholly who (erasure old.text p q) old mid before between = record { story = e; shifts_are = b ∙ ap₂ (λ x y. x ++ y) r ts } in
@@ -70,18 +70,18 @@ exchange-wholly who at s old mid new p q before reserved between after taken put
     wholly-then who (erasure old.text p q) (insertion (erased old.text p q) p s) old mid new before between after first (subst (λ cs. IsWholly who cs mid new between after) c.same second)
 
 -- the end of what was put in
-put-end : (text : List ℕ) (p : ℕ) (r : List ℕ) (put : Option Shift) (at : Coord) → at ≡ coord_at text p → option_to_list put ≡ shifts_of text (insertion_of p r) → end_of at put ≡ coord_at (all_changed text (insertion_of p r)) (p + length r)
+put-end : (text : List ℕ) (p : ℕ) (r : List ℕ) (put : Option Shift) (at : Coord) → at ≡ coord_at text p → option_to_list put ≡ change_shifts text (insertion_of p r) → end_of at put ≡ coord_at (all_changed text (insertion_of p r)) (p + length r)
 put-end text p [] None at e h = let z : p + 0 ≡ p = omega arith in e ∙ ap (coord_at text) (sym z)
 put-end text p [] (Some s) at e h = cc
 put-end text p (c ∷ cs) None at e h = cc
 put-end text p (c ∷ cs) (Some s) at e h = let one : s ≡ shift_of text (Insertion p (c ∷ cs)) = cc in ap (λ (x : Shift). x.end) one
 
-pub exchange-behind : (who : ℕ) (at : Coord) (s : List ℕ) (old mid new : Story) (p q : ℕ) (put : Option Shift) → CanGoIn who at s old mid p q → new ≡ edited who (insertion mid.text (offset mid.text at) s) mid → option_to_list put ≡ shifts_of mid.text (insertion mid.text (offset mid.text at) s)
+pub exchange-behind : (who : ℕ) (at : Coord) (s : List ℕ) (old mid new : Story) (p q : ℕ) (put : Option Shift) → CanGoIn who at s old mid p q → new ≡ edited who (insertion mid.text (offset mid.text at) s) mid → option_to_list put ≡ change_shifts mid.text (insertion mid.text (offset mid.text at) s)
     → end_of at put ≡ coord_at new.text (p + length (put_in (erased old.text p q) p s))
 exchange-behind who at s old mid new p q put c f ps =
     let e : List ℕ = erased old.text p q in
     let text : new.text ≡ all_changed e (insertion e p s) = ap (λ (x : Story). x.text) f ∙ edited-text who (insertion mid.text (offset mid.text at) s) mid ∙ ap₂ all_changed c.text c.same in
-    let is : option_to_list put ≡ shifts_of e (insertion e p s) = ps ∙ ap₂ shifts_of c.text c.same in
+    let is : option_to_list put ≡ change_shifts e (insertion e p s) = ps ∙ ap₂ change_shifts c.text c.same in
     put-end e p (put_in e p s) put at c.at_is is ∙ ap (λ x. coord_at x (p + length (put_in e p s))) (sym text)
 
 and-false : (v : Bool) → v && false ≡ false

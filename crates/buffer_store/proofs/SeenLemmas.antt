@@ -8,7 +8,7 @@ use Rattle.text_model.proofs.CoordLemmas.{test_cases}
 use Rattle.undo_model.specs.Tree.{Node, root, node_at, aimed, with_heir}
 use Rattle.undo_model.specs.Kept.{IsTree}
 use Rattle.buffer_store.specs.Stored.{AllFit, flats, made, backs}
-use Rattle.buffer_store.specs.Seen.{Branch, Pending, branch_at, node_of, nodes_from, nodes_of, up_to_root, pending_changes, story_from, story_of, IsTold}
+use Rattle.buffer_store.specs.Seen.{Branch, Pending, branch_at, node_of, nodes_from, nodes_of, up_to_root, pending_changes, story_from, story_kept, IsTold}
 use Rattle.buffer_store.specs.Laws.{aimed_branch}
 use Rattle.buffer_store.proofs.MakingLemmas.{backs-undoing}
 
@@ -99,7 +99,7 @@ up-is_opening (suc k) o bs n t fits e h lt =
     ]
 
 -- so the story is the one from that text
-pub told-story : (text : List ℕ) (bs : List Branch) (current saved : ℕ) (group : Option Pending) (h : IsTold text bs current saved group) → story_of text bs current saved group ≡ story_from h.opening text bs current saved group
+pub told-story : (text : List ℕ) (bs : List Branch) (current saved : ℕ) (group : Option Pending) (h : IsTold text bs current saved group) → story_kept text bs current saved group ≡ story_from h.opening text bs current saved group
 told-story text bs current saved group h =
     let o : List ℕ = h.opening in
     let long : length (nodes_of o bs) ≡ length bs = omega (arith, nodes-long o [] bs) in

@@ -9,7 +9,7 @@ use Rattle.undo_model.specs.Stories.{Story, committed}
 use Rattle.undo_model.specs.Kept.{IsStory}
 use Rattle.undo_model.proofs.StoryLemmas.{opened-story, committed-story}
 use Rattle.buffer_store.specs.Stored.{AllFit, flats, made}
-use Rattle.buffer_store.specs.Seen.{Branch, Pending, branch_at, node_of, nodes_of, story_from, story_of, IsTold}
+use Rattle.buffer_store.specs.Seen.{Branch, Pending, branch_at, node_of, nodes_of, story_from, story_kept, IsTold}
 use Rattle.buffer_store.specs.Laws.{first_branch, committed_branch}
 use Rattle.buffer_store.proofs.SeenLemmas.{nodes-long, nodes-push, node-parent, other_default, told-story}
 
@@ -92,7 +92,7 @@ told-committed text bs current saved g h = record {
         ]
 
 -- seen from the text alone
-pub committed-seen : (text : List ℕ) (bs : List Branch) (current saved : ℕ) (g : Pending) → IsTold text bs current saved (Some g) → story_of text (bs ++ committed_branch current g ∷ []) (length bs) saved None ≡ committed (story_of text bs current saved (Some g))
+pub committed-seen : (text : List ℕ) (bs : List Branch) (current saved : ℕ) (g : Pending) → IsTold text bs current saved (Some g) → story_kept text (bs ++ committed_branch current g ∷ []) (length bs) saved None ≡ committed (story_kept text bs current saved (Some g))
 unfolding told-committed
 committed-seen text bs current saved g h =
     told-story text (bs ++ committed_branch current g ∷ []) (length bs) saved None (told-committed text bs current saved g h) ∙ committed-told text bs current saved g h ∙ ap committed (sym (told-story text bs current saved (Some g) h))

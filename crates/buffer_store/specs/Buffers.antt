@@ -16,7 +16,7 @@ use Rattle.buffer_store.specs.declared.edits.Splice.{Splice as CodeSplice}
 use Rattle.buffer_store.specs.declared.errors.BufferError.{BufferError}
 use Rattle.buffer_store.specs.declared.errors.MoveError.{MoveError}
 use Rattle.buffer_store.specs.declared.errors.MoveError.TheVariants.{AtRoot, NoChild, NoNode}
-use Rattle.buffer_store.specs.Stored.{shifts_of}
+use Rattle.buffer_store.specs.Stored.{change_shifts}
 
 -- a buffer: its story, and the shifts that were noted
 pub record Stored : Type 0 where
@@ -53,7 +53,7 @@ pub record IsEdited (who : ℕ) (cs : List Change) (r : Result (Unit {0}) Buffer
   pub made : ℕ
   pub story : new ≡ record old { story = edited who (take made cs) old.story }
   pub steps : AreSteps old.story.text (take made cs)
-  pub shifts_are : shifts ≡ shifts_of old.story.text (take made cs)
+  pub shifts_are : shifts ≡ change_shifts old.story.text (take made cs)
   pub all : OnOk r (take made cs ≡ cs)
 
 -- why a move leads nowhere
@@ -68,7 +68,7 @@ pub record IsBroken (cs : List Change) (old new : Stored) (shifts : List Shift) 
   pub made : ℕ
   pub steps : AreSteps old.story.text (take made cs)
   pub text : new.story.text ≡ all_changed old.story.text (take made cs)
-  pub shifts_are : shifts ≡ shifts_of old.story.text (take made cs)
+  pub shifts_are : shifts ≡ change_shifts old.story.text (take made cs)
   pub story : ((take made cs ≡ []) × (new.story ≡ committed old.story)) ⊎ (new.story ≡ forgotten new.story.text)
   pub whole : take made cs ≡ [] → new.story ≡ committed old.story
   pub log : new.log ≡ old.log

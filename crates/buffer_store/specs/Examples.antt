@@ -8,12 +8,12 @@ use Rattle.change_list.specs.declared.change.Change.{Change as Kept}
 use Rattle.undo_model.specs.declared.travel.Travel.TheVariants.{Node}
 use Rattle.undo_model.specs.Moves.{forgotten}
 use Rattle.undo_model.specs.Stories.{undone, is_modified}
-use Rattle.undo_model.specs.Examples.{typed, empty, one_node, two_children, at_the_first}
-use Rattle.buffer_store.specs.Stored.{flats, made, backs, shifts_of}
+use Rattle.undo_model.specs.Examples.{typed_at_begin, empty_story, one_node, two_children, at_the_first}
+use Rattle.buffer_store.specs.Stored.{flats, made, backs, change_shifts}
 use Rattle.buffer_store.specs.declared.edits.Splice.{Splice}
 use Rattle.buffer_store.specs.declared.errors.MoveError.TheVariants.{NoNode}
-use Rattle.buffer_store.specs.Seen.{Branch, story_of}
-use Rattle.buffer_store.specs.Traces.{trace, after}
+use Rattle.buffer_store.specs.Seen.{Branch, story_kept}
+use Rattle.buffer_store.specs.Traces.{trace, trace_after}
 use Rattle.buffer_store.specs.Walks.{way_changes, aimed_over}
 use Rattle.buffer_store.specs.Buffers.{changes_of, refusal_of}
 use Rattle.buffer_store.specs.Limits.{added}
@@ -22,8 +22,8 @@ abbrev pub at : ℕ → ℕ → Coord
 at line column = record { line = line; column = column }
 
 -- one character typed at the begin of an empty text, as it is kept
-abbrev pub typed_kept : ℕ → Kept
-typed_kept c = record { shift = record { insert = true; begin = at 0 0; «end» = at 0 1; last = at 0 1 }; chars = c ∷ [] }
+abbrev pub kept_letter : ℕ → Kept
+kept_letter c = record { shift = record { insert = true; begin = at 0 0; «end» = at 0 1; last = at 0 1 }; chars = c ∷ [] }
 
 -- the second line of a text of two taken out, as it is kept
 abbrev pub line_kept : Kept
@@ -31,7 +31,7 @@ line_kept = record { shift = record { insert = false; begin = at 1 0; «end» = 
 
 -- a branch of one typed character, from the root
 abbrev pub typed_branch : ℕ → Branch
-typed_branch c = record { parent = 0; heir = None; changes = typed_kept c ∷ [] }
+typed_branch c = record { parent = 0; heir = None; changes = kept_letter c ∷ [] }
 
 -- the root's branch
 abbrev pub root_branch : Branch
@@ -64,16 +64,16 @@ pub record Examples : Type 0 where
   pub line_by_offsets : flats (codes "a\nb\n") (line_kept ∷ []) ≡ Erasure 2 4 ∷ []
   pub line_taken : made (codes "a\nb\n") (line_kept ∷ []) ≡ codes "a\n"
   pub line_back : backs (codes "a\n") (line_kept ∷ []) ≡ Insertion 2 (codes "b\n") ∷ []
-  pub shift_back : shifts_of (codes "a\n") (Insertion 2 (codes "b\n") ∷ []) ≡ record { insert = true; begin = at 1 0; «end» = at 2 0; last = at 1 1 } ∷ []
-  pub last_back_first : backs (codes "ba\n") (typed_kept 97 ∷ typed_kept 98 ∷ []) ≡ Erasure 0 1 ∷ Erasure 0 1 ∷ []
-  pub pending_told : story_of (codes "a\n") (root_branch ∷ []) 0 0 (Some (record { owner = 0; changes = typed_kept 97 ∷ [] })) ≡ typed 0 97 empty
-  pub node_told : story_of (codes "a\n") (root_branch ∷ typed_branch 97 ∷ []) 1 0 None ≡ one_node
-  pub undo_told : story_of (codes "\n") (root_with 1 ∷ typed_branch 97 ∷ []) 0 0 None ≡ undone one_node
-  pub two_told : story_of (codes "b\n") (root_with 1 ∷ typed_branch 97 ∷ typed_branch 98 ∷ []) 2 0 None ≡ two_children
-  pub way_told : story_of (codes "a\n") (root_with 1 ∷ typed_branch 97 ∷ typed_branch 98 ∷ []) 1 0 None ≡ at_the_first
+  pub shift_back : change_shifts (codes "a\n") (Insertion 2 (codes "b\n") ∷ []) ≡ record { insert = true; begin = at 1 0; «end» = at 2 0; last = at 1 1 } ∷ []
+  pub last_back_first : backs (codes "ba\n") (kept_letter 97 ∷ kept_letter 98 ∷ []) ≡ Erasure 0 1 ∷ Erasure 0 1 ∷ []
+  pub pending_told : story_kept (codes "a\n") (root_branch ∷ []) 0 0 (Some (record { owner = 0; changes = kept_letter 97 ∷ [] })) ≡ typed_at_begin 0 97 empty_story
+  pub node_told : story_kept (codes "a\n") (root_branch ∷ typed_branch 97 ∷ []) 1 0 None ≡ one_node
+  pub undo_told : story_kept (codes "\n") (root_with 1 ∷ typed_branch 97 ∷ []) 0 0 None ≡ undone one_node
+  pub two_told : story_kept (codes "b\n") (root_with 1 ∷ typed_branch 97 ∷ typed_branch 98 ∷ []) 2 0 None ≡ two_children
+  pub way_told : story_kept (codes "a\n") (root_with 1 ∷ typed_branch 97 ∷ typed_branch 98 ∷ []) 1 0 None ≡ at_the_first
   pub way_back_and_on : way_changes (root_with 1 ∷ typed_branch 97 ∷ typed_branch 98 ∷ []) (codes "b\n") (2 ∷ []) (1 ∷ []) ≡ Erasure 0 1 ∷ Insertion 0 (codes "a") ∷ []
   pub last_heir_stays : aimed_over (root_branch ∷ typed_branch 97 ∷ typed_branch 98 ∷ []) (2 ∷ 1 ∷ []) ≡ root_with 1 ∷ typed_branch 97 ∷ typed_branch 98 ∷ []
-  pub both_noted : after (trace (codes "b\n") [] []) (Erasure 0 1 ∷ Insertion 0 (codes "a") ∷ []) ≡ trace (codes "a\n") (first_taken ∷ first_put ∷ []) (first_alone ∷ first_alone ∷ [])
+  pub both_noted : trace_after (trace (codes "b\n") [] []) (Erasure 0 1 ∷ Insertion 0 (codes "a") ∷ []) ≡ trace (codes "a\n") (first_taken ∷ first_put ∷ []) (first_alone ∷ first_alone ∷ [])
   pub by_coordinates : changes_of (codes "ab\ncd\n") (splice 0 1 (codes "xy") ∷ splice 1 1 (codes "\n") ∷ line_splice [] ∷ []) ≡ Erasure 0 1 ∷ Insertion 0 (codes "xy") ∷ Insertion 2 (codes "\n") ∷ Erasure 5 8 ∷ []
   pub nothing_is_no_change : changes_of (codes "ab\n") (splice 1 1 [] ∷ []) ≡ []
   pub stays_in_its_place : changes_of (codes "a\nb\n") (line_splice (codes "\n") ∷ []) ≡ Erasure 2 3 ∷ []

@@ -10,7 +10,7 @@ use Rattle.change_list.specs.declared.change.Change.{Change as Kept}
 use Rattle.selection_map.specs.Premises.{IsTied}
 use Rattle.undo_model.specs.Stories.{Story, edited}
 use Rattle.buffer_store.specs.declared.history.Pending.{Pending as CodePending}
-use Rattle.buffer_store.specs.Stored.{shifts_of}
+use Rattle.buffer_store.specs.Stored.{change_shifts}
 use Rattle.buffer_store.specs.Seen.{Branch, Pending, IsTold}
 
 -- a pending group of the code, as it is seen
@@ -43,26 +43,26 @@ other_group who None = None
 other_group who (Some g) = if g.owner == who then None else Some g
 
 -- an empty list with room for a change, and places for two branches behind so many that are taken
-pub record IsFresh (taken places : ℕ) (fresh : Vec Kept) : Type 0 where
+pub record IsFreshList (taken places : ℕ) (fresh : Vec Kept) : Type 0 where
   pub none : fresh.items ≡ []
   pub one : vec_len fresh < vec_capacity fresh
   pub two : taken + 2 ≤ places
 
 -- there is room for one change more of a client: in its pending group, or else in a fresh list for a group that begins
 abbrev pub HasRoom : ℕ → Option CodePending → ℕ → ℕ → Vec Kept → Type 0
-HasRoom who None taken places fresh = IsFresh taken places fresh
-HasRoom who (Some g) taken places fresh = MatchBool (g.owner == who) (vec_len g.changes < vec_capacity g.changes) (IsFresh taken places fresh)
+HasRoom who None taken places fresh = IsFreshList taken places fresh
+HasRoom who (Some g) taken places fresh = MatchBool (g.owner == who) (vec_len g.changes < vec_capacity g.changes) (IsFreshList taken places fresh)
 
 -- all of a client's changes were made, and their shifts were added to a list
 pub record IsWholly (who : ℕ) (cs : List Change) (old new : Story) (before after : List Shift) : Type 0 where
   pub story : new ≡ edited who cs old
-  pub shifts_are : after ≡ before ++ shifts_of old.text cs
+  pub shifts_are : after ≡ before ++ change_shifts old.text cs
 
 -- some of a client's changes were made, from the first on, and their shifts were added to a list
 pub record IsPartly (who : ℕ) (cs : List Change) (old new : Story) (before after : List Shift) : Type 0 where
   pub made : ℕ
   pub story : new ≡ edited who (take made cs) old
-  pub shifts_are : after ≡ before ++ shifts_of old.text (take made cs)
+  pub shifts_are : after ≡ before ++ change_shifts old.text (take made cs)
 
 -- the coordinate behind what was put in at one
 abbrev pub end_of : Coord → Option Shift → Coord

@@ -7,7 +7,7 @@ use Rattle.text_model.specs.Changes.{ended, begins_line, all_changed}
 use Rattle.selection_map.specs.Premises.{IsTied}
 use Rattle.undo_model.specs.Edits.{splice_changes}
 use Rattle.buffer_store.specs.declared.edits.Splice.{Splice as CodeSplice}
-use Rattle.buffer_store.specs.declared.limits.Passed.{Passed}
+use Rattle.buffer_store.specs.declared.limits.PassedText.{PassedText}
 use Rattle.buffer_store.specs.Buffers.{flat_splice}
 
 -- how many characters a replacement adds beside those that it takes: at the end of the text a newline is put in where it
@@ -23,7 +23,7 @@ begins_behind [] begins = begins
 begins_behind (c ∷ cs) begins = ends_in_newline (c ∷ cs)
 
 -- what is known of the text behind the replacements so far, the last of which ends at an offset of the old text
-pub record IsPassed (old now : List ℕ) (f : ℕ) (w : Passed) : Type 0 where
+pub record IsPassed (old now : List ℕ) (f : ℕ) (w : PassedText) : Type 0 where
   pub t : ℕ
   pub stored : IsStored now
   pub tied : IsTied old now f t
@@ -32,7 +32,7 @@ pub record IsPassed (old now : List ℕ) (f : ℕ) (w : Passed) : Type 0 where
   pub chars_is : w.chars ≡ length now
 
 -- there is such a text, and the next replacement comes behind those
-pub record CanPass (old : List ℕ) (w : Passed) (s : CodeSplice) : Type 0 where
+pub record CanPass (old : List ℕ) (w : PassedText) (s : CodeSplice) : Type 0 where
   pub now : List ℕ
   pub f : ℕ
   pub stored : IsStored old
@@ -43,7 +43,7 @@ pub record CanPass (old : List ℕ) (w : Passed) (s : CodeSplice) : Type 0 where
   pub ordered : offset old s.from ≤ offset old s.to
 
 -- the text behind one replacement more, as it is known then; or that text would be too long
-abbrev pub IsPassedTo : List ℕ → List ℕ → CodeSplice → Option Passed → Type 0
+abbrev pub IsPassedTo : List ℕ → List ℕ → CodeSplice → Option PassedText → Type 0
 IsPassedTo old now s result =
     MatchOption result
     (MAX_CHARS < length (all_changed now (splice_changes (length old) now (flat_splice old s))))

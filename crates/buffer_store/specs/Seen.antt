@@ -67,8 +67,8 @@ story_from opening text bs current saved group = record {
 }
 
 -- the story of what is kept
-abbrev pub story_of : List ℕ → List Branch → ℕ → ℕ → Option Pending → Story
-story_of text bs current saved group = story_from (up_to_root current bs current (all_changed text (backs text (pending_changes group)))) text bs current saved group
+abbrev pub story_kept : List ℕ → List Branch → ℕ → ℕ → Option Pending → Story
+story_kept text bs current saved group = story_from (up_to_root current bs current (all_changed text (backs text (pending_changes group)))) text bs current saved group
 
 -- what is kept tells a story: there is a first text from which all kept changes fit, and lead to the text
 pub record IsTold (text : List ℕ) (bs : List Branch) (current saved : ℕ) (group : Option Pending) : Type 0 where

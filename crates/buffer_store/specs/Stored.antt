@@ -29,12 +29,12 @@ shift_of text c = record {
 }
 
 -- the shifts of changes of a text, one after another
-abbrev pub shifts_of : List ℕ → List Change → List Shift
-shifts_of text [] = []
-shifts_of text (c ∷ cs) = shift_of text c ∷ shifts_of (changed text c) cs
+abbrev pub change_shifts : List ℕ → List Change → List Shift
+change_shifts text [] = []
+change_shifts text (c ∷ cs) = shift_of text c ∷ change_shifts (changed text c) cs
 
 -- a kept change fits a text that can be kept: it is a step of it, with that step's shift, and has the characters that go in or out
-pub record Fits (text : List ℕ) (k : Kept) : Type 0 where
+pub record KeptFits (text : List ℕ) (k : Kept) : Type 0 where
   pub stored : IsStored text
   pub step : IsStep text (flat text k)
   pub shift : IsShift text (changed text (flat text k)) k.shift (move_of text (flat text k))
@@ -43,7 +43,7 @@ pub record Fits (text : List ℕ) (k : Kept) : Type 0 where
 -- kept changes fit a text, one after another
 abbrev pub AllFit : List ℕ → List Kept → Type 0
 AllFit text [] = ⊤
-AllFit text (k ∷ ks) = Fits text k × AllFit (changed text (flat text k)) ks
+AllFit text (k ∷ ks) = KeptFits text k × AllFit (changed text (flat text k)) ks
 
 -- kept changes of a text, by offsets
 abbrev pub flats : List ℕ → List Kept → List Change
@@ -67,12 +67,12 @@ pub record IsMade (text : List ℕ) (ks : List Kept) : Type 0 where
   pub is_made : text ≡ made before ks
 
 -- a kept change of a text is the only one of a list, and leads to the new text
-pub record IsKept (old new : List ℕ) (cs : List Change) (k : Kept) : Type 0 where
-  pub fits : Fits old k
+pub record IsKeptAlone (old new : List ℕ) (cs : List Change) (k : Kept) : Type 0 where
+  pub fits : KeptFits old k
   pub is_change : cs ≡ flat old k ∷ []
   pub leads : new ≡ changed old (flat old k)
   pub made : IsMade new (k ∷ [])
 
 -- what is kept of at most one change of a text: none where there is none
 abbrev pub IsKeptStep : List ℕ → List ℕ → List Change → Option Kept → Type 0
-IsKeptStep old new cs kept = MatchOption kept ((cs ≡ []) × (new ≡ old)) (IsKept old new cs)
+IsKeptStep old new cs kept = MatchOption kept ((cs ≡ []) × (new ≡ old)) (IsKeptAlone old new cs)

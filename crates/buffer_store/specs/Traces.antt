@@ -6,7 +6,7 @@ use Rattle.text_model.specs.Changes.{Change, changed, all_changed}
 use Rattle.selection_set.specs.declared.sel.Sel.{Sel}
 use Rattle.move_marks.specs.Marking.{marks_of}
 use Rattle.undo_model.specs.Steps.{IsStep}
-use Rattle.buffer_store.specs.Stored.{shift_of, shifts_of}
+use Rattle.buffer_store.specs.Stored.{shift_of, change_shifts}
 
 -- a text, and the shifts and marks of changes that led to it
 pub record Trace : Type 0 where
@@ -18,15 +18,15 @@ abbrev pub trace : List ℕ → List Shift → List Sel → Trace
 trace text shifts marks = record { text = text; shifts = shifts; marks = marks }
 
 -- a trace behind changes of its text
-abbrev pub after : Trace → List Change → Trace
-after t cs = record { text = all_changed t.text cs; shifts = t.shifts ++ shifts_of t.text cs; marks = t.marks ++ marks_of t.text cs }
+abbrev pub trace_after : Trace → List Change → Trace
+trace_after t cs = record { text = all_changed t.text cs; shifts = t.shifts ++ change_shifts t.text cs; marks = t.marks ++ marks_of t.text cs }
 
 -- a trace is another one behind some changes of its text, from the first on
 pub record IsAfterSome (old : Trace) (cs : List Change) (new : Trace) : Type 0 where
   pub done : List Change
   pub left : List Change
   pub are : cs ≡ done ++ left
-  pub is_after : new ≡ after old done
+  pub is_after : new ≡ trace_after old done
 
 -- a text is the one right behind a step, and a shift is that of the step
 pub record IsRightBehind (old : List ℕ) (c : Change) (new : List ℕ) (shift : Shift) : Type 0 where

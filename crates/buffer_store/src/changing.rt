@@ -5,7 +5,7 @@ ghost use Rattle.text_model.specs.declared.TheConstants.{MAX_CHARS};
 ghost use Rattle.text_model.specs.Texts.{IsPlaceOrEnd, offset};
 ghost use Rattle.text_model.specs.Changes.{inserted, insertion, erasure};
 ghost use Rattle.undo_model.specs.Stories.{edited, is_undo_full};
-ghost use Rattle.buffer_store.specs.Stored.{shifts_of};
+ghost use Rattle.buffer_store.specs.Stored.{change_shifts};
 ghost use Rattle.buffer_store.specs.Histories.{seen_pending, committed_branches, committed_current, own_group, other_group, HasRoom};
 ghost use Rattle.buffer_store.specs.Laws.{one_pending};
 
@@ -30,7 +30,7 @@ impl History {
         requires room { length (inserted self.old.text (offset self.old.text at) chars.now) ≤ MAX_CHARS }
         requires nodes { is_undo_full who (insertion self.old.text (offset self.old.text at) chars.now) self.old ≡ false }
         ensures story { OnOk result (self.new ≡ edited who (insertion self.old.text (offset self.old.text at) chars.now) self.old) }
-        ensures shift { IfOk result (λ s. option_to_list s ≡ shifts_of self.old.text (insertion self.old.text (offset self.old.text at) chars.now)) }
+        ensures shift { IfOk result (λ s. option_to_list s ≡ change_shifts self.old.text (insertion self.old.text (offset self.old.text at) chars.now)) }
         ensures err { OnErr result (self.new ≡ self.old) }
     {
         if chars.is_empty() {
@@ -70,7 +70,7 @@ impl History {
         requires ordered { offset self.old.text from ≤ offset self.old.text to }
         requires nodes { is_undo_full who (erasure self.old.text (offset self.old.text from) (offset self.old.text to)) self.old ≡ false }
         ensures story { OnOk result (self.new ≡ edited who (erasure self.old.text (offset self.old.text from) (offset self.old.text to)) self.old) }
-        ensures shift { IfOk result (λ s. option_to_list s ≡ shifts_of self.old.text (erasure self.old.text (offset self.old.text from) (offset self.old.text to))) }
+        ensures shift { IfOk result (λ s. option_to_list s ≡ change_shifts self.old.text (erasure self.old.text (offset self.old.text from) (offset self.old.text to))) }
         ensures err { OnErr result (self.new ≡ self.old) }
     {
         if from == to {

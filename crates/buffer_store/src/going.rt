@@ -5,7 +5,7 @@ ghost use Rattle.undo_model.specs.declared.travel.Travel.TheVariants.{Undo, Redo
 ghost use Rattle.undo_model.specs.Stories.{went_to};
 ghost use Rattle.undo_model.specs.Moves.{target_in};
 ghost use Rattle.move_marks.specs.Marking.{IsLeftBy};
-ghost use Rattle.buffer_store.specs.Stored.{shifts_of};
+ghost use Rattle.buffer_store.specs.Stored.{change_shifts};
 ghost use Rattle.buffer_store.specs.Laws.{first_branch};
 ghost use Rattle.buffer_store.specs.Walks.{changes_from, IsBrokenOff};
 
@@ -41,7 +41,7 @@ impl History {
         requires there { node < length self.old.nodes }
         requires empty { shifts.old.items ≡ [] }
         ensures story { OnOk result (self.new ≡ went_to node self.old) }
-        ensures shifts { OnOk result (shifts.new.items ≡ shifts_of self.old.text (changes_from node self.old)) }
+        ensures shifts { OnOk result (shifts.new.items ≡ change_shifts self.old.text (changes_from node self.old)) }
         ensures list { IfOk result (λ list. MatchOption list (changes_from node self.old ≡ []) (IsLeftBy self.old.text (changes_from node self.old))) }
         ensures broken { OnErr result (IsBrokenOff (changes_from node self.old) self.old self.new shifts.new.items) }
     {

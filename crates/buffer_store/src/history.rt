@@ -52,10 +52,10 @@ impl Model for History {
 
     ghost Value = { Story };
 
-    ghost use Rattle.buffer_store.specs.Seen.{story_of};
+    ghost use Rattle.buffer_store.specs.Seen.{story_kept};
     ghost use Rattle.buffer_store.specs.Histories.{seen_pending, IsHistory};
 
-    ghost view = { λ h. story_of h.lines h.branches.items h.current h.saved (seen_pending h.pending) };
+    ghost view = { λ h. story_kept h.lines h.branches.items h.current h.saved (seen_pending h.pending) };
 
     ghost invariant = { λ h. IsHistory h.lines h.branches.items h.current h.saved (seen_pending h.pending) (vec_len h.branches) (vec_capacity h.branches) };
 }

@@ -19,7 +19,7 @@ use line_buffer::Lines;
 // What is known of the text behind some replacements: the coordinate in the old text behind the last of them, whether a
 // line begins behind what took its place, and how many characters there are.
 #[derive(Clone, Copy)]
-pub(crate) struct Passed {
+pub(crate) struct PassedText {
     pub(crate) behind: Coord,
     pub(crate) begins: bool,
     pub(crate) chars: usize,
@@ -41,7 +41,7 @@ pub(crate) fn is_too_long(lines: &Lines, splices: &[Splice]) -> bool
     requires { AreSplicesOf lines.now splices.now }
     ensures { result ≡ is_too_long (length lines.now) lines.now (flat_splices lines.now splices.now) }
 {
-    let mut at = Passed {
+    let mut at = PassedText {
         behind: Coord { line: 0, column: 0 },
         begins: false,
         chars: lines.len(),
@@ -101,7 +101,7 @@ fn taken_to(lines: &Lines, from: Coord, to: Coord) -> Coord
 }
 
 // Goes on to the text behind one replacement more, if it isn't too long.
-fn pass(lines: &Lines, at: Passed, splice: &Splice) -> Option<Passed>
+fn pass(lines: &Lines, at: PassedText, splice: &Splice) -> Option<PassedText>
     requires { CanPass lines.now at splice.now }
     ensures { (now : List ℕ) (f : ℕ) → IsPassed lines.now now f at → f ≤ offset lines.now splice.now.from → IsPassedTo lines.now now splice.now result }
 {
@@ -117,7 +117,7 @@ fn pass(lines: &Lines, at: Passed, splice: &Splice) -> Option<Passed>
     if more > room {
         return None;
     }
-    Some(Passed {
+    Some(PassedText {
         behind: splice.to,
         begins: at_end || begins_behind(chars, begins),
         chars: kept + more,
@@ -149,7 +149,7 @@ fn begins_behind(chars: &[char], begins: bool) -> bool
 }
 
 // Whether a line begins at a coordinate of the old text, in the text behind the replacements so far.
-fn begins_at(at: Passed, from: Coord) -> bool
+fn begins_at(at: PassedText, from: Coord) -> bool
     ensures { result ≡ (if is_at_most from at.behind then at.begins else (nat_lt 0 from.line && (from.column == 0))) }
 {
     if from.is_at_most(at.behind) {

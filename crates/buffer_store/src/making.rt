@@ -4,8 +4,8 @@ ghost use Rattle.std.specs.Prelude.{◌≡◌, ℕ, ◌+◌, ◌++◌, ◌⊎◌
 ghost use Rattle.text_model.specs.Texts.{IsStored, IsPlaceOrEnd, offset};
 ghost use Rattle.text_model.specs.Changes.{Insertion, Erasure, changed};
 ghost use Rattle.undo_model.specs.Steps.{IsStep};
-ghost use Rattle.buffer_store.specs.Stored.{turn, flat, flat_back, shift_of, Fits, AllFit, flats, backs, IsMade};
-ghost use Rattle.buffer_store.specs.Traces.{trace, after, IsAfterSome};
+ghost use Rattle.buffer_store.specs.Stored.{turn, flat, flat_back, shift_of, KeptFits, AllFit, flats, backs, IsMade};
+ghost use Rattle.buffer_store.specs.Traces.{trace, trace_after, IsAfterSome};
 
 use crate::marking::mark_of;
 use change_list::Change;
@@ -16,7 +16,7 @@ use std::alloc::{AllocError, Global};
 
 /// Makes a change that fits the text, and gives its shift. After an error the text is as it was.
 pub fn make(lines: &mut Lines, alloc: Global, change: &Change) -> Result<Shift, AllocError>
-    requires { Fits lines.old change.now }
+    requires { KeptFits lines.old change.now }
     ensures text { OnOk result (lines.new ≡ changed lines.old (flat lines.old change.now)) }
     ensures shift { IfOk result (λ s. s ≡ shift_of lines.old (flat lines.old change.now)) }
     ensures made { OnOk result (IsMade lines.new (change.now ∷ [])) }
@@ -38,7 +38,7 @@ pub fn take_back(lines: &mut Lines, alloc: Global, change: &Change) -> Result<Sh
     requires { IsMade lines.old (change.now ∷ []) }
     ensures text { OnOk result (lines.new ≡ changed lines.old (flat_back lines.old change.now)) }
     ensures shift { IfOk result (λ s. s ≡ shift_of lines.old (flat_back lines.old change.now)) }
-    ensures fits { OnOk result (Fits lines.new change.now) }
+    ensures fits { OnOk result (KeptFits lines.new change.now) }
     ensures err { OnErr result (lines.new ≡ lines.old) }
 {
     let shift = change.shift;
@@ -63,7 +63,7 @@ pub(crate) fn make_all(
 ) -> Result<(), AllocError>
     requires { AllFit lines.old changes.now }
     ensures ok { OnOk result (trace lines.new shifts.new.items marks.new.items
-        ≡ after (trace lines.old shifts.old.items marks.old.items) (flats lines.old changes.now)) }
+        ≡ trace_after (trace lines.old shifts.old.items marks.old.items) (flats lines.old changes.now)) }
     ensures err { OnErr result (IsAfterSome (trace lines.old shifts.old.items marks.old.items)
         (flats lines.old changes.now) (trace lines.new shifts.new.items marks.new.items)) }
 {
@@ -84,7 +84,7 @@ pub(crate) fn take_all_back(
 ) -> Result<(), AllocError>
     requires { IsMade lines.old changes.now }
     ensures ok { OnOk result (trace lines.new shifts.new.items marks.new.items
-        ≡ after (trace lines.old shifts.old.items marks.old.items) (backs lines.old changes.now)) }
+        ≡ trace_after (trace lines.old shifts.old.items marks.old.items) (backs lines.old changes.now)) }
     ensures err { OnErr result (IsAfterSome (trace lines.old shifts.old.items marks.old.items)
         (backs lines.old changes.now) (trace lines.new shifts.new.items marks.new.items)) }
 {
@@ -104,9 +104,9 @@ fn make_noted(
     shifts: &mut Vec<Shift>,
     marks: &mut Vec<Sel>,
 ) -> Result<(), AllocError>
-    requires { Fits lines.old change.now }
+    requires { KeptFits lines.old change.now }
     ensures ok { OnOk result (trace lines.new shifts.new.items marks.new.items
-        ≡ after (trace lines.old shifts.old.items marks.old.items) (flat lines.old change.now ∷ [])) }
+        ≡ trace_after (trace lines.old shifts.old.items marks.old.items) (flat lines.old change.now ∷ [])) }
     ensures err { OnErr result (trace lines.new shifts.new.items marks.new.items ≡ trace lines.old shifts.old.items marks.old.items) }
 {
     shifts.reserve(1)?;
@@ -128,7 +128,7 @@ fn take_back_noted(
 ) -> Result<(), AllocError>
     requires { IsMade lines.old (change.now ∷ []) }
     ensures ok { OnOk result (trace lines.new shifts.new.items marks.new.items
-        ≡ after (trace lines.old shifts.old.items marks.old.items) (flat_back lines.old change.now ∷ [])) }
+        ≡ trace_after (trace lines.old shifts.old.items marks.old.items) (flat_back lines.old change.now ∷ [])) }
     ensures err { OnErr result (trace lines.new shifts.new.items marks.new.items ≡ trace lines.old shifts.old.items marks.old.items) }
 {
     shifts.reserve(1)?;

@@ -4,7 +4,7 @@ ghost use Rattle.std.specs.Prelude.{◌≡◌, ◌⊎◌, [], None, Err, IfErr, 
 ghost use Rattle.undo_model.specs.Moves.{target_of, moved_by, move_changes};
 ghost use Rattle.move_marks.specs.Marking.{IsLeftBy};
 ghost use Rattle.buffer_store.specs.declared.errors.MoveError.TheVariants.{NoMemory};
-ghost use Rattle.buffer_store.specs.Stored.{shifts_of};
+ghost use Rattle.buffer_store.specs.Stored.{change_shifts};
 ghost use Rattle.buffer_store.specs.Buffers.{refusal_of, IsBroken};
 
 use crate::buffer::Buffer;
@@ -27,7 +27,7 @@ impl Buffer {
     ) -> Result<Option<Sels>, MoveError>
         requires { shifts.old.items ≡ [] }
         ensures ok { OnOk result (self.new ≡ record self.old { story = moved_by travel self.old.story }) }
-        ensures shifts { OnOk result (shifts.new.items ≡ shifts_of self.old.story.text (move_changes travel self.old.story)) }
+        ensures shifts { OnOk result (shifts.new.items ≡ change_shifts self.old.story.text (move_changes travel self.old.story)) }
         ensures left { IfOk result (λ left. MatchOption left (move_changes travel self.old.story ≡ []) (IsLeftBy self.old.story.text (move_changes travel self.old.story))) }
         ensures nowhere { target_of travel self.old.story ≡ None → (result ≡ Err (refusal_of travel)) × ((self.new ≡ record self.old { story = moved_by travel self.old.story }) × (shifts.new.items ≡ [])) }
         ensures refused { IfErr result (λ e. (e ≡ NoMemory) ⊎ (target_of travel self.old.story ≡ None)) }

@@ -4,10 +4,10 @@ ghost use Rattle.std.specs.Prelude.{◌≡◌, ℕ, ◌+◌, ◌<◌, List, [], 
 ghost use Rattle.text_model.specs.Changes.{all_changed};
 ghost use Rattle.undo_model.specs.Ways.{leaving, entering};
 ghost use Rattle.move_marks.specs.Marking.{IsLeftBy};
-ghost use Rattle.buffer_store.specs.Stored.{shifts_of};
+ghost use Rattle.buffer_store.specs.Stored.{change_shifts};
 ghost use Rattle.buffer_store.specs.Seen.{branch_at, nodes_of};
-ghost use Rattle.buffer_store.specs.Traces.{trace, after, IsAfterSome};
-ghost use Rattle.buffer_store.specs.Walks.{back_over, CanGoBack, on_over, CanGoOn, way_changes, CanGo, aimed_over, AreThere, IsBehindSome};
+ghost use Rattle.buffer_store.specs.Traces.{trace, trace_after, IsAfterSome};
+ghost use Rattle.buffer_store.specs.Walks.{back_over, CanGoBack, on_over, CanGoForth, way_changes, CanGoWay, aimed_over, AreThere, IsBehindSome};
 
 use crate::history::Branch;
 use crate::making::{make_all, take_all_back};
@@ -19,7 +19,7 @@ use std::alloc::{AllocError, Global};
 
 /// The nodes of a way: those that it leaves for their parents, and those that it then goes to from theirs, both in order.
 #[derive(Drop, Debug)]
-pub(crate) struct Way {
+pub(crate) struct NodeWay {
     pub(crate) left: Vec<u32>,
     pub(crate) entered: Vec<u32>,
 }
@@ -30,7 +30,7 @@ pub(crate) fn way_between(
     branches: &[Branch],
     from: u32,
     to: u32,
-) -> Result<Way, AllocError>
+) -> Result<NodeWay, AllocError>
     requires parents { (n : ℕ) → 0 < n → n < length branches.now → (branch_at branches.now n).parent < n }
     requires from { from < length branches.now }
     requires to { to < length branches.now }
@@ -53,7 +53,7 @@ pub(crate) fn way_between(
         below = branch.parent;
     }
     entered.reverse();
-    Ok(Way { left, entered })
+    Ok(NodeWay { left, entered })
 }
 
 /// Goes a way, by the nodes that it leaves and those that it goes to: takes the changes of the former back, makes those of the
@@ -68,9 +68,9 @@ pub(crate) fn walk(
     shifts: &mut Vec<Shift>,
 ) -> Result<Option<Sels>, AllocError>
     requires none { shifts.old.items ≡ [] }
-    requires can { CanGo branches.now lines.old left.now entered.now }
+    requires can { CanGoWay branches.now lines.old left.now entered.now }
     ensures text { OnOk result (lines.new ≡ all_changed lines.old (way_changes branches.now lines.old left.now entered.now)) }
-    ensures shifts { OnOk result (shifts.new.items ≡ shifts_of lines.old (way_changes branches.now lines.old left.now entered.now)) }
+    ensures shifts { OnOk result (shifts.new.items ≡ change_shifts lines.old (way_changes branches.now lines.old left.now entered.now)) }
     ensures list { IfOk result (λ list. MatchOption list (way_changes branches.now lines.old left.now entered.now ≡ [])
         (IsLeftBy lines.old (way_changes branches.now lines.old left.now entered.now))) }
     ensures broken { OnErr result (IsBehindSome (way_changes branches.now lines.old left.now entered.now) lines.old lines.new shifts.new.items) }
@@ -120,9 +120,9 @@ fn go(
     shifts: &mut Vec<Shift>,
     marks: &mut Vec<Sel>,
 ) -> Result<(), AllocError>
-    requires { CanGo branches.now lines.old left.now entered.now }
+    requires { CanGoWay branches.now lines.old left.now entered.now }
     ensures ok { OnOk result (trace lines.new shifts.new.items marks.new.items
-        ≡ after (trace lines.old shifts.old.items marks.old.items) (way_changes branches.now lines.old left.now entered.now)) }
+        ≡ trace_after (trace lines.old shifts.old.items marks.old.items) (way_changes branches.now lines.old left.now entered.now)) }
     ensures err { OnErr result (IsAfterSome (trace lines.old shifts.old.items marks.old.items)
         (way_changes branches.now lines.old left.now entered.now) (trace lines.new shifts.new.items marks.new.items)) }
 {
@@ -141,7 +141,7 @@ fn go_back(
 ) -> Result<(), AllocError>
     requires { CanGoBack branches.now lines.old nodes.now }
     ensures ok { OnOk result (trace lines.new shifts.new.items marks.new.items
-        ≡ after (trace lines.old shifts.old.items marks.old.items) (back_over branches.now lines.old nodes.now)) }
+        ≡ trace_after (trace lines.old shifts.old.items marks.old.items) (back_over branches.now lines.old nodes.now)) }
     ensures err { OnErr result (IsAfterSome (trace lines.old shifts.old.items marks.old.items)
         (back_over branches.now lines.old nodes.now) (trace lines.new shifts.new.items marks.new.items)) }
 {
@@ -161,9 +161,9 @@ fn go_on(
     shifts: &mut Vec<Shift>,
     marks: &mut Vec<Sel>,
 ) -> Result<(), AllocError>
-    requires { CanGoOn branches.now lines.old nodes.now }
+    requires { CanGoForth branches.now lines.old nodes.now }
     ensures ok { OnOk result (trace lines.new shifts.new.items marks.new.items
-        ≡ after (trace lines.old shifts.old.items marks.old.items) (on_over branches.now lines.old nodes.now)) }
+        ≡ trace_after (trace lines.old shifts.old.items marks.old.items) (on_over branches.now lines.old nodes.now)) }
     ensures err { OnErr result (IsAfterSome (trace lines.old shifts.old.items marks.old.items)
         (on_over branches.now lines.old nodes.now) (trace lines.new shifts.new.items marks.new.items)) }
 {

@@ -3,18 +3,18 @@ use Rattle.std.proofs.Common.{◌≡◌, ℕ, ◌+◌, ◌-◌, ◌≤◌, List,
 use Rattle.text_model.specs.declared.coords.Coord.{Coord}
 use Rattle.text_model.specs.declared.coords.Shift.{Shift}
 use Rattle.text_model.specs.Texts.{coord_at, last_place}
-use Rattle.text_model.specs.Changes.{Change, Insertion, Erasure, changed, inverse, IsInside, move_of, IsChange, IsShift}
+use Rattle.text_model.specs.Changes.{Change, Insertion, Erasure, changed, inverse, IsChangeInside, move_of, IsChange, IsShift}
 use Rattle.text_model.proofs.ChangeLemmas.{changed-inverse, IsInside-inverse, move_of-change}
 use Rattle.change_list.specs.Logs.{back}
 
 -- what a change does, its inverse does the other way
-back-change : (text : List ℕ) (c : Change) → IsInside text c → IsChange (move_of (changed text c) (inverse text c)).insert (changed text c) text (move_of (changed text c) (inverse text c)).begin (move_of (changed text c) (inverse text c)).end
+back-change : (text : List ℕ) (c : Change) → IsChangeInside text c → IsChange (move_of (changed text c) (inverse text c)).insert (changed text c) text (move_of (changed text c) (inverse text c)).begin (move_of (changed text c) (inverse text c)).end
 back-change text c h =
     let P : List ℕ → Type 0 = λ t. IsChange (move_of (changed text c) (inverse text c)).insert (changed text c) t (move_of (changed text c) (inverse text c)).begin (move_of (changed text c) (inverse text c)).end in
     subst P (changed-inverse text c h) (move_of-change (changed text c) (inverse text c) (IsInside-inverse text c h))
 
 -- the shift of the inverse
-pub IsShift-back : (text : List ℕ) (c : Change) (s : Shift) (last : Coord) → IsInside text c → IsShift text (changed text c) s (move_of text c) → last ≡ coord_at text (last_place text) → IsShift (changed text c) text (back s last) (move_of (changed text c) (inverse text c))
+pub IsShift-back : (text : List ℕ) (c : Change) (s : Shift) (last : Coord) → IsChangeInside text c → IsShift text (changed text c) s (move_of text c) → last ≡ coord_at text (last_place text) → IsShift (changed text c) text (back s last) (move_of (changed text c) (inverse text c))
 IsShift-back text (Insertion p cs) s last h k l = record {
   insert_is = ap not k.insert_is;
   change = back-change text (Insertion p cs) h;

@@ -3,7 +3,7 @@ use Rattle.std.specs.Prelude.{◌≡◌, ℕ, ◌+◌, ◌-◌, not, List, [], �
 use Rattle.text_model.specs.declared.coords.Coord.{Coord}
 use Rattle.text_model.specs.declared.coords.Shift.{Shift}
 use Rattle.text_model.specs.Texts.{coord_at, last_place}
-use Rattle.text_model.specs.Changes.{Change, changed, inverse, IsInside, move_of, IsShift}
+use Rattle.text_model.specs.Changes.{Change, changed, inverse, IsChangeInside, move_of, IsShift}
 
 -- a log as it is seen: the stamp of its first shift, and the shifts
 pub record Logged : Type 0 where
@@ -32,4 +32,4 @@ back s last = record { insert = not s.insert; begin = s.begin; «end» = s.end; 
 
 -- whatever change of a text the first is the shift of, the second is the shift of what takes it back
 abbrev pub TakesBack : Shift → Coord → Shift → Type 0
-TakesBack shift last result = (text : List ℕ) (c : Change) → IsInside text c → IsShift text (changed text c) shift (move_of text c) → last ≡ coord_at text (last_place text) → IsShift (changed text c) text result (move_of (changed text c) (inverse text c))
+TakesBack shift last result = (text : List ℕ) (c : Change) → IsChangeInside text c → IsShift text (changed text c) shift (move_of text c) → last ≡ coord_at text (last_place text) → IsShift (changed text c) text result (move_of (changed text c) (inverse text c))

@@ -11,8 +11,8 @@ abbrev pub wire : List ℕ → List ℕ → Wire
 wire received left = record { received = Some received; left = Some left; pauses = Some 1; read_faults = 0; outlet = record { told = Some []; faults = 0 } }
 
 -- a link that tells nothing, of which so many receivings failed
-abbrev pub untold : ℕ → Wire
-untold faults = record { received = None; left = None; pauses = None; read_faults = faults; outlet = record { told = None; faults = 0 } }
+abbrev pub untold_link : ℕ → Wire
+untold_link faults = record { received = None; left = None; pauses = None; read_faults = faults; outlet = record { told = None; faults = 0 } }
 
 -- two links that are to come
 abbrev pub first : Wire
@@ -36,11 +36,11 @@ itself link = link
 pub record Examples : Type 0 where
   -- 2 and 3 came behind 1 into a room of three bytes, of which the third is left open
   pub got : Hears (Got 2) (wire (1 ∷ []) (2 ∷ 3 ∷ 4 ∷ [])) (wire (1 ∷ 2 ∷ 3 ∷ []) (4 ∷ [])) (2 ∷ 3 ∷ 9 ∷ [])
-  pub got_untold : Hears (Got 1) (untold 0) (untold 0) (7 ∷ [])
+  pub got_untold : Hears (Got 1) (untold_link 0) (untold_link 0) (7 ∷ [])
   -- nothing has come yet, though 1 still will; behind it the other side has ended
   pub idle : Hears Idle (wire [] (1 ∷ [])) (wire [] (1 ∷ [])) (9 ∷ [])
   pub ended : Hears End (wire (1 ∷ []) []) (wire (1 ∷ []) []) (9 ∷ [])
-  pub counted : HearingIsCounted Failed (untold 3) (untold 4)
+  pub counted : HearingIsCounted Failed (untold_link 3) (untold_link 4)
   pub fresh : IsFresh (wire [] (1 ∷ []))
   -- a session is listened for, and the first link comes
   pub bound : Binds Up (shut_door []) (open_door 0 []) (115 ∷ [])
@@ -54,16 +54,16 @@ pub record Examples : Type 0 where
   pub paused_untold : HearingTakesPauses Idle None None
   -- no bytes are not bytes that came, nor are more than there was room for
   pub not_none : Hears (Got 0) (wire [] []) (wire [] []) [] → ⊥
-  pub no_room : Hears (Got 2) (untold 0) (untold 0) (7 ∷ []) → ⊥
+  pub no_room : Hears (Got 2) (untold_link 0) (untold_link 0) (7 ∷ []) → ⊥
   -- the end doesn't come before the last byte, and none is lost, while nothing has come either
   pub not_ended : Hears End (wire [] (1 ∷ [])) (wire [] (1 ∷ [])) [] → ⊥
   pub none_lost : Hears (Got 1) (wire [] (1 ∷ 2 ∷ [])) (wire (1 ∷ []) []) (1 ∷ []) → ⊥
   pub none_taken : Hears Idle (wire [] (1 ∷ [])) (wire (1 ∷ []) []) (1 ∷ []) → ⊥
   -- a fault is counted, and what is no fault isn't
-  pub no_fault : HearingIsCounted Idle (untold 3) (untold 4) → ⊥
-  pub not_uncounted : HearingIsCounted Failed (untold 3) (untold 3) → ⊥
+  pub no_fault : HearingIsCounted Idle (untold_link 3) (untold_link 4) → ⊥
+  pub not_uncounted : HearingIsCounted Failed (untold_link 3) (untold_link 3) → ⊥
   -- what wasn't told isn't told later
-  pub not_told : TellsNoMore (untold 0) (wire [] []) → ⊥
+  pub not_told : TellsNoMore (untold_link 0) (wire [] []) → ⊥
   pub not_fresh : IsFresh (wire (1 ∷ []) []) → ⊥
   -- no link comes where none is listened for, and none comes uncounted
   pub not_unasked : Comes {L = ℕ} (Came 5) (shut_door []) (shut_door []) → ⊥

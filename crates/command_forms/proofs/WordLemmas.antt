@@ -12,9 +12,9 @@ use Rattle.command_forms.specs.Names.{named}
 use Rattle.command_forms.specs.Orders.{order_named, order_after, order_of}
 use Rattle.command_forms.specs.Places.{Parts, parted}
 use Rattle.command_forms.specs.Results.{then_as}
-use Rattle.command_forms.specs.Switches.{Taken, begins_dash, switch_named, takes_word, behind, after_one, by_switch, taken}
+use Rattle.command_forms.specs.Switches.{TakenSwitches, begins_dash, switch_named, takes_word, behind_switches, after_one_switch, by_switch, taken}
 
-behind-one : (old : List Given) (g : Given) (rest : Result Taken OrderError) → then_as (behind old) (after_one g rest) ≡ then_as (behind (old ++ g ∷ [])) rest
+behind-one : (old : List Given) (g : Given) (rest : Result TakenSwitches OrderError) → then_as (behind_switches old) (after_one_switch g rest) ≡ then_as (behind_switches (old ++ g ∷ [])) rest
 behind-one old g (Ok t) = ap (λ gs. Ok (record { given = gs; words = t.words })) (sym (append_assoc old (g ∷ []) t.given))
 behind-one old g (Err e) = refl
 
@@ -22,34 +22,34 @@ map-word : {A : Type 0} (f : A → List ℕ) (xs : List A) (i : ℕ) (x : A) (w 
 map-word f xs i x w inside here is =
     ap (map f) (drop_more xs i x inside) ∙ ap (λ y. f y ∷ map f (drop (i + 1) xs)) (sym here) ∙ ap (λ v. v ∷ map f (drop (i + 1) xs)) (sym is)
 
-module _ {A : Type 0} (f : A → List ℕ) (xs : List A) (i : ℕ) (x : A) (w : List ℕ) (name : CommandName) (waiting : Option Switch) (switch : Switch) (old new : List Given) (all : Result Taken OrderError) where
+module _ {A : Type 0} (f : A → List ℕ) (xs : List A) (i : ℕ) (x : A) (w : List ℕ) (name : CommandName) (waiting : Option Switch) (switch : Switch) (old new : List Given) (all : Result TakenSwitches OrderError) where
   -- the word of a switch that waits for it
-  pub switch-word : i < length xs → x ≡ get_or xs i x → w ≡ f x → waiting ≡ Some switch → new ≡ old ++ record { switch = switch; word = w } ∷ [] → then_as (behind old) (taken name waiting (map f (drop i xs))) ≡ all → then_as (behind new) (taken name None (map f (drop (i + 1) xs))) ≡ all
+  pub switch-word : i < length xs → x ≡ get_or xs i x → w ≡ f x → waiting ≡ Some switch → new ≡ old ++ record { switch = switch; word = w } ∷ [] → then_as (behind_switches old) (taken name waiting (map f (drop i xs))) ≡ all → then_as (behind_switches new) (taken name None (map f (drop (i + 1) xs))) ≡ all
   switch-word inside here is waits pushed h =
       let rest : List (List ℕ) = map f (drop (i + 1) xs) in
-      ap (λ gs. then_as (behind gs) (taken name None rest)) pushed
+      ap (λ gs. then_as (behind_switches gs) (taken name None rest)) pushed
       ∙ sym (behind-one old (record { switch = switch; word = w }) (taken name None rest))
-      ∙ ap (λ v. then_as (behind old) (taken name v (w ∷ rest))) (sym waits)
-      ∙ ap (λ ws. then_as (behind old) (taken name waiting ws)) (sym (map-word f xs i x w inside here is)) ∙ h
+      ∙ ap (λ v. then_as (behind_switches old) (taken name v (w ∷ rest))) (sym waits)
+      ∙ ap (λ ws. then_as (behind_switches old) (taken name waiting ws)) (sym (map-word f xs i x w inside here is)) ∙ h
 
   -- a switch that no word goes with
-  pub switch-alone : i < length xs → x ≡ get_or xs i x → w ≡ f x → waiting ≡ None → begins_dash w ≡ true → bytes_eq w (codes "--") ≡ false → switch_named name w ≡ Some switch → takes_word switch ≡ false → new ≡ old ++ record { switch = switch; word = [] } ∷ [] → then_as (behind old) (taken name waiting (map f (drop i xs))) ≡ all → then_as (behind new) (taken name waiting (map f (drop (i + 1) xs))) ≡ all
+  pub switch-alone : i < length xs → x ≡ get_or xs i x → w ≡ f x → waiting ≡ None → begins_dash w ≡ true → bytes_eq w (codes "--") ≡ false → switch_named name w ≡ Some switch → takes_word switch ≡ false → new ≡ old ++ record { switch = switch; word = [] } ∷ [] → then_as (behind_switches old) (taken name waiting (map f (drop i xs))) ≡ all → then_as (behind_switches new) (taken name waiting (map f (drop (i + 1) xs))) ≡ all
   switch-alone inside here is waits dash goes_on found alone pushed h =
       let rest : List (List ℕ) = map f (drop (i + 1) xs) in
-      let next : Option Switch → Result Taken OrderError = λ v. taken name v rest in
-      let none : Result Taken OrderError = Ok (record { given = []; words = w ∷ rest }) in
-      let ended : Result Taken OrderError = Ok (record { given = []; words = rest }) in
-      let here_is : taken name None (w ∷ rest) ≡ after_one (record { switch = switch; word = [] }) (next None) =
+      let next : Option Switch → Result TakenSwitches OrderError = λ v. taken name v rest in
+      let none : Result TakenSwitches OrderError = Ok (record { given = []; words = w ∷ rest }) in
+      let ended : Result TakenSwitches OrderError = Ok (record { given = []; words = rest }) in
+      let here_is : taken name None (w ∷ rest) ≡ after_one_switch (record { switch = switch; word = [] }) (next None) =
       ap (λ b. cond (not b) none (cond (bytes_eq w (codes "--")) ended (by_switch (switch_named name w) w next))) dash
       ∙ ap (λ b. cond b ended (by_switch (switch_named name w) w next)) goes_on
       ∙ ap (λ s. by_switch s w next) found
-      ∙ ap (λ b. cond b (next (Some switch)) (after_one (record { switch = switch; word = [] }) (next None))) alone in
-      ap (λ gs. then_as (behind gs) (next waiting)) pushed
-      ∙ ap (λ v. then_as (behind (old ++ record { switch = switch; word = [] } ∷ [])) (next v)) waits
+      ∙ ap (λ b. cond b (next (Some switch)) (after_one_switch (record { switch = switch; word = [] }) (next None))) alone in
+      ap (λ gs. then_as (behind_switches gs) (next waiting)) pushed
+      ∙ ap (λ v. then_as (behind_switches (old ++ record { switch = switch; word = [] } ∷ [])) (next v)) waits
       ∙ sym (behind-one old (record { switch = switch; word = [] }) (next None))
-      ∙ ap (then_as (behind old)) (sym here_is)
-      ∙ ap (λ v. then_as (behind old) (taken name v (w ∷ rest))) (sym waits)
-      ∙ ap (λ ws. then_as (behind old) (taken name waiting ws)) (sym (map-word f xs i x w inside here is)) ∙ h
+      ∙ ap (then_as (behind_switches old)) (sym here_is)
+      ∙ ap (λ v. then_as (behind_switches old) (taken name v (w ∷ rest))) (sym waits)
+      ∙ ap (λ ws. then_as (behind_switches old) (taken name waiting ws)) (sym (map-word f xs i x w inside here is)) ∙ h
 
 -- a text that is parted at a place
 pub parted-at : (mark n : ℕ) (text before from behind : List ℕ) → position (λ c. c == mark) text ≡ Some n → before ≡ take n text → from ≡ drop n text → behind ≡ drop 1 from → parted mark text ≡ Some (record { before = before; behind = behind })

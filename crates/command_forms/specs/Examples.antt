@@ -12,13 +12,13 @@ use Rattle.command_forms.specs.declared.error.OrderError.TheVariants.{NoSuchComm
 use Rattle.command_forms.specs.Orders.{order_of}
 
 -- a text of words with a space between each two
-abbrev pub onto_first : ℕ → List (List ℕ) → List (List ℕ)
-onto_first c [] = (c ∷ []) ∷ []
-onto_first c (w ∷ ws) = (c ∷ w) ∷ ws
+abbrev pub onto_first_word : ℕ → List (List ℕ) → List (List ℕ)
+onto_first_word c [] = (c ∷ []) ∷ []
+onto_first_word c (w ∷ ws) = (c ∷ w) ∷ ws
 
 abbrev pub words : List ℕ → List (List ℕ)
 words [] = [] ∷ []
-words (c ∷ cs) = if c == 32 then [] ∷ words cs else onto_first c (words cs)
+words (c ∷ cs) = if c == 32 then [] ∷ words cs else onto_first_word c (words cs)
 
 abbrev pub order_in : List ℕ → Result Order OrderError
 order_in text = order_of (words text)
@@ -30,8 +30,8 @@ declaring type name values = Ok (order.Declare (record { kind = type; name = nam
 abbrev pub described : ℕ → ℕ → ℕ → ℕ → Described
 described al ac cl cc = record { anchor = record { line = al; column = ac }; cursor = record { line = cl; column = cc } }
 
-abbrev pub selecting : Columns → List Described → Result Order OrderError
-selecting columns ranges = Ok (order.Select (record { columns = columns; ranges = ranges }))
+abbrev pub selecting_order : Columns → List Described → Result Order OrderError
+selecting_order columns ranges = Ok (order.Select (record { columns = columns; ranges = ranges }))
 
 -- the table of examples
 pub record WorkedExamples : Type 0 where
@@ -90,9 +90,9 @@ pub record WorkedExamples : Type 0 where
   pub register_of_none : order_in (codes "set-register slash") ≡ Ok (order.SetRegister (record { name = codes "slash"; values = [] }))
   pub no_register : order_in (codes "reg") ≡ Err WrongArgumentCount
   -- selections
-  pub select : order_in (codes "select 1.2,3.04 5.6,1.1") ≡ selecting Bytes (described 1 2 3 4 ∷ described 5 6 1 1 ∷ [])
-  pub select_characters : order_in (codes "select -codepoint 1.2,3.4") ≡ selecting Characters (described 1 2 3 4 ∷ [])
-  pub select_far : order_in (codes "select 1.4294967295,4294967296.99999999999") ≡ selecting Bytes (described 1 4294967295 4294967295 4294967295 ∷ [])
+  pub select : order_in (codes "select 1.2,3.04 5.6,1.1") ≡ selecting_order Bytes (described 1 2 3 4 ∷ described 5 6 1 1 ∷ [])
+  pub select_characters : order_in (codes "select -codepoint 1.2,3.4") ≡ selecting_order Characters (described 1 2 3 4 ∷ [])
+  pub select_far : order_in (codes "select 1.4294967295,4294967296.99999999999") ≡ selecting_order Bytes (described 1 4294967295 4294967295 4294967295 ∷ [])
   pub select_none : order_in (codes "select") ≡ Err WrongArgumentCount
   pub select_zero : order_in (codes "select 1.1,1.2 1.00,1.1 x") ≡ Err (BadSelection (codes "1.00,1.1"))
   pub one_place : order_in (codes "select 1.1") ≡ Err (BadSelection (codes "1.1"))

@@ -15,7 +15,7 @@ use Rattle.command_forms.specs.declared.error.OrderError.{OrderError}
 use Rattle.command_forms.specs.declared.error.OrderError.TheVariants.{NoSuchCommand, WrongArgumentCount, BadValue}
 use Rattle.command_forms.specs.Results.{then_as, then_with}
 use Rattle.command_forms.specs.Names.{named}
-use Rattle.command_forms.specs.Switches.{Taken, is_given, taken}
+use Rattle.command_forms.specs.Switches.{TakenSwitches, is_given, taken}
 use Rattle.command_forms.specs.Arguments.{Headed, Paired, no_words, one_word, optional_word, headed, paired}
 use Rattle.command_forms.specs.Places.{descriptions}
 
@@ -40,14 +40,14 @@ value_words type [] = empty_value type
 value_words type (w ∷ ws) = w ∷ ws
 
 -- the declaration of an option of a type, if there is that type
-abbrev pub declared_as : Option OptionType → Paired → Result Order OrderError
-declared_as None words = Err BadValue
-declared_as (Some type) words =
+abbrev pub declaration_as : Option OptionType → Paired → Result Order OrderError
+declaration_as None words = Err BadValue
+declaration_as (Some type) words =
     Ok (order.Declare (record { kind = type; name = words.second; values = value_words type words.more }))
 
 -- declaring takes a type, a name and the words of a value
 abbrev pub declaration : List (List ℕ) → Result Order OrderError
-declaration ws = then_with (λ (p : Paired). declared_as (type_named p.first) p) (paired ws)
+declaration ws = then_with (λ (p : Paired). declaration_as (type_named p.first) p) (paired ws)
 
 -- setting takes a scope, a name and the words of a value
 abbrev pub setting : Bool → List (List ℕ) → Result Order OrderError
@@ -94,7 +94,7 @@ order_by name.Nop given ws = no_words order.Nothing ws
 
 -- the order of a command by the words behind its name: the switches are judged first
 abbrev pub order_after : CommandName → List (List ℕ) → Result Order OrderError
-order_after name ws = then_with (λ (t : Taken). order_by name t.given t.words) (taken name None ws)
+order_after name ws = then_with (λ (t : TakenSwitches). order_by name t.given t.words) (taken name None ws)
 
 -- the order of a command, if there is that command
 abbrev pub order_named : Option CommandName → List ℕ → List (List ℕ) → Result Order OrderError

@@ -1,15 +1,15 @@
 -- Selections as the words of commands describe them: `l.c,l.c`, anchor and cursor, in decimal numbers from 1.
 use Rattle.std.specs.Prelude.{ℕ, ◌+◌, ◌-◌, ◌*◌, ◌==◌, ◌&&◌, Bool, List, [], ◌∷◌, take, drop, min, nat_le, nat_lt, if◌then◌else◌, Option, Some, None, option_map, option_and_then, position, Result, Ok, Err}
 use Rattle.std.specs.List.{list_all}
-use Rattle.command_forms.specs.declared.places.Place.{Place}
+use Rattle.command_forms.specs.declared.places.ArgumentPlace.{ArgumentPlace}
 use Rattle.command_forms.specs.declared.places.Described.{Described}
 use Rattle.command_forms.specs.declared.error.OrderError.{OrderError}
 use Rattle.command_forms.specs.declared.error.OrderError.TheVariants.{BadSelection}
 use Rattle.command_forms.specs.Results.{then_as, then_with}
 
 -- the greatest number that a place has, 2^32 - 1; greater ones mean it
-abbrev pub greatest : ℕ
-greatest = 4294967295
+abbrev pub greatest_number : ℕ
+greatest_number = 4294967295
 
 -- whether a byte is a decimal digit
 abbrev pub is_digit : ℕ → Bool
@@ -23,7 +23,7 @@ value_on n (d ∷ ds) = value_on (n * 10 + (d - 48)) ds
 -- the number that a number and the digits behind it are, from 1 on; none where these aren't all digits
 abbrev pub number_from : ℕ → List ℕ → Option ℕ
 number_from n ds =
-    if list_all is_digit ds && nat_lt 0 (min (value_on n ds) greatest) then Some (min (value_on n ds) greatest) else None
+    if list_all is_digit ds && nat_lt 0 (min (value_on n ds) greatest_number) then Some (min (value_on n ds) greatest_number) else None
 
 -- the number that a text is, from 1 on
 abbrev pub number_of : List ℕ → Option ℕ
@@ -40,16 +40,16 @@ parted mark text =
     option_map (λ n. record { before = take n text; behind = drop (n + 1) text }) (position (λ c. c == mark) text)
 
 -- the place of two numbers
-abbrev pub place_by : Option ℕ → Option ℕ → Option Place
+abbrev pub place_by : Option ℕ → Option ℕ → Option ArgumentPlace
 place_by (Some line) (Some column) = Some (record { line = line; column = column })
 place_by _ _ = None
 
 -- the place that a text is: a line and a column with a point (46) between
-abbrev pub place_of : List ℕ → Option Place
+abbrev pub place_of : List ℕ → Option ArgumentPlace
 place_of text = option_and_then (λ (p : Parts). place_by (number_of p.before) (number_of p.behind)) (parted 46 text)
 
 -- the selection of two places
-abbrev pub described_by : Option Place → Option Place → Option Described
+abbrev pub described_by : Option ArgumentPlace → Option ArgumentPlace → Option Described
 described_by (Some anchor) (Some cursor) = Some (record { anchor = anchor; cursor = cursor })
 described_by _ _ = None
 

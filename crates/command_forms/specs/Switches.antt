@@ -46,35 +46,35 @@ abbrev pub is_given : Switch → List Given → Bool
 is_given switch given = list_any (λ (g : Given). is_same_switch g.switch switch) given
 
 -- the switches that were given, and the words behind them
-pub record Taken : Type 0 where
+pub record TakenSwitches : Type 0 where
   pub given : List Given
   pub words : List (List ℕ)
 
 -- with more switches before the others
-abbrev pub behind : List Given → Taken → Taken
-behind given taken = record { given = given ++ taken.given; words = taken.words }
+abbrev pub behind_switches : List Given → TakenSwitches → TakenSwitches
+behind_switches given taken = record { given = given ++ taken.given; words = taken.words }
 
 -- with one more switch before the others, if they were taken
-abbrev pub after_one : Given → Result Taken OrderError → Result Taken OrderError
-after_one given rest = then_as (behind (given ∷ [])) rest
+abbrev pub after_one_switch : Given → Result TakenSwitches OrderError → Result TakenSwitches OrderError
+after_one_switch given rest = then_as (behind_switches (given ∷ [])) rest
 
 -- what follows a word that is a switch, or isn't one of the command: the switch waits for the word that goes with it,
 -- or the next switch is taken
-abbrev pub by_switch : Option Switch → List ℕ → (Option Switch → Result Taken OrderError) → Result Taken OrderError
+abbrev pub by_switch : Option Switch → List ℕ → (Option Switch → Result TakenSwitches OrderError) → Result TakenSwitches OrderError
 by_switch None word next = Err (UnknownSwitch word)
 by_switch (Some switch) word next =
-    if takes_word switch then next (Some switch) else after_one (record { switch = switch; word = [] }) (next None)
+    if takes_word switch then next (Some switch) else after_one_switch (record { switch = switch; word = [] }) (next None)
 
 -- takes the switches of a command off its words; `waiting` is a switch whose word comes next. The word `--` ends them
-abbrev pub taken : CommandName → Option Switch → List (List ℕ) → Result Taken OrderError
+abbrev pub taken : CommandName → Option Switch → List (List ℕ) → Result TakenSwitches OrderError
 taken name None [] = Ok (record { given = []; words = [] })
 taken name (Some switch) [] = Err WrongArgumentCount
-taken name (Some switch) (w ∷ ws) = after_one (record { switch = switch; word = w }) (taken name None ws)
+taken name (Some switch) (w ∷ ws) = after_one_switch (record { switch = switch; word = w }) (taken name None ws)
 taken name None (w ∷ ws) =
     if not (begins_dash w) then Ok (record { given = []; words = w ∷ ws }) else
     (if bytes_eq w (codes "--") then Ok (record { given = []; words = ws }) else
     by_switch (switch_named name w) w (λ waiting. taken name waiting ws))
 
 -- these are the switches that a command is given by words, and the words behind them
-abbrev pub IsTaken : CommandName → List (List ℕ) → List Given → List (List ℕ) → Type 0
-IsTaken name ws given words = taken name None ws ≡ Ok (record { given = given; words = words })
+abbrev pub AreSwitchesTaken : CommandName → List (List ℕ) → List Given → List (List ℕ) → Type 0
+AreSwitchesTaken name ws given words = taken name None ws ≡ Ok (record { given = given; words = words })

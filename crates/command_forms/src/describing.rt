@@ -6,7 +6,7 @@ ghost use Rattle.command_forms.specs.Errors.{IsDue};
 
 use crate::arguments::text_of;
 use crate::error::OrderError;
-use crate::places::{Described, Descriptions, Place};
+use crate::places::{ArgumentPlace, Described, Descriptions};
 use std::alloc::{AllocError, Global};
 
 // Whether a byte is a decimal digit.
@@ -52,11 +52,11 @@ fn parted(text: &[u8], mark: u8) -> Option<(&[u8], &[u8])>
 }
 
 // The place that a text is.
-fn place_of(text: &[u8]) -> Option<Place>
+fn place_of(text: &[u8]) -> Option<ArgumentPlace>
     ensures { result ≡ place_of text.now }
 {
     let (line, column) = parted(text, b'.')?;
-    Some(Place {
+    Some(ArgumentPlace {
         line: number_of(line)?,
         column: number_of(column)?,
     })

@@ -14,6 +14,6 @@ pub mod switches;
 
 pub use error::OrderError;
 pub use laws::worked_examples;
-pub use order::{Declaration, OptionName, Order, RegisterValues, Setting};
-pub use places::{Columns, Described, Descriptions, Place, Selection};
+pub use order::{Declaration, OptionName, Order, RegisterValues, SettingOrder};
+pub use places::{ArgumentPlace, Columns, Described, Descriptions, Selection};
 pub use reading::read_order;

@@ -28,7 +28,7 @@ pub enum Order {
     /// Declare an option.
     Declare(Declaration),
     /// Set an option.
-    Set(Setting),
+    Set(SettingOrder),
     /// Take away what an option is set to at a scope.
     Unset(OptionName),
     /// Set a register.
@@ -59,7 +59,7 @@ pub struct OptionName {
 
 /// What an option is to be set to at a scope, or what is to be added to it there.
 #[derive(Drop, Debug)]
-pub struct Setting {
+pub struct SettingOrder {
     pub add: bool,
     pub option: OptionName,
     pub values: Words,

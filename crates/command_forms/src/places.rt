@@ -11,7 +11,7 @@ pub enum Columns {
 
 /// A place of a text: its line and its column, both from 1.
 #[derive(Clone, Copy, PartialEq, Eq, Debug)]
-pub struct Place {
+pub struct ArgumentPlace {
     pub line: u32,
     pub column: u32,
 }
@@ -19,8 +19,8 @@ pub struct Place {
 /// A selection by the places of its anchor and its cursor.
 #[derive(Clone, Copy, PartialEq, Eq, Debug)]
 pub struct Described {
-    pub anchor: Place,
-    pub cursor: Place,
+    pub anchor: ArgumentPlace,
+    pub cursor: ArgumentPlace,
 }
 
 /// Descriptions of selections. Contracts see the list of them.

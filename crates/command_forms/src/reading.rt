@@ -8,7 +8,7 @@ use crate::arguments::{headed, no_words, one_word, optional_word, paired, text_o
 use crate::describing::descriptions;
 use crate::error::OrderError;
 use crate::names::{CommandName, named};
-use crate::order::{Declaration, OptionName, Order, RegisterValues, Setting};
+use crate::order::{Declaration, OptionName, Order, RegisterValues, SettingOrder};
 use crate::places::{Columns, Selection};
 use crate::switches::{Given, Switch, is_given, take_switches};
 use byte_texts::Words;
@@ -84,7 +84,7 @@ fn setting(alloc: Global, add: bool, words: &[String]) -> Result<Order, OrderErr
     ensures refused { IfErr result (λ e. IsDue e (setting add (map (λ w. string_bytes w) words.now))) }
 {
     let (scope, name, values) = paired(words)?;
-    Ok(Order::Set(Setting {
+    Ok(Order::Set(SettingOrder {
         add,
         option: option_name(alloc, scope, name)?,
         values: words_of(alloc, values)?,

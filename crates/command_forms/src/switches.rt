@@ -2,7 +2,7 @@
 
 ghost use Rattle.std.specs.Prelude.{◌≡◌, ◌==◌, ◌++◌, ◌∷◌, [], map, string_bytes, slice_index, Ok, None, IfOk, IfErr, OnOk};
 ghost use Rattle.std.specs.List.{list_any};
-ghost use Rattle.command_forms.specs.Switches.{begins_dash, switch_named, declare_switch, takes_word, is_same_switch, is_given, taken, IsTaken};
+ghost use Rattle.command_forms.specs.Switches.{begins_dash, switch_named, declare_switch, takes_word, is_same_switch, is_given, taken, AreSwitchesTaken};
 ghost use Rattle.command_forms.specs.Errors.{IsDue};
 
 use crate::error::OrderError;
@@ -117,7 +117,7 @@ pub(crate) fn take_switches<'a>(
     name: CommandName,
     words: &'a [String],
 ) -> Result<Arguments<'a>, OrderError>
-    ensures taken { IfOk result (λ a. IsTaken name (map (λ w. string_bytes w) words.now) a.given.items (map (λ w. string_bytes w) a.words.now)) }
+    ensures taken { IfOk result (λ a. AreSwitchesTaken name (map (λ w. string_bytes w) words.now) a.given.items (map (λ w. string_bytes w) a.words.now)) }
     ensures refused { IfErr result (λ e. IsDue e (taken name None (map (λ w. string_bytes w) words.now))) }
 {
     let mut given = Vec::new(alloc);

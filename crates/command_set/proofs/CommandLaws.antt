@@ -15,18 +15,18 @@ use Rattle.command_forms.specs.Orders.{order_of}
 use Rattle.kak_registers.specs.declared.names.RegisterError.{RegisterError}
 use Rattle.kak_registers.specs.Names.{named}
 use Rattle.kak_registers.specs.Contents.{set_in as set_in_registers}
-use Rattle.kak_registers.specs.Refusals.{refusal_of}
+use Rattle.kak_registers.specs.Refusals.{register_refusal}
 use Rattle.scope_options.specs.declared.scope.Scope.{Scope}
 use Rattle.scope_options.specs.declared.scope.Scope.TheVariants.{Buffer as InBuffer}
 use Rattle.scope_options.specs.declared.setting.Setting.{Setting}
 use Rattle.scope_options.specs.declared.options.OptionError.{OptionError}
-use Rattle.scope_options.specs.Changes.{declare_in, set_in, unset_in}
+use Rattle.scope_options.specs.Changes.{declare_in, option_set_in, option_unset_in}
 use Rattle.kak_world.specs.declared.ask.Saving.{Saving}
 use Rattle.kak_world.specs.Flat.{Buffer, Flat, shown_of, name_of, units_of, registers_of, options_of, is_there, with_own, with_sels, with_options}
 use Rattle.kak_world.specs.Registers.{set_unless, set_row}
 use Rattle.kak_world.specs.Dropping.{KeepsJoined, dropped}
-use Rattle.kak_world.specs.Showing.{first_gap, placed, has_all_buffers, opened, shows}
-use Rattle.kak_world.specs.Saving.{is_named, number_from, number_named, unsaved_names, others_leave, saved_in}
+use Rattle.kak_world.specs.Showing.{first_gap, buffer_placed, has_all_buffers, buffer_opened, shows}
+use Rattle.kak_world.specs.Saving.{is_named, buffer_number_from, number_named, unsaved_names, others_leave, saved_in}
 use Rattle.kak_world.specs.Rows.{Row, RowEnd, Asks, does, stages_of}
 use Rattle.kak_world.proofs.WorldLaws.{units_own, units_sels, units_registers}
 use Rattle.kak_world.proofs.KeepingLaws.{keeps_own, keeps_sels, keeps_set_row}
@@ -35,7 +35,7 @@ use Rattle.kak_world.proofs.StayingLemmas.{keeps_dropped}
 use Rattle.kak_world.proofs.GapLemmas.{gaps_are_taken, keeps_opened}
 use Rattle.kak_world.proofs.SavingLemmas.{named-some}
 use Rattle.kak_world.proofs.JoinedLemmas.{joined_kept, joined_same, joined_then, stays_shows, keeps_options, units_options, keeps_saved, units_saved}
-use Rattle.command_set.specs.Buffers.{shown_if, show_row, edited_by_number, edit_row, dropped_unless, drop_at, drop_if, drop_row, quit_unless, quit_row, write_row, unsaved_in}
+use Rattle.command_set.specs.Buffers.{shown_if, show_row, edited_by_number, edit_named_row, dropped_unless, drop_at, drop_if, drop_row, quit_unless, quit_row, write_row, unsaved_in}
 use Rattle.command_set.specs.Options.{scope_named, is_declared, options_row, declare_row, set_scoped, set_option_row, unset_scoped, unset_option_row}
 use Rattle.command_set.specs.Registers.{register_set, register_row, echo_row}
 use Rattle.command_set.specs.Selecting.{described_selected}
@@ -53,10 +53,10 @@ tame-if flat true a b h g = h
 tame-if flat false a b h g = g
 
 -- a number that is found by a name is a buffer's
-named-from : (k : ℕ) (name : List ℕ) (bs : List (Option Buffer)) (n : ℕ) → number_from k name bs ≡ Some n → (m : ℕ) × (n ≡ k + m) × (is_there m bs ≡ true)
+named-from : (k : ℕ) (name : List ℕ) (bs : List (Option Buffer)) (n : ℕ) → buffer_number_from k name bs ≡ Some n → (m : ℕ) × (n ≡ k + m) × (is_there m bs ≡ true)
 named-from k name [] n e = absurd (let no : is_some (Some n) ≡ false = sym (ap is_some e) in cc)
 named-from k name (b ∷ bs) n e =
-    by_test (λ t. t ≡ is_named name b → (if t then Some k else number_from (k + 1) name bs) ≡ Some n → (m : ℕ) × (n ≡ k + m) × (is_there m (b ∷ bs) ≡ true)) (is_named name b)
+    by_test (λ t. t ≡ is_named name b → (if t then Some k else buffer_number_from (k + 1) name bs) ≡ Some n → (m : ℕ) × (n ≡ k + m) × (is_there m (b ∷ bs) ≡ true)) (is_named name b)
     (λ _ s h. (0, (let same : k ≡ n = ap (λ o. unwrap_or o 0) h in omega arith), named-some name b (sym s)))
     (λ _ _ h. let later = named-from (k + 1) name bs n h in (suc later.0, omega (arith, later.1), later.2))
     refl e
@@ -76,7 +76,7 @@ tame-show name who flat = by (number_named (chars name) flat) refl
     by None e = tame-same flat _
     by (Some n) e = tame-shows who n flat (named-there (chars name) flat n e)
 
-tame-edit : (name : List ℕ) (who : ℕ) (flat : Flat) → IsTame flat (edit_row name who flat)
+tame-edit : (name : List ℕ) (who : ℕ) (flat : Flat) → IsTame flat (edit_named_row name who flat)
 tame-edit name who flat = by (number_named (chars name) flat) refl
   where
     by : (o : Option ℕ) → number_named (chars name) flat ≡ o → IsTame flat (edited_by_number o name who flat)
@@ -113,11 +113,11 @@ tame-options name word (Err e) flat = tame-same flat _
 
 tame-set_scoped : (o : Option Scope) (add : Bool) (word name : List ℕ) (values : List (List ℕ)) (flat : Flat) → IsTame flat (set_scoped o add word name values flat)
 tame-set_scoped None add word name values flat = tame-same flat _
-tame-set_scoped (Some scope) add word name values flat = tame-options name word (set_in scope name values add (options_of flat)) flat
+tame-set_scoped (Some scope) add word name values flat = tame-options name word (option_set_in scope name values add (options_of flat)) flat
 
 tame-unset_scoped : (o : Option Scope) (word name : List ℕ) (flat : Flat) → IsTame flat (unset_scoped o word name flat)
 tame-unset_scoped None word name flat = tame-same flat _
-tame-unset_scoped (Some scope) word name flat = tame-options name word (unset_in scope name (options_of flat)) flat
+tame-unset_scoped (Some scope) word name flat = tame-options name word (option_unset_in scope name (options_of flat)) flat
 
 -- registers
 units-set : (o : Option RegisterError) (c : ℕ) (values : List (List ℕ)) (flat : Flat) → units_of (set_unless o c values flat).world ≡ units_of flat
@@ -126,7 +126,7 @@ units-set (Some e) c values flat = refl
 
 units-row : (c : ℕ) (values : List (List ℕ)) (flat : Flat) → units_of (set_row c values flat).world ≡ units_of flat
 unfolding set_row
-units-row c values flat = units-set (refusal_of c values) c values flat
+units-row c values flat = units-set (register_refusal c values) c values flat
 
 tame-register : (o : Option ℕ) (name : List ℕ) (values : List (List ℕ)) (flat : Flat) → IsTame flat (register_set o name values flat)
 tame-register None name values flat = tame-same flat _

@@ -16,11 +16,11 @@ use Rattle.scope_options.specs.declared.scope.Scope.{Scope}
 use Rattle.scope_options.specs.declared.scope.Scope.TheVariants.{Buffer as InBuffer}
 use Rattle.scope_options.specs.declared.setting.Setting.{Setting}
 use Rattle.scope_options.specs.declared.options.OptionError.{OptionError}
-use Rattle.scope_options.specs.Changes.{set_in}
+use Rattle.scope_options.specs.Changes.{option_set_in}
 use Rattle.kak_world.specs.declared.ask.Saving.{Saving}
 use Rattle.kak_world.specs.Flat.{Buffer, Flat, units_of, options_of, is_there, is_joined, with_options}
 use Rattle.kak_world.specs.Dropping.{KeepsJoined}
-use Rattle.kak_world.specs.Showing.{first_gap, placed, has_all_buffers, opened, shows}
+use Rattle.kak_world.specs.Showing.{first_gap, buffer_placed, has_all_buffers, buffer_opened, shows}
 use Rattle.kak_world.specs.Saving.{is_named, unsaved_names, others_leave, saved_in}
 use Rattle.kak_world.specs.Rows.{Row, RowEnd, does, stages_of}
 use Rattle.kak_world.proofs.ShownLaws.{units_shows, units_opened}
@@ -61,10 +61,10 @@ buffers-set (Ok rows) flat = refl
 buffers-set (Err e) flat = refl
 
 follows-to : (scope : Scope) (name word : List ℕ) (flat : Flat) → Follows flat (set_to scope name word flat)
-follows-to scope name word flat = follows-set (set_in scope name (word ∷ []) false (options_of flat)) flat
+follows-to scope name word flat = follows-set (option_set_in scope name (word ∷ []) false (options_of flat)) flat
 
 buffers-to : (scope : Scope) (name word : List ℕ) (flat : Flat) → (set_to scope name word flat).buffers ≡ flat.buffers
-buffers-to scope name word flat = buffers-set (set_in scope name (word ∷ []) false (options_of flat)) flat
+buffers-to scope name word flat = buffers-set (option_set_in scope name (word ∷ []) false (options_of flat)) flat
 
 follows-form : (n : ℕ) (eol : Eol) (bom : Bom) (flat : Flat) → Follows flat (formatted n eol bom flat)
 follows-form n eol bom flat = follows-then flat _ _ (follows-to (InBuffer n) _ (eol_word eol) flat) (follows-to (InBuffer n) _ (bom_word bom) _)
@@ -73,11 +73,11 @@ pub buffers_form : (n : ℕ) (eol : Eol) (bom : Bom) (flat : Flat) → (formatte
 buffers_form n eol bom flat = buffers-to (InBuffer n) _ (bom_word bom) _ ∙ buffers-to (InBuffer n) _ (eol_word eol) flat
 
 -- a buffer that was opened is there
-pub opened_there : (name : List ℕ) (file : Bool) (text : List ℕ) (flat : Flat) → is_there (first_gap flat.buffers) (opened name file text flat).buffers ≡ true
-unfolding opened
+pub opened_there : (name : List ℕ) (file : Bool) (text : List ℕ) (flat : Flat) → is_there (first_gap flat.buffers) (buffer_opened name file text flat).buffers ≡ true
+unfolding buffer_opened
 opened_there name file text flat = ap is_some (gaps_are_taken.stands _ flat.buffers).here
 
-follows-opened : (name : List ℕ) (file : Bool) (text : List ℕ) (flat : Flat) → Follows flat (opened name file text flat)
+follows-opened : (name : List ℕ) (file : Bool) (text : List ℕ) (flat : Flat) → Follows flat (buffer_opened name file text flat)
 follows-opened name file text flat = record { units = units_opened name file text flat; keeps = joined_kept flat _ (keeps_opened name file text flat) }
 
 follows-shows : (who n : ℕ) (flat : Flat) → is_there n flat.buffers ≡ true → Follows flat (shows who n flat)
@@ -86,7 +86,7 @@ follows-shows who n flat t = record { units = units_shows who n flat; keeps = st
 ends-load : (name : List ℕ) (l : Loaded) (who : ℕ) (flat : Flat) → Ends flat (load_row name l who flat)
 ends-load name l who flat =
     let n : ℕ = first_gap flat.buffers in
-    let new : Flat = opened (chars name) true l.text flat in
+    let new : Flat = buffer_opened (chars name) true l.text flat in
     let set : Flat = formatted n l.eol l.bom new in
     ends-if flat (has_all_buffers flat) _ _ (record { world = follows-same flat; last = refl })
     (record {
@@ -98,7 +98,7 @@ ends-load name l who flat =
 
 ends-empty : (name : List ℕ) (who : ℕ) (flat : Flat) → Ends flat (empty_row name who flat)
 ends-empty name who flat =
-    let new : Flat = opened (chars name) true (10 ∷ []) flat in
+    let new : Flat = buffer_opened (chars name) true (10 ∷ []) flat in
     ends-if flat (has_all_buffers flat) _ _ (record { world = follows-same flat; last = refl })
     (record { world = follows-then flat new _ (follows-opened (chars name) true (10 ∷ []) flat) (follows-shows who (first_gap flat.buffers) new (opened_there (chars name) true (10 ∷ []) flat)); last = refl })
 
@@ -170,13 +170,13 @@ pub keeps_saved : (saving : Saving) (answer : Put) (who : ℕ) (flat : Flat) →
 keeps_saved saving answer who flat = (tame_saved saving answer who flat).keeps
 
 -- so it is with the world in which a file's text was opened
-pub joined_loaded : (who n : ℕ) (name text : List ℕ) (eol : Eol) (bom : Bom) (flat mid now : Flat) → is_joined who flat ≡ true → mid ≡ opened name true text flat → now ≡ formatted n eol bom mid → is_joined who now ≡ true
+pub joined_loaded : (who n : ℕ) (name text : List ℕ) (eol : Eol) (bom : Bom) (flat mid now : Flat) → is_joined who flat ≡ true → mid ≡ buffer_opened name true text flat → now ≡ formatted n eol bom mid → is_joined who now ≡ true
 joined_loaded who n name text eol bom flat mid now j e f =
     ap (is_joined who) f ∙ (follows-form n eol bom mid).keeps.joined who (ap (is_joined who) e ∙ (follows-opened name true text flat).keeps.joined who j)
 
-pub there_opened : (n : ℕ) (name text : List ℕ) (flat now : Flat) → n ≡ first_gap flat.buffers → now ≡ opened name true text flat → is_there n now.buffers ≡ true
+pub there_opened : (n : ℕ) (name text : List ℕ) (flat now : Flat) → n ≡ first_gap flat.buffers → now ≡ buffer_opened name true text flat → is_there n now.buffers ≡ true
 there_opened n name text flat now g e = ap₂ (λ (k : ℕ) (w : Flat). is_there k w.buffers) g e ∙ opened_there name true text flat
 
-pub there_loaded : (n : ℕ) (name text : List ℕ) (eol : Eol) (bom : Bom) (flat mid now : Flat) → n ≡ first_gap flat.buffers → mid ≡ opened name true text flat → now ≡ formatted n eol bom mid → is_there n now.buffers ≡ true
+pub there_loaded : (n : ℕ) (name text : List ℕ) (eol : Eol) (bom : Bom) (flat mid now : Flat) → n ≡ first_gap flat.buffers → mid ≡ buffer_opened name true text flat → now ≡ formatted n eol bom mid → is_there n now.buffers ≡ true
 there_loaded n name text eol bom flat mid now g e f =
     ap (λ (w : Flat). is_there n w.buffers) f ∙ ap (is_there n) (buffers_form n eol bom mid) ∙ there_opened n name text flat mid g e

@@ -36,8 +36,8 @@ edited_by_number (Some n) name who flat = does (shows who n flat)
 edited_by_number None name who flat = if has_all_buffers flat then refuses TooManyBuffers flat else asks (Read name) flat
 
 -- a client edits the buffer or the file of a name
-abbrev pub edit_row : List ℕ → ℕ → Flat → RowEnd
-edit_row name who flat = edited_by_number (number_named (chars name) flat) name who flat
+abbrev pub edit_named_row : List ℕ → ℕ → Flat → RowEnd
+edit_named_row name who flat = edited_by_number (number_named (chars name) flat) name who flat
 
 -- the name of a buffer of which something would be lost
 abbrev pub unsaved_in : Option Buffer → Option (List ℕ)

@@ -14,7 +14,7 @@ use Rattle.edit_ops.specs.Reading.{text_of_range}
 use Rattle.key_rows.specs.Reading.{strings_read, own_strings}
 use Rattle.command_forms.specs.declared.places.Columns.{Columns}
 use Rattle.command_forms.specs.declared.places.Columns.TheVariants.{Bytes, Characters}
-use Rattle.command_forms.specs.declared.places.Place.{Place}
+use Rattle.command_forms.specs.declared.places.ArgumentPlace.{ArgumentPlace}
 use Rattle.selection_texts.specs.Telling.{place_told, told_text, told_from_main}
 use Rattle.command_set.specs.declared.value_names.Kind.{Kind}
 use Rattle.command_set.specs.declared.value_names.Kind.TheVariants.{Value, Option as OfOption, Register as OfRegister, Argument}
@@ -55,7 +55,7 @@ abbrev pub main_selection : ℕ → Flat → Range
 main_selection who flat = main_of (sels_of who flat)
 
 -- the place of its cursor
-abbrev pub main_place : Columns → ℕ → Flat → Place
+abbrev pub main_place : Columns → ℕ → Flat → ArgumentPlace
 main_place columns who flat = place_told columns (text_of who flat) (cursor (main_selection who flat))
 
 -- the strings of a value, of a client in its buffer

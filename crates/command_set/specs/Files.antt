@@ -22,7 +22,7 @@ use Rattle.scope_options.specs.declared.value.OptionValue.TheVariants.{Str}
 use Rattle.scope_options.specs.declared.setting.Setting.{Setting}
 use Rattle.scope_options.specs.declared.options.OptionError.{OptionError}
 use Rattle.scope_options.specs.Settings.{seen_from}
-use Rattle.scope_options.specs.Changes.{set_in}
+use Rattle.scope_options.specs.Changes.{option_set_in}
 use Rattle.kak_world.specs.declared.ask.Saving.{Saving}
 use Rattle.kak_world.specs.declared.ask.EditError.{EditError}
 use Rattle.kak_world.specs.declared.ask.EditError.TheVariants.{Command as OfCommand, TextFull, NoMemory}
@@ -30,7 +30,7 @@ use Rattle.kak_world.specs.declared.command_error.CommandError.TheVariants.{File
 use Rattle.kak_world.specs.Flat.{Buffer, Flat, options_of, with_options}
 use Rattle.kak_world.specs.Rows.{RowEnd, does, fails}
 use Rattle.kak_world.specs.Saving.{is_named, saved_in}
-use Rattle.kak_world.specs.Showing.{first_gap, has_all_buffers, opened, shows}
+use Rattle.kak_world.specs.Showing.{first_gap, has_all_buffers, buffer_opened, shows}
 use Rattle.command_set.specs.Buffers.{refuses, quit_row}
 
 -- the world with an option set at a scope to a word, where the option takes it
@@ -39,7 +39,7 @@ set_or_same (Ok rows) flat = with_options rows flat
 set_or_same (Err e) flat = flat
 
 abbrev pub set_to : Scope → List ℕ → List ℕ → Flat → Flat
-set_to scope name word flat = set_or_same (set_in scope name (word ∷ []) false (options_of flat)) flat
+set_to scope name word flat = set_or_same (option_set_in scope name (word ∷ []) false (options_of flat)) flat
 
 -- the words of the options that say in which form a text is written
 abbrev pub eol_word : Eol → List ℕ
@@ -58,13 +58,13 @@ formatted n eol bom flat = set_to (InBuffer n) (codes "BOM") (bom_word bom) (set
 abbrev pub load_row : List ℕ → Loaded → ℕ → Flat → RowEnd
 load_row name l who flat =
     if has_all_buffers flat then refuses TooManyBuffers flat
-    else does (shows who (first_gap flat.buffers) (formatted (first_gap flat.buffers) l.eol l.bom (opened (chars name) true l.text flat)))
+    else does (shows who (first_gap flat.buffers) (formatted (first_gap flat.buffers) l.eol l.bom (buffer_opened (chars name) true l.text flat)))
 
 -- a buffer is opened for a file that isn't there, with a text of one newline, and shown to a client
 abbrev pub empty_row : List ℕ → ℕ → Flat → RowEnd
 empty_row name who flat =
     if has_all_buffers flat then refuses TooManyBuffers flat
-    else does (shows who (first_gap flat.buffers) (opened (chars name) true (10 ∷ []) flat))
+    else does (shows who (first_gap flat.buffers) (buffer_opened (chars name) true (10 ∷ []) flat))
 
 -- by what a client is told why bytes are no text
 abbrev pub coding_refusal : DecodeError → EditError
@@ -107,8 +107,8 @@ bytes_in eol bom None = []
 bytes_in eol bom (Some b) = saved b.story.text eol bom
 
 -- the bytes that are to be written
-unfoldable pub bytes_of : Saving → Flat → List ℕ
-bytes_of saving flat = bytes_in (eol_of saving.buffer flat) (bom_of saving.buffer flat) (slice_index_or flat.buffers saving.buffer None)
+unfoldable pub saved_bytes : Saving → Flat → List ℕ
+saved_bytes saving flat = bytes_in (eol_of saving.buffer flat) (bom_of saving.buffer flat) (slice_index_or flat.buffers saving.buffer None)
 
 -- a buffer whose text was written to the file of its own name counts as saved
 abbrev pub marked_if_own : Saving → Flat → Flat

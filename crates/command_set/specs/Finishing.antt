@@ -86,10 +86,10 @@ further_asked None flat = does flat
 further_asked (Some next) flat = after_unit (units_of flat) (asks_for_last next) flat
 
 -- a use of the pattern that a text is
-abbrev pub used : Use → List ℕ → ℕ → Flat → RowEnd
-used wanted source who flat = then_row (list_used wanted source who flat) (further_asked (next_use wanted))
+abbrev pub pattern_used : Use → List ℕ → ℕ → Flat → RowEnd
+pattern_used wanted source who flat = then_row (list_used wanted source who flat) (further_asked (next_use wanted))
 
 -- the row of what was asked for a pattern: a use of it, or that it was refused
 unfoldable pub row_finish : Use → Option (List ℕ) → ℕ → Flat → RowEnd
 row_finish wanted None who flat = fails BadPattern flat
-row_finish wanted (Some source) who flat = used wanted source who flat
+row_finish wanted (Some source) who flat = pattern_used wanted source who flat

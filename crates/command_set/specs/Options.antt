@@ -10,7 +10,7 @@ use Rattle.scope_options.specs.declared.setting.Setting.{Setting}
 use Rattle.scope_options.specs.declared.options.OptionError.{OptionError}
 use Rattle.scope_options.specs.declared.options.OptionError.TheVariants as error
 use Rattle.scope_options.specs.Settings.{value_at}
-use Rattle.scope_options.specs.Changes.{declare_in, set_in, unset_in}
+use Rattle.scope_options.specs.Changes.{declare_in, option_set_in, option_unset_in}
 use Rattle.kak_world.specs.declared.ask.EditError.{EditError}
 use Rattle.kak_world.specs.declared.ask.EditError.TheVariants.{Command as OfCommand, NoMemory}
 use Rattle.kak_world.specs.declared.command_error.CommandError.TheVariants.{NoSuchOption, NoSuchScope, OptionExists, BadValue}
@@ -50,7 +50,7 @@ declare_row type name values flat = options_row name [] (declare_in type name va
 -- an option is set at a scope, if the word names one
 abbrev pub set_scoped : Option Scope → Bool → List ℕ → List ℕ → List (List ℕ) → Flat → RowEnd
 set_scoped None add word name values flat = refuses (NoSuchScope word) flat
-set_scoped (Some scope) add word name values flat = options_row name word (set_in scope name values add (options_of flat)) flat
+set_scoped (Some scope) add word name values flat = options_row name word (option_set_in scope name values add (options_of flat)) flat
 
 -- an option is set at the scope of a word: there is to be the option, and then the scope
 abbrev pub set_option_row : Bool → List ℕ → List ℕ → List (List ℕ) → ℕ → Flat → RowEnd
@@ -60,7 +60,7 @@ set_option_row add word name values who flat =
 -- the same where it is unset
 abbrev pub unset_scoped : Option Scope → List ℕ → List ℕ → Flat → RowEnd
 unset_scoped None word name flat = refuses (NoSuchScope word) flat
-unset_scoped (Some scope) word name flat = options_row name word (unset_in scope name (options_of flat)) flat
+unset_scoped (Some scope) word name flat = options_row name word (option_unset_in scope name (options_of flat)) flat
 
 abbrev pub unset_option_row : List ℕ → List ℕ → ℕ → Flat → RowEnd
 unset_option_row word name who flat =

@@ -13,5 +13,5 @@ told_reading (Ok commands) = Ok commands
 told_reading (Err at) = Err (OfCommand (Unclosed at))
 
 -- the commands of a text
-abbrev pub commands_of : List ℕ → Result (List Command) EditError
-commands_of text = told_reading (commands_read text)
+abbrev pub commands_told : List ℕ → Result (List Command) EditError
+commands_told text = told_reading (commands_read text)

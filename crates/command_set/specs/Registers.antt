@@ -2,7 +2,7 @@
 use Rattle.std.specs.Prelude.{ℕ, List, [], unwrap_or, None, Some}
 use Rattle.std.specs.declared.option.Option.{Option}
 use Rattle.kak_registers.specs.Names.{named}
-use Rattle.kak_world.specs.declared.own.Status.TheVariants.{Said}
+use Rattle.kak_world.specs.declared.own.StatusText.TheVariants.{Said}
 use Rattle.kak_world.specs.declared.ask.EditError.{EditError}
 use Rattle.kak_world.specs.declared.ask.EditError.TheVariants.{Command as OfCommand}
 use Rattle.kak_world.specs.declared.command_error.CommandError.TheVariants.{NoSuchRegister, Failed}

@@ -14,7 +14,7 @@ use Rattle.kak_world.specs.declared.ask.EditError.TheVariants.{Command as OfComm
 use Rattle.kak_world.specs.declared.command_error.CommandError.TheVariants.{NoSuchCommand, WrongArgumentCount, UnknownSwitch, BadValue, BadSelection, UnknownExpansion}
 use Rattle.kak_world.specs.Flat.{Flat}
 use Rattle.kak_world.specs.Rows.{RowEnd, does, fails}
-use Rattle.command_set.specs.Buffers.{asks, refuses, show_row, edit_row, drop_row, quit_row, write_row}
+use Rattle.command_set.specs.Buffers.{asks, refuses, show_row, edit_named_row, drop_row, quit_row, write_row}
 use Rattle.command_set.specs.Options.{declare_row, set_option_row, unset_option_row}
 use Rattle.command_set.specs.Registers.{register_row, echo_row, failing}
 use Rattle.command_set.specs.Selecting.{select_row}
@@ -23,7 +23,7 @@ use Rattle.command_set.specs.Expanding.{table_of}
 -- the row of an order
 abbrev pub row_order : Order → ℕ → Flat → RowEnd
 row_order order.Nothing who flat = does flat
-row_order (order.Edit name) who flat = edit_row name who flat
+row_order (order.Edit name) who flat = edit_named_row name who flat
 row_order (order.Write file) who flat = write_row file false who flat
 row_order order.WriteQuit who flat = write_row None true who flat
 row_order order.Quit who flat = quit_row who flat

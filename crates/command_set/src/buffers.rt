@@ -4,8 +4,8 @@
 ghost use Rattle.std.specs.Prelude.{◌≡◌, true, slice_index_or, unwrap_or, encode_utf8_all, IfOk, IfSome, None};
 ghost use Rattle.std.specs.Str.{chars};
 ghost use Rattle.kak_world.specs.Flat.{is_joined, is_there, name_of};
-ghost use Rattle.kak_world.specs.Rows.{Gives, Answers};
-ghost use Rattle.command_set.specs.Buffers.{show_row, edit_row, unsaved_in, drop_at, drop_row, drop_if, quit_row, write_row};
+ghost use Rattle.kak_world.specs.Rows.{GivesRow, Answers};
+ghost use Rattle.command_set.specs.Buffers.{show_row, edit_named_row, unsaved_in, drop_at, drop_row, drop_if, quit_row, write_row};
 ghost use Rattle.kak_world.specs.Saving.{number_named};
 
 use byte_texts::Utf8Text;
@@ -50,7 +50,7 @@ pub(crate) fn edit(
     name: Utf8Text,
 ) -> Result<Ask, EditError>
     requires { is_joined who world.old.flat ≡ true }
-    ensures row { Gives result world.new.flat (edit_row name who world.old.flat) }
+    ensures row { GivesRow result world.new.flat (edit_named_row name who world.old.flat) }
 {
     match number_named(alloc, world, name.as_str())? {
         Some(n) => {
@@ -126,7 +126,7 @@ pub(crate) fn drop_buffer(
 
 /// Lets a client leave. `ModifiedRemain` comes where something would be lost and each other client was granted to leave.
 pub(crate) fn quit(alloc: Global, world: &World, who: u32) -> Result<Ask, EditError>
-    ensures row { Gives result world.now.flat (quit_row who world.now.flat) }
+    ensures row { GivesRow result world.now.flat (quit_row who world.now.flat) }
 {
     if !world.others_leave(who) {
         return Ok(Ask::Leave);
@@ -163,7 +163,7 @@ pub(crate) fn write(
     quits: bool,
 ) -> Result<Ask, EditError>
     requires { is_joined who world.now.flat ≡ true }
-    ensures row { Gives result world.now.flat (write_row file quits who world.now.flat) }
+    ensures row { GivesRow result world.now.flat (write_row file quits who world.now.flat) }
 {
     Ok(Ask::Write(Saving {
         file: file_or_name(alloc, world, who, file)?,

@@ -4,8 +4,8 @@
 ghost use Rattle.std.specs.Prelude.{◌≡◌, true, map, string_bytes, Ok, Err, IfOk, IfErr, IfSome};
 ghost use Rattle.kak_words.specs.Expanding.{expanded as words_expanded};
 ghost use Rattle.kak_world.specs.Flat.{is_joined};
-ghost use Rattle.kak_world.specs.Rows.{Gives, row_of};
-ghost use Rattle.command_set.specs.Reading.{commands_of};
+ghost use Rattle.kak_world.specs.Rows.{GivesRow, row_of};
+ghost use Rattle.command_set.specs.Reading.{commands_told};
 ghost use Rattle.command_set.specs.Expanding.{table_of};
 ghost use Rattle.command_set.specs.Refusing.{IsUnexpanded};
 ghost use Rattle.command_set.specs.Rows.{row_order, order_refusal, row_words, row_command};
@@ -20,8 +20,8 @@ use std::alloc::Global;
 
 /// The commands of a text. `Unclosed` tells the character, from 0, at which a quote or a bracket opens that isn't closed.
 pub fn read(alloc: Global, text: &[char]) -> Result<Vec<Command>, EditError>
-    ensures commands { IfOk result (λ v. commands_of text.now ≡ Ok v.items) }
-    ensures why { IfErr result (λ error. IfSome (row_of error) (λ row. commands_of text.now ≡ Err error)) }
+    ensures commands { IfOk result (λ v. commands_told text.now ≡ Ok v.items) }
+    ensures why { IfErr result (λ error. IfSome (row_of error) (λ row. commands_told text.now ≡ Err error)) }
 {
     let text = string_of(alloc, text)?;
     match read_commands(alloc, text.as_str()) {
@@ -37,7 +37,7 @@ pub fn read(alloc: Global, text: &[char]) -> Result<Vec<Command>, EditError>
 // Does what a command orders.
 fn run_order(alloc: Global, world: &mut World, who: u32, order: Order) -> Result<Ask, EditError>
     requires { is_joined who world.old.flat ≡ true }
-    ensures row { Gives result world.new.flat (row_order order who world.old.flat) }
+    ensures row { GivesRow result world.new.flat (row_order order who world.old.flat) }
 {
     match order {
         Order::Nothing => {}
@@ -83,7 +83,7 @@ pub fn command(
     words: &[String],
 ) -> Result<Ask, EditError>
     requires { is_joined who world.old.flat ≡ true }
-    ensures row { Gives result world.new.flat (row_words (map (λ w. string_bytes w) words.now) who world.old.flat) }
+    ensures row { GivesRow result world.new.flat (row_words (map (λ w. string_bytes w) words.now) who world.old.flat) }
 {
     match read_order(alloc, words) {
         Ok(order) => run_order(alloc, world, who, order),
@@ -122,7 +122,7 @@ pub fn run_command(
     command_read: &Command,
 ) -> Result<Ask, EditError>
     requires { is_joined who world.old.flat ≡ true }
-    ensures row { Gives result world.new.flat (row_command command_read.now who world.old.flat) }
+    ensures row { GivesRow result world.new.flat (row_command command_read.now who world.old.flat) }
 {
     let words = expanded(alloc, world, who, command_read)?;
     command(alloc, world, who, words.as_slice())

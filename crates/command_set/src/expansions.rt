@@ -12,7 +12,7 @@ ghost use Rattle.command_set.specs.Expanding.{truth, main_selection, main_place,
 
 use crate::value_names::{Kind, ValueName, kind_named, value_named};
 use byte_texts::Words;
-use command_forms::{Columns, Place};
+use command_forms::{ArgumentPlace, Columns};
 use kak_registers::register_named;
 use kak_words::Lookup;
 use kak_world::World;
@@ -61,7 +61,7 @@ fn client_name(alloc: Global, n: u32) -> Result<Words, AllocError>
 }
 
 // The place of a client's main cursor.
-fn main_place(world: &World, who: u32, columns: Columns) -> Place
+fn main_place(world: &World, who: u32, columns: Columns) -> ArgumentPlace
     requires { is_joined who world.now.flat ≡ true }
     ensures { result ≡ main_place columns who world.now.flat }
 {

@@ -6,10 +6,10 @@ ghost use Rattle.scope_options.specs.Settings.{seen_from};
 ghost use Rattle.std.specs.Str.{chars};
 ghost use Rattle.scope_options.specs.declared.scope.Scope.TheVariants.{Buffer as InBuffer};
 ghost use Rattle.kak_world.specs.Flat.{is_joined, options_of};
-ghost use Rattle.kak_world.specs.Rows.{Gives};
+ghost use Rattle.kak_world.specs.Rows.{GivesRow};
 ghost use Rattle.kak_world.specs.Saving.{is_named};
-ghost use Rattle.kak_world.specs.Showing.{first_gap, has_all_buffers, opened};
-ghost use Rattle.command_set.specs.Files.{set_to, eol_word, bom_word, formatted, load_row, empty_row, coding_refusal, loaded_row, row_read, is_text, is_seen_as, eol_of, bom_of, bytes_of, marked_if_own, behind_write, row_saved};
+ghost use Rattle.kak_world.specs.Showing.{first_gap, has_all_buffers, buffer_opened};
+ghost use Rattle.command_set.specs.Files.{set_to, eol_word, bom_word, formatted, load_row, empty_row, coding_refusal, loaded_row, row_read, is_text, is_seen_as, eol_of, bom_of, saved_bytes, marked_if_own, behind_write, row_saved};
 ghost use Rattle.text_coding.specs.Coding.{loaded};
 
 use crate::buffers::quit;
@@ -81,7 +81,7 @@ fn set_format(
 fn open(alloc: Global, world: &mut World, name: &str, lines: Lines) -> Result<u32, AllocError>
     requires { has_all_buffers world.old.flat ≡ false }
     ensures number { IfOk result (λ n. n ≡ first_gap world.old.flat.buffers) }
-    ensures ok { OnOk result (world.new.flat ≡ opened (chars name.now) true lines world.old.flat) }
+    ensures ok { OnOk result (world.new.flat ≡ buffer_opened (chars name.now) true lines world.old.flat) }
 {
     let name = Chars::from_str(alloc, name)?;
     match world.open(alloc, name, true, lines) {
@@ -100,7 +100,7 @@ fn load(
     loaded: Loaded,
 ) -> Result<Ask, EditError>
     requires { is_joined who world.old.flat ≡ true }
-    ensures row { Gives result world.new.flat (load_row name.now loaded who world.old.flat) }
+    ensures row { GivesRow result world.new.flat (load_row name.now loaded who world.old.flat) }
 {
     if world.has_all_buffers() {
         return Err(EditError::Command(CommandError::TooManyBuffers));
@@ -115,7 +115,7 @@ fn load(
 // Opens an empty buffer for a file that isn't there, and shows that to a client.
 fn open_empty(alloc: Global, world: &mut World, who: u32, name: &str) -> Result<Ask, EditError>
     requires { is_joined who world.old.flat ≡ true }
-    ensures row { Gives result world.new.flat (empty_row name.now who world.old.flat) }
+    ensures row { GivesRow result world.new.flat (empty_row name.now who world.old.flat) }
 {
     if world.has_all_buffers() {
         return Err(EditError::Command(CommandError::TooManyBuffers));
@@ -146,7 +146,7 @@ fn open_bytes(
     bytes: &[u8],
 ) -> Result<Ask, EditError>
     requires { is_joined who world.old.flat ≡ true }
-    ensures row { Gives result world.new.flat (loaded_row (loaded bytes.now) name.now who world.old.flat) }
+    ensures row { GivesRow result world.new.flat (loaded_row (loaded bytes.now) name.now who world.old.flat) }
 {
     match decode(alloc, bytes) {
         Ok(loaded) => load(alloc, world, who, name, loaded),
@@ -166,7 +166,7 @@ pub fn open_read(
     read: &FileRead,
 ) -> Result<Ask, EditError>
     requires { is_joined who world.old.flat ≡ true }
-    ensures row { Gives result world.new.flat (row_read name read.now who world.old.flat) }
+    ensures row { GivesRow result world.new.flat (row_read name read.now who world.old.flat) }
 {
     match read {
         FileRead::Bytes(bytes) => open_bytes(alloc, world, who, name.as_str(), bytes.as_slice()),
@@ -217,9 +217,9 @@ fn bom_of(world: &World, n: u32) -> Bom
 }
 
 /// The bytes that are to be written to a file, in the form that the buffer's options say.
-#[tactic(auto, unfolding(crate::specs::Files::bytes_of))]
+#[tactic(auto, unfolding(crate::specs::Files::saved_bytes))]
 pub fn bytes_saved(alloc: Global, world: &World, saving: &Saving) -> Result<Vec<u8>, AllocError>
-    ensures { IfOk result (λ bytes. bytes.items ≡ bytes_of saving.now world.now.flat) }
+    ensures { IfOk result (λ bytes. bytes.items ≡ saved_bytes saving.now world.now.flat) }
 {
     let n = saving.buffer;
     match world.buffer(n) {
@@ -260,7 +260,7 @@ pub fn note_saved(
     saving: Saving,
     put: Put,
 ) -> Result<Ask, EditError>
-    ensures row { Gives result world.new.flat (row_saved saving put who world.old.flat) }
+    ensures row { GivesRow result world.new.flat (row_saved saving put who world.old.flat) }
 {
     match put {
         Put::Failed => Err(EditError::Command(CommandError::FileFault(saving.file))),

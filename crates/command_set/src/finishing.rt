@@ -5,8 +5,8 @@ ghost use Rattle.std.specs.Prelude.{◌≡◌, true, IfOk, IsErrOf};
 ghost use Rattle.selection_set.specs.Held.{IsHeld, selected};
 ghost use Rattle.kak_world.specs.declared.ask.EditError.TheVariants.{NoMemory};
 ghost use Rattle.kak_world.specs.Flat.{is_joined, text_of, with_sels};
-ghost use Rattle.kak_world.specs.Rows.{Gives, does};
-ghost use Rattle.command_set.specs.Finishing.{source_of, way_of, list_used, next_use, further_asked, used, row_finish};
+ghost use Rattle.kak_world.specs.Rows.{GivesRow, does};
+ghost use Rattle.command_set.specs.Finishing.{source_of, way_of, list_used, next_use, further_asked, pattern_used, row_finish};
 ghost use Rattle.command_set.specs.Refusing.{refusal_of, IsListOf};
 
 use kak_world::{Ask, EditError, Toward, Use, World};
@@ -92,7 +92,7 @@ fn take_list(
 ) -> Result<Ask, EditError>
     requires joined { is_joined who world.old.flat ≡ true }
     requires held { IsHeld (text_of who world.old.flat) sels }
-    ensures row { Gives result world.new.flat (further_asked next (with_sels who (selected (text_of who world.old.flat) sels) world.old.flat)) }
+    ensures row { GivesRow result world.new.flat (further_asked next (with_sels who (selected (text_of who world.old.flat) sels) world.old.flat)) }
     ensures wanting { IsErrOf result NoMemory → world.new.flat ≡ world.old.flat }
 {
     match next {
@@ -120,7 +120,7 @@ fn make_use<P: Pattern>(
     pattern: &P,
 ) -> Result<Ask, EditError>
     requires { is_joined who world.old.flat ≡ true }
-    ensures row { Gives result world.new.flat (used wanted (P.source pattern.now) who world.old.flat) }
+    ensures row { GivesRow result world.new.flat (pattern_used wanted (P.source pattern.now) who world.old.flat) }
     ensures wanting { IsErrOf result NoMemory → world.new.flat ≡ world.old.flat }
 {
     match list_used(alloc, world, who, wanted, pattern) {
@@ -142,7 +142,7 @@ pub fn finish<P: Pattern>(
     made: Made<P>,
 ) -> Result<Ask, EditError>
     requires { is_joined who world.old.flat ≡ true }
-    ensures row { Gives result world.new.flat (row_finish wanted (source_of P.source made) who world.old.flat) }
+    ensures row { GivesRow result world.new.flat (row_finish wanted (source_of P.source made) who world.old.flat) }
     ensures wanting { IsErrOf result NoMemory → world.new.flat ≡ world.old.flat }
 {
     match made {

@@ -7,7 +7,7 @@ ghost use Rattle.kak_world.specs.Rows.{Answers};
 ghost use Rattle.command_set.specs.Options.{scope_named, is_declared, refusal_by, declare_row, set_option_row, unset_option_row};
 
 use byte_texts::Utf8Text;
-use command_forms::{Declaration, OptionName, Setting};
+use command_forms::{Declaration, OptionName, SettingOrder};
 use kak_world::{CommandError, EditError, World};
 use scope_options::{OptionError, Scope};
 use std::alloc::Global;
@@ -77,12 +77,12 @@ pub(crate) fn set(
     alloc: Global,
     world: &mut World,
     who: u32,
-    setting: Setting,
+    setting: SettingOrder,
 ) -> Result<(), EditError>
     requires { is_joined who world.old.flat ≡ true }
     ensures row { Answers result world.new.flat (set_option_row setting.add setting.option.scope setting.option.name setting.values who world.old.flat) }
 {
-    let Setting {
+    let SettingOrder {
         add,
         option,
         values,

@@ -2,7 +2,7 @@
 #![tactic(auto, using(kak_world::proofs::WorldLaws::world_laws))]
 
 ghost use Rattle.std.specs.Prelude.{◌≡◌, true};
-ghost use Rattle.kak_world.specs.declared.own.Status.TheVariants.{Said};
+ghost use Rattle.kak_world.specs.declared.own.StatusText.TheVariants.{Said};
 ghost use Rattle.kak_world.specs.Flat.{is_joined, with_own};
 ghost use Rattle.kak_world.specs.Rows.{Answers};
 ghost use Rattle.command_set.specs.Registers.{register_row, echo_row, failing};
@@ -11,7 +11,7 @@ use byte_texts::{Utf8Text, Words};
 use command_forms::RegisterValues;
 use kak_registers::register_named;
 use kak_text::Chars;
-use kak_world::{CommandError, EditError, Status, World};
+use kak_world::{CommandError, EditError, StatusText, World};
 use key_rows::joined_text;
 use std::alloc::Global;
 
@@ -35,7 +35,7 @@ fn say(world: &mut World, who: u32, text: Chars)
     requires { is_joined who world.old.flat ≡ true }
     ensures { world.new.flat ≡ with_own who (λ o. record o { status = Said text }) world.old.flat }
 {
-    world.own_mut(who).status = Status::Said(text);
+    world.own_mut(who).status = StatusText::Said(text);
 }
 
 /// Says words to a client, with a space between each two.

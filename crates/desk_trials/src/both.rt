@@ -1,8 +1,8 @@
 //! Two threads at one desk.
 ghost use Rattle.std.specs.Prelude.{◌≡◌, ◌≤◌, ◌<◌, [], length, All, IfOk, IfSome, IfNone};
-ghost use Rattle.session_desk.specs.Histories.{own};
+ghost use Rattle.session_desk.specs.Histories.{entries_by};
 ghost use Rattle.session_desk.specs.Tokens.{IsOf, IsSamePass};
-ghost use Rattle.desk_trials.specs.Tally.{who_of, HasPlayed, IsRefused, WasRefused};
+ghost use Rattle.desk_trials.specs.Tally.{who_of, TallyHasPlayed, IsTallyRefused, WasRefused};
 
 use crate::tally::{Refusal, Tally};
 use session_desk::{Desk, Pass};
@@ -34,12 +34,12 @@ fn play_all<R: Wait>(
     moves: &[u32],
 ) -> Run
     requires own { IsOf pass.old.place desk.now }
-    requires fresh { own who_of pass.old.number pass.old.seen ≡ [] }
+    requires fresh { entries_by who_of pass.old.number pass.old.seen ≡ [] }
     ensures same { IsSamePass pass.old pass.new }
-    ensures played { HasPlayed pass.new.seen pass.old.number moves.now result.played }
+    ensures played { TallyHasPlayed pass.new.seen pass.old.number moves.now result.played }
     ensures within { result.played ≤ length moves.now }
     ensures all { IfNone result.stop (result.played ≡ length moves.now) }
-    ensures stop { IfSome result.stop (λ refusal. IsRefused pass.new.seen pass.new.mark pass.old.number moves.now result.played refusal) }
+    ensures stop { IfSome result.stop (λ refusal. IsTallyRefused pass.new.seen pass.new.mark pass.old.number moves.now result.played refusal) }
 {
     for (played, mv) in moves.iter().enumerate() {
         match desk.step(rt, alloc, pass, *mv) {
@@ -66,12 +66,12 @@ fn play_as<R: Wait>(
     moves: &[u32],
 ) -> (Pass<Tally>, Run)
     requires own { IsOf pass.place desk.now }
-    requires fresh { own who_of pass.number pass.seen ≡ [] }
+    requires fresh { entries_by who_of pass.number pass.seen ≡ [] }
     ensures same { IsSamePass pass result.0 }
-    ensures played { HasPlayed result.0.seen pass.number moves.now result.1.played }
+    ensures played { TallyHasPlayed result.0.seen pass.number moves.now result.1.played }
     ensures within { result.1.played ≤ length moves.now }
     ensures all { IfNone result.1.stop (result.1.played ≡ length moves.now) }
-    ensures stop { IfSome result.1.stop (λ refusal. IsRefused result.0.seen result.0.mark pass.number moves.now result.1.played refusal) }
+    ensures stop { IfSome result.1.stop (λ refusal. IsTallyRefused result.0.seen result.0.mark pass.number moves.now result.1.played refusal) }
 {
     let run = play_all(rt, alloc, desk, &mut pass, moves);
     (pass, run)
@@ -85,8 +85,8 @@ pub fn tally_both<R: Threads + Wait + Sync>(
     first: &[u32],
     second: &[u32],
 ) -> Result<Totals, AllocError>
-    ensures first { IfOk result (λ t. HasPlayed t.tally.additions 0 first.now t.first.played) }
-    ensures second { IfOk result (λ t. HasPlayed t.tally.additions 1 second.now t.second.played) }
+    ensures first { IfOk result (λ t. TallyHasPlayed t.tally.additions 0 first.now t.first.played) }
+    ensures second { IfOk result (λ t. TallyHasPlayed t.tally.additions 1 second.now t.second.played) }
     ensures numbers { IfOk result (λ t. All (λ a. a.who < 2) t.tally.additions) }
     ensures within { IfOk result (λ t. (t.first.played ≤ length first.now) × (t.second.played ≤ length second.now)) }
     ensures all_of_first { IfOk result (λ t. IfNone t.first.stop (t.first.played ≡ length first.now)) }

@@ -74,7 +74,7 @@ impl Tally {
 
 impl Played for Tally {
     ghost use Rattle.std.specs.Prelude.{◌≡◌};
-    ghost use Rattle.desk_trials.specs.Tally.{IsAnswer, who_of, sum_of};
+    ghost use Rattle.desk_trials.specs.Tally.{IsTallyAnswer, who_of, sum_of};
 
     type Move = u32;
 
@@ -96,7 +96,7 @@ impl Played for Tally {
 
     ghost frame = { λ t. tt };
 
-    ghost answers = { λ f before mark who mv result after mark'. IsAnswer before mark who mv result after mark' };
+    ghost answers = { λ f before mark who mv result after mark'. IsTallyAnswer before mark who mv result after mark' };
 
     ghost shows = { λ f additions mark who total. total ≡ sum_of additions };
 

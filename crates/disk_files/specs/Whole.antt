@@ -5,9 +5,9 @@ use Rattle.kak_files.specs.declared.files.FileRead.{FileRead}
 use Rattle.kak_files.specs.declared.files.FileRead.TheVariants.{Bytes, NotThere, TooBig, Failed}
 
 -- the bytes that are answered are all that were left, where they are told; a file that is open is there
-abbrev pub IsWhole : Option (List ℕ) → FileRead → Type 0
-IsWhole left NotThere = ⊥
-IsWhole (Some held) (Bytes bytes) = bytes ≡ held
-IsWhole None (Bytes bytes) = Unit {0}
-IsWhole left TooBig = Unit {0}
-IsWhole left Failed = Unit {0}
+abbrev pub IsWholeRead : Option (List ℕ) → FileRead → Type 0
+IsWholeRead left NotThere = ⊥
+IsWholeRead (Some held) (Bytes bytes) = bytes ≡ held
+IsWholeRead None (Bytes bytes) = Unit {0}
+IsWholeRead left TooBig = Unit {0}
+IsWholeRead left Failed = Unit {0}

@@ -3,7 +3,7 @@
 ghost use Rattle.std.specs.Prelude.{◌≡◌, None, IfOk, OnOk};
 ghost use Rattle.std.specs.Io.KnownBytes.{Appends};
 ghost use Rattle.kak_files.specs.Files.{IsWithin, one_more};
-ghost use Rattle.disk_files.specs.Whole.{IsWhole};
+ghost use Rattle.disk_files.specs.Whole.{IsWholeRead};
 
 use byte_texts::Octets;
 use kak_files::{FileRead, Files};
@@ -227,7 +227,7 @@ fn read_all<F: Read + OpenFile>(
     max: usize,
 ) -> Result<FileRead, AllocError>
     ensures within { IfOk result (λ answer. IsWithin max answer) }
-    ensures whole { IfOk result (λ answer. IsWhole (F.remaining file.old) answer) }
+    ensures whole { IfOk result (λ answer. IsWholeRead (F.remaining file.old) answer) }
 {
     let Ok(data) = file.metadata() else {
         return Ok(FileRead::Failed);

@@ -10,7 +10,7 @@ use Rattle.text_model.specs.declared.coords.Coord.{Coord}
 use Rattle.list_model.specs.Ranges.{Selected}
 use Rattle.kak_world.specs.declared.own.Mode.{Mode}
 use Rattle.kak_world.specs.declared.own.Mode.TheVariants.{Normal, Insert, Prompt}
-use Rattle.draw_model.specs.Drawings.{mode_name, place_text}
+use Rattle.draw_model.specs.Drawings.{mode_name, mode_line_text}
 
 abbrev all_ascii : List ℕ → Bool
 all_ascii [] = true
@@ -61,13 +61,13 @@ written_is_ascii line column nth count number mode h k m n l =
 
 -- it says of a list what is to be said
 written-is : (at : Coord) (mode : Mode) (sels : Selected) (nth count number : ℕ) → sels.main ≡ nth → length sels.list ≡ count
-    → written at.line at.column (mode_name mode) nth count number ≡ place_text at mode sels number
+    → written at.line at.column (mode_name mode) nth count number ≡ mode_line_text at mode sels number
 written-is at mode sels nth count number m n = ap₂ (λ a b. written at.line at.column (mode_name mode) a b number) (sym m) (sym n)
 
 -- the characters that are read from it
 pub mode-chars : (at : Coord) (mode : Mode) (sels : Selected) (line column nth count number : ℕ) (word bytes text : List ℕ) → line ≡ at.line → column ≡ at.column → word ≡ mode_name mode
     → line + 1 < 2 ^ 64 → column + 1 < 2 ^ 64 → nth + 1 < 2 ^ 64 → count < 2 ^ 64 → number < 2 ^ 64 → bytes ≡ written line column word nth count number → text ≡ chars bytes
-    → sels.main ≡ nth → length sels.list ≡ count → text ≡ place_text at mode sels number
+    → sels.main ≡ nth → length sels.list ≡ count → text ≡ mode_line_text at mode sels number
 mode-chars at mode sels line column nth count number word bytes text el ek ew h k a c l b t m n =
     let same : bytes ≡ written line column (mode_name mode) nth count number = b ∙ ap (λ w. written line column w nth count number) ew in
     let P : List ℕ → Type 0 = λ s. IsAscii s in

@@ -4,7 +4,7 @@ use Rattle.kak_faces.specs.declared.face.Face.{Face}
 use Rattle.kak_faces.specs.declared.standard.StandardFace.TheVariants as name
 use Rattle.kak_faces.specs.Standard.{standard_face}
 use Rattle.drawings.specs.declared.drawing.Atom.{Atom}
-use Rattle.line_painting.specs.Atoms.{Shown, shown_in, with_shown, with_all_shown, atoms_of}
+use Rattle.line_painting.specs.Atoms.{ShownChar, shown_in, with_shown, with_all_shown, atoms_of}
 use Rattle.std.specs.Str.{chars}
 use Rattle.kak_world.specs.declared.purpose.Toward.TheVariants.{Next, Former}
 use Rattle.kak_world.specs.declared.purpose.Use.TheVariants as matches
@@ -31,7 +31,7 @@ name-chars (Pattern (matches.Add Next further)) = refl
 name-chars (Pattern (matches.Add Former further)) = refl
 
 -- a prompt's four parts
-abbrev parts : Face → Face → Face → List ℕ → List ℕ → ℕ → List ℕ → List Shown
+abbrev parts : Face → Face → Face → List ℕ → List ℕ → ℕ → List ℕ → List ShownChar
 parts f g h begin before under rest = shown_in f begin ++ (shown_in g before ++ (shown_in h (under ∷ []) ++ shown_in g rest))
 
 four_parts : (first second third fourth : List Atom) (f g h : Face) (begin before rest : List ℕ) (under : ℕ)

@@ -15,8 +15,8 @@ use Rattle.drawings.specs.declared.drawing.Info.TheVariants.{Keep}
 use Rattle.drawings.specs.declared.drawing.Drawing.{Drawing}
 use Rattle.kak_world.specs.declared.own.Mode.{Mode}
 use Rattle.kak_world.specs.declared.own.Mode.TheVariants.{Normal, Insert, Prompt}
-use Rattle.kak_world.specs.declared.own.Status.{Status}
-use Rattle.kak_world.specs.declared.own.Status.TheVariants.{Quiet, Said, Refused}
+use Rattle.kak_world.specs.declared.own.StatusText.{StatusText}
+use Rattle.kak_world.specs.declared.own.StatusText.TheVariants.{Quiet, Said, Refused}
 use Rattle.kak_world.specs.declared.purpose.Toward.{Toward}
 use Rattle.kak_world.specs.declared.purpose.Toward.TheVariants.{Next, Former}
 use Rattle.kak_world.specs.declared.purpose.Use.{Use}
@@ -24,11 +24,11 @@ use Rattle.kak_world.specs.declared.purpose.Use.TheVariants as matches
 use Rattle.kak_world.specs.declared.purpose.Purpose.{Purpose}
 use Rattle.kak_world.specs.declared.purpose.Purpose.TheVariants.{Commands, Pattern}
 use Rattle.kak_world.specs.Flat.{Flat, text_of, number_of, name_of, mode_of, sels_of, view_of, tabstop_of, status_of, purpose_of, prompt_of, is_drawn, with_view}
-use Rattle.line_painting.specs.Atoms.{Shown, shown_in, atoms_of}
+use Rattle.line_painting.specs.Atoms.{ShownChar, shown_in, atoms_of}
 use Rattle.line_painting.specs.Lines.{drawn_lines}
 
 -- what stands in the status line, outside of a prompt
-abbrev pub status_shown : Status → List Shown
+abbrev pub status_shown : StatusText → List ShownChar
 status_shown Quiet = []
 status_shown (Said text) = shown_in (standard_face name.StatusLine) text
 status_shown (Refused text) = shown_in (standard_face name.Error) text
@@ -60,14 +60,14 @@ prompt_name Commands = codes ":"
 prompt_name (Pattern wanted) = use_name wanted
 
 -- a prompt: what stands before its line, what stands before the cursor, what stands under it, and the rest
-abbrev pub prompt_shown : Purpose → Halves → List Shown
+abbrev pub prompt_shown : Purpose → Halves → List ShownChar
 prompt_shown purpose prompt =
     shown_in (standard_face name.Prompt) (prompt_name purpose)
     ++ (shown_in (standard_face name.StatusLine) prompt.before
     ++ (shown_in (standard_face name.StatusCursor) (under_cursor prompt.behind ∷ []) ++ shown_in (standard_face name.StatusLine) (drop 1 prompt.behind)))
 
 -- the status line
-abbrev pub status_line : Mode → Status → Purpose → Halves → List Shown
+abbrev pub status_line : Mode → StatusText → Purpose → Halves → List ShownChar
 status_line Normal status purpose prompt = status_shown status
 status_line Insert status purpose prompt = status_shown status
 status_line Prompt status purpose prompt = prompt_shown purpose prompt
@@ -96,14 +96,14 @@ main_cells tabstop text sels = cells_of (slice_index (main_line text sels) (main
 
 -- what the mode line says behind the buffer's name: the cursor's line and column from 1, the mode, the main selection's
 -- number from 1 and how many there are, and the client's name
-abbrev pub place_text : Coord → Mode → Selected → ℕ → List ℕ
-place_text at mode sels number =
+abbrev pub mode_line_text : Coord → Mode → Selected → ℕ → List ℕ
+mode_line_text at mode sels number =
     codes " " ++ (decimal (at.line + 1) ++ (codes ":" ++ (decimal (at.column + 1) ++ (codes " " ++ (mode_name mode ++ (codes " "
     ++ (decimal (sels.main + 1) ++ (codes "/" ++ (decimal (length sels.list) ++ (codes " - client" ++ decimal number))))))))))
 
 -- the mode line
-abbrev pub mode_shown : List ℕ → Coord → Mode → Selected → ℕ → List Shown
-mode_shown buffer at mode sels number = shown_in (standard_face name.StatusLine) (buffer ++ place_text at mode sels number)
+abbrev pub mode_shown : List ℕ → Coord → Mode → Selected → ℕ → List ShownChar
+mode_shown buffer at mode sels number = shown_in (standard_face name.StatusLine) (buffer ++ mode_line_text at mode sels number)
 
 -- a line is the mode line of each list of so many selections with that main one
 abbrev pub IsModeLine : List ℕ → Coord → Mode → ℕ → ℕ → ℕ → DrawnLine → Type 0

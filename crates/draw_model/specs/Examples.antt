@@ -6,24 +6,24 @@ use Rattle.kak_faces.specs.declared.colour.NamedColour.TheVariants as named
 use Rattle.kak_faces.specs.Standard.{plain_face, default_face}
 use Rattle.drawings.specs.declared.drawing.Info.TheVariants.{Keep}
 use Rattle.kak_world.specs.declared.own.Mode.TheVariants.{Normal, Insert, Prompt}
-use Rattle.kak_world.specs.declared.own.Status.TheVariants.{Quiet, Said, Refused}
+use Rattle.kak_world.specs.declared.own.StatusText.TheVariants.{Quiet, Said, Refused}
 use Rattle.kak_world.specs.declared.purpose.Toward.TheVariants.{Next, Former}
 use Rattle.kak_world.specs.declared.purpose.Use.TheVariants.{Select, Split, Keep as KeepThose, Drop, Search, Reach}
 use Rattle.kak_world.specs.declared.purpose.Purpose.TheVariants.{Commands, Pattern}
 use Rattle.scope_options.specs.Settings.{given}
-use Rattle.kak_world.specs.Flat.{Flat, made, opening, joined_by, with_sels, with_own, view_of}
+use Rattle.kak_world.specs.Flat.{Flat, made_buffer, opening, joined_by, with_sels, with_own, view_of}
 use Rattle.line_painting.specs.Atoms.{atoms_of}
 use Rattle.line_painting.specs.Painting.{alone}
-use Rattle.line_painting.specs.Examples.{atom, line, whole, narrow, three}
-use Rattle.draw_model.specs.Drawings.{prompt_name, status_line, cursor_drawn, main_column, main_cells, main_cursor, place_text, after_following, drawing_of}
+use Rattle.line_painting.specs.Examples.{atom, atoms_line, whole, narrow, three}
+use Rattle.draw_model.specs.Drawings.{prompt_name, status_line, cursor_drawn, main_column, main_cells, main_cursor, mode_line_text, after_following, drawing_of}
 
 -- the world that a first client sees
-abbrev pub opened : Flat
-opened = joined_by 0 opening
+abbrev pub opened_flat : Flat
+opened_flat = joined_by 0 opening
 
 -- a world with a line of ASCII characters
 abbrev pub holding : List ℕ → Flat
-holding text = joined_by 0 (record { buffers = Some (made (codes "*scratch*") false text) ∷ []; clients = []; rest = record { units = 0; registers = []; options = given } })
+holding text = joined_by 0 (record { buffers = Some (made_buffer (codes "*scratch*") false text) ∷ []; clients = []; rest = record { units = 0; registers = []; options = given } })
 
 -- a prompt with this before its cursor, and this from it on
 abbrev pub halves : List ℕ → List ℕ → Halves
@@ -47,18 +47,18 @@ pub record PlaceExamples : Type 0 where
 
 pub record Examples : Type 0 where
   pub places : PlaceExamples
-  pub opened_world : drawing_of 0 opened ≡ record {
+  pub opened_world : drawing_of 0 opened_flat ≡ record {
     first = true;
-    lines = line (atom (codes "\n") named.Black named.Cyan ∷ []) ∷ [];
+    lines = atoms_line (atom (codes "\n") named.Black named.Cyan ∷ []) ∷ [];
     default_face = default_face;
     padding_face = plain_face named.Blue named.Default;
-    status = line [];
-    mode_line = line (atom (codes "*scratch* 1:1 normal 1/1 - client0") named.Cyan named.Default ∷ []);
+    status = atoms_line [];
+    mode_line = atoms_line (atom (codes "*scratch* 1:1 normal 1/1 - client0") named.Cyan named.Default ∷ []);
     status_face = plain_face named.Cyan named.Default;
     cursor = record { prompt = false; line = 0; column = 0 };
     info = Keep;
   }
-  pub drawn_before : (drawing_of 0 (with_own 0 (λ o. record o { drawn = true }) opened)).first ≡ false
+  pub drawn_before : (drawing_of 0 (with_own 0 (λ o. record o { drawn = true }) opened_flat)).first ≡ false
   pub nothing_said : atoms_of (status_line Normal Quiet Commands empty) ≡ []
   pub said : atoms_of (status_line Insert (Said (codes "hi")) Commands empty) ≡ atom (codes "hi") named.Cyan named.Default ∷ []
   pub refused : atoms_of (status_line Normal (Refused (codes "no")) Commands empty) ≡ atom (codes "no") named.Black named.Red ∷ []
@@ -79,8 +79,8 @@ pub record Examples : Type 0 where
   pub cursor_of_prompt : cursor_drawn 8 Prompt 0 1 whole Commands (halves (codes "w x") []) ≡ record { prompt = true; line = 0; column = 4 }
   pub cursor_before_the_end : cursor_drawn 8 Prompt 0 1 whole Commands (halves (codes "w") (codes " x")) ≡ record { prompt = true; line = 0; column = 2 }
   pub cursor_in_window : cursor_drawn 8 Insert 1 3 (narrow 1 2) Commands empty ≡ record { prompt = false; line = 0; column = 1 }
-  pub mode_of_second : place_text (main_cursor (codes "a\nbc\n") (record { list = only 0 ∷ only 3 ∷ []; main = 1 })) Insert (record { list = only 0 ∷ only 3 ∷ []; main = 1 }) 2
+  pub mode_of_second : mode_line_text (main_cursor (codes "a\nbc\n") (record { list = only 0 ∷ only 3 ∷ []; main = 1 })) Insert (record { list = only 0 ∷ only 3 ∷ []; main = 1 }) 2
       ≡ codes " 2:2 insert 2/2 - client2"
   pub followed_world : view_of 0 (after_following 0 (with_sels 0 (alone true (only 82)) (holding (codes "----------------------------------------------------------------------------------\n"))))
       ≡ record { top = 0; left = 3; rows = 24; columns = 80 }
-  pub mode_of_three : place_text (main_cursor (codes "a\nbc\n") (three (only 0) (only 2) (only 3) 1)) Normal (three (only 0) (only 2) (only 3) 1) 1 ≡ codes " 2:1 normal 2/3 - client1"
+  pub mode_of_three : mode_line_text (main_cursor (codes "a\nbc\n") (three (only 0) (only 2) (only 3) 1)) Normal (three (only 0) (only 2) (only 3) 1) 1 ≡ codes " 2:1 normal 2/3 - client1"

@@ -2,7 +2,7 @@
 
 ghost use Rattle.std.specs.Prelude.{◌≡◌, ◌+◌, ◌<◌, ◌≤◌, ◌^◌, true, IfOk};
 ghost use Rattle.text_model.specs.Texts.{IsPlace};
-ghost use Rattle.window_view.specs.Views.{view_of as window_seen};
+ghost use Rattle.window_view.specs.Views.{window_seen};
 ghost use Rattle.kak_world.specs.Flat.{is_joined, text_of, sels_of, tabstop_of};
 ghost use Rattle.draw_model.specs.Drawings.{main_cursor, main_column, main_cells, prompt_column, cursor_drawn, drawing_of, after_following};
 

@@ -3,13 +3,13 @@
 ghost use Rattle.std.specs.Prelude.{◌≡◌, ◌<◌, length, drop, IfOk};
 ghost use Rattle.list_model.specs.Ranges.{Selected};
 ghost use Rattle.line_painting.specs.Atoms.{shown_in, atoms_of};
-ghost use Rattle.draw_model.specs.Drawings.{status_shown, under_cursor, search_name, use_name, prompt_name, prompt_shown, status_line, mode_name, place_text, IsModeLine};
+ghost use Rattle.draw_model.specs.Drawings.{status_shown, under_cursor, search_name, use_name, prompt_name, prompt_shown, status_line, mode_name, mode_line_text, IsModeLine};
 
 use drawings::{Atoms, DrawnLine};
 use edit_line::EditLine;
 use kak_faces::{Face, StandardFace};
 use kak_text::{Chars, Coord};
-use kak_world::{Mode, Purpose, Status, Toward, Use};
+use kak_world::{Mode, Purpose, StatusText, Toward, Use};
 use line_painting::{push_run, push_shown};
 use selection_set::Sels;
 use std::alloc::{AllocError, Global};
@@ -113,15 +113,15 @@ fn prompt_line(alloc: Global, purpose: Purpose, prompt: &EditLine) -> Result<Dra
 }
 
 // What a command said, or why one was refused.
-fn said_line(alloc: Global, status: &Status) -> Result<DrawnLine, AllocError>
+fn said_line(alloc: Global, status: &StatusText) -> Result<DrawnLine, AllocError>
     ensures { IfOk result (λ line. line ≡ record { atoms = atoms_of (status_shown status.now) }) }
 {
     match status {
-        Status::Quiet => Ok(DrawnLine {
+        StatusText::Quiet => Ok(DrawnLine {
             atoms: Atoms::new(alloc),
         }),
-        Status::Said(text) => run_line(alloc, text.as_slice(), StandardFace::StatusLine.face()),
-        Status::Refused(text) => run_line(alloc, text.as_slice(), StandardFace::Error.face()),
+        StatusText::Said(text) => run_line(alloc, text.as_slice(), StandardFace::StatusLine.face()),
+        StatusText::Refused(text) => run_line(alloc, text.as_slice(), StandardFace::Error.face()),
     }
 }
 
@@ -129,7 +129,7 @@ fn said_line(alloc: Global, status: &Status) -> Result<DrawnLine, AllocError>
 pub fn draw_status(
     alloc: Global,
     mode: Mode,
-    status: &Status,
+    status: &StatusText,
     purpose: Purpose,
     prompt: &EditLine,
 ) -> Result<DrawnLine, AllocError>
@@ -162,7 +162,7 @@ fn place_chars(
     number: u32,
 ) -> Result<Chars, AllocError>
     requires { main < count }
-    ensures { IfOk result (λ text. (sels : Selected) → sels.main ≡ main → length sels.list ≡ count → text ≡ place_text at mode sels number) }
+    ensures { IfOk result (λ text. (sels : Selected) → sels.main ≡ main → length sels.list ≡ count → text ≡ mode_line_text at mode sels number) }
 {
     let line = u64::from(at.line) + 1;
     let column = u64::from(at.column) + 1;

@@ -3,8 +3,8 @@ use Rattle.std.specs.Prelude.{ℕ, ◌-◌, List, [], ◌++◌, length, take, dr
 use Rattle.edit_line.specs.Halves.{Halves, whole}
 
 -- characters go in before the cursor
-abbrev pub put_in : List ℕ → Halves → Halves
-put_in chars line = record line { before = line.before ++ chars }
+abbrev pub put_before_cursor : List ℕ → Halves → Halves
+put_before_cursor chars line = record line { before = line.before ++ chars }
 
 -- the character before the cursor goes, where there is one
 abbrev pub erased_before : Halves → Halves

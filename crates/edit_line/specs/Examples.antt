@@ -1,14 +1,14 @@
 -- Worked examples of lines that are edited, which hold by computation.
 use Rattle.std.specs.Prelude.{◌≡◌, List, ℕ, codes, []}
 use Rattle.edit_line.specs.Halves.{Halves, whole, empty}
-use Rattle.edit_line.specs.Edits.{put_in, erased_before, erased_at, gone_left, gone_right, gone_home, gone_to_end}
+use Rattle.edit_line.specs.Edits.{put_before_cursor, erased_before, erased_at, gone_left, gone_right, gone_home, gone_to_end}
 
 -- a line with its cursor on the first character of the second part
 abbrev pub line : List ℕ → List ℕ → Halves
 line before behind = record { before = before; behind = behind }
 
 pub record WorkedExamples : Type 0 where
-  pub goes_in_at_the_cursor : put_in (codes "x") (line (codes "ab") (codes "cd")) ≡ line (codes "abx") (codes "cd")
+  pub goes_in_at_the_cursor : put_before_cursor (codes "x") (line (codes "ab") (codes "cd")) ≡ line (codes "abx") (codes "cd")
   pub erases_before_it : erased_before (line (codes "ab") (codes "cd")) ≡ line (codes "a") (codes "cd")
   pub nothing_before_the_first : erased_before (line [] (codes "cd")) ≡ line [] (codes "cd")
   pub erases_at_it : erased_at (line (codes "ab") (codes "cd")) ≡ line (codes "ab") (codes "d")

@@ -2,7 +2,7 @@
 
 ghost use Rattle.std.specs.Prelude.{◌≡◌, ◌+◌, ◌-◌, ◌≤◌, ◌++◌, [], length, take, drop, OnOk, OnErr};
 ghost use Rattle.edit_line.specs.Halves.{empty, whole};
-ghost use Rattle.edit_line.specs.Edits.{put_in, erased_before, erased_at, gone_left, gone_right, gone_home, gone_to_end};
+ghost use Rattle.edit_line.specs.Edits.{put_before_cursor, erased_before, erased_at, gone_left, gone_right, gone_home, gone_to_end};
 
 use std::alloc::{AllocError, Global};
 use std::marker::Model;
@@ -95,7 +95,7 @@ impl EditLine {
 
     /// Puts characters in before the cursor. An `Err` leaves the line.
     pub fn put(&mut self, chars: &[char]) -> Result<(), AllocError>
-        ensures ok { OnOk result (self.new ≡ put_in chars.now self.old) }
+        ensures ok { OnOk result (self.new ≡ put_before_cursor chars.now self.old) }
         ensures err { OnErr result (self.new ≡ self.old) }
     {
         put_at(&mut self.chars, self.at, chars)?;

@@ -4,7 +4,7 @@ use Rattle.text_model.specs.Texts.{IsText, ends_in_newline, coord_at, last_place
 use Rattle.text_model.specs.Changes.{Change, Erasure, changed, all_changed, put_in, taken_end, erased, begins_line, erasure, insertion, insertion_of, front, exchange, replacement, ended}
 use Rattle.text_model.proofs.CoordLemmas.{test_cases}
 use Rattle.text_model.proofs.ChangeLemmas.{taken_end_cases, taken_end-within, taken_end-inside, replacement-plain, replacement-kept, ended-text, ended-other}
-use Rattle.buffer_store.specs.Stored.{shifts_of}
+use Rattle.buffer_store.specs.Stored.{change_shifts}
 use Rattle.edit_ops.specs.Passing.{one_if, no_shift}
 use Rattle.edit_ops.specs.Leaving.{put_for}
 use Rattle.edit_ops.proofs.ShapeLemmas.{is_kept, IsKept, kept-by}
@@ -114,7 +114,7 @@ count-replacement text p q s same at_last on_line kept t e =
     less n = elim (ways 1 n) [ inl lt ↦ lt-ltb 0 (n - 1) (omega arith) ∙ sym (lt-ltb 1 n lt) | inr le ↦ le-ltb 0 (n - 1) (omega arith) ∙ sym (le-ltb 1 n le) ]
 
 -- the last shift of changes leaves the last place of their text
-pub last-shift : (text : List ℕ) (cs : List Change) (i : ℕ) → i + 1 ≡ length cs → (get_or (shifts_of text cs) i no_shift).last ≡ coord_at (all_changed text cs) (last_place (all_changed text cs))
+pub last-shift : (text : List ℕ) (cs : List Change) (i : ℕ) → i + 1 ≡ length cs → (get_or (change_shifts text cs) i no_shift).last ≡ coord_at (all_changed text cs) (last_place (all_changed text cs))
 last-shift text [] i h = absurd (omega arith)
 last-shift text (c ∷ []) zero h = ap (coord_at (changed text c)) (move-last text c)
 last-shift text (c ∷ []) (suc i) h = absurd (omega arith)
@@ -123,14 +123,14 @@ last-shift text (c ∷ (d ∷ ds)) (suc i) h = last-shift (changed text c) (d �
 
 -- and where it is an insertion, it ends behind what was put in
 pub last-insertion : (text : List ℕ) (ds : List Change) (p : ℕ) (s : List ℕ) (i : ℕ) → 0 < length s → i ≡ length ds
-    → (get_or (shifts_of text (ds ++ insertion_of p s)) i no_shift).end ≡ coord_at (all_changed text (ds ++ insertion_of p s)) (p + length s)
+    → (get_or (change_shifts text (ds ++ insertion_of p s)) i no_shift).end ≡ coord_at (all_changed text (ds ++ insertion_of p s)) (p + length s)
 last-insertion text [] p [] i h e = absurd (omega arith)
 last-insertion text [] p (c ∷ cs) zero h e = refl
 last-insertion text [] p (c ∷ cs) (suc i) h e = absurd (omega arith)
 last-insertion text (d ∷ ds) p s zero h e = absurd (omega arith)
 last-insertion text (d ∷ ds) p s (suc i) h e = last-insertion (changed text d) ds p s i h (omega arith)
 
-pub length-shifts : (text : List ℕ) (cs : List Change) → length (shifts_of text cs) ≡ length cs
+pub length-shifts : (text : List ℕ) (cs : List Change) → length (change_shifts text cs) ≡ length cs
 length-shifts text [] = refl
 length-shifts text (c ∷ cs) = ap (λ n. suc n) (length-shifts (changed text c) cs)
 

@@ -4,7 +4,7 @@ use Rattle.text_model.specs.declared.coords.Coord.{Coord}
 use Rattle.text_model.specs.declared.coords.Shift.{Shift}
 use Rattle.text_model.specs.Texts.{IsStored, offset, coord_at, last_place}
 use Rattle.text_model.proofs.PlaceLemmas.{offset-coord_at}
-use Rattle.text_model.specs.Changes.{Change, Insertion, Erasure, changed, all_changed, IsInside, move_of}
+use Rattle.text_model.specs.Changes.{Change, Insertion, Erasure, changed, all_changed, IsChangeInside, move_of}
 use Rattle.text_model.specs.Mapping.{shifted}
 use Rattle.text_model.proofs.CoordLemmas.{test_cases, same_coord}
 use Rattle.text_model.proofs.ChangeLemmas.{move_of-change}
@@ -13,10 +13,10 @@ use Rattle.list_model.specs.Ranges.{Range}
 use Rattle.list_model.specs.Settling.{carried}
 use Rattle.list_model.proofs.ListLemmas.{all_weaker}
 use Rattle.undo_model.specs.Steps.{IsStep, AreSteps}
-use Rattle.selection_map.specs.Carrying.{IsStep as IsShiftStep}
+use Rattle.selection_map.specs.Carrying.{IsShiftStep}
 use Rattle.selection_map.specs.Rebasing.{mapped}
 use Rattle.selection_map.proofs.ShiftLemmas.{IsWayOf, shift-way, mapped-at}
-use Rattle.buffer_store.specs.Stored.{shift_of, shifts_of}
+use Rattle.buffer_store.specs.Stored.{shift_of, change_shifts}
 use Rattle.edit_ops.specs.Leaving.{gone_through}
 use Rattle.edit_ops.specs.Passing.{is_same, ended}
 use Rattle.edit_ops.proofs.ShapeLemmas.{begin_of, top_of, AllFrom, Rises, shift-stays, shift-top}
@@ -53,7 +53,7 @@ shift-step text c h s = record {
   };
 }
 
-inside-begin : (text : List ℕ) (c : Change) → IsInside text c → begin_of c ≤ length text
+inside-begin : (text : List ℕ) (c : Change) → IsChangeInside text c → begin_of c ≤ length text
 inside-begin text (Insertion p s) h = h
 inside-begin text (Erasure p q) h = omega (arith, h.0, h.1)
 
@@ -93,12 +93,12 @@ begin-le_top (Erasure p q) = omega arith
 
 -- where a place that no change begins before ends
 pub ended-is : (text : List ℕ) (cs : List Change) (o : ℕ) → IsStored text → AreSteps text cs → Rises cs → AllFrom o cs → o < length text
-    → ended (shifts_of text cs) (coord_at text o) ≡ coord_at (all_changed text cs) (gone_at text cs o)
+    → ended (change_shifts text cs) (coord_at text o) ≡ coord_at (all_changed text cs) (gone_at text cs o)
 ended-is text [] o h a r f b = refl
 ended-is text (c ∷ cs) o h a r f b =
     let s : Shift = shift_of text c in
     let at : Coord = coord_at text o in
-    let ss : List Shift = shifts_of (changed text c) cs in
+    let ss : List Shift = change_shifts (changed text c) cs in
     let step : IsShiftStep text (changed text c) s (move_of text c) = shift-step text c h a.0 in
     let w : IsWayOf text (changed text c) s (move_of text c) = shift-way text (changed text c) s (move_of text c) step in
     let begin : s.begin ≡ coord_at text (begin_of c) = w.begin_old ∙ ap (coord_at text) (move-begin text c) in

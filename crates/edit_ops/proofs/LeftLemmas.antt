@@ -30,11 +30,11 @@ use Rattle.selection_map.specs.Rebasing.{earlier}
 use Rattle.selection_map.proofs.CarryLemmas.{earlier-min, order-coords}
 use Rattle.buffer_store.specs.declared.edits.Splice.{Splice}
 use Rattle.buffer_store.specs.Buffers.{flat_splice, flat_splices, changes_of}
-use Rattle.buffer_store.specs.Stored.{shift_of, shifts_of}
-use Rattle.edit_ops.specs.declared.passing.Passed.{Passed}
-use Rattle.edit_ops.specs.Leaving.{put_for, filled, mark_of, gone_through, ranges_left, edited}
-use Rattle.edit_ops.specs.Left.{IsOfEdit, IsOfSomeEdit, IsLeftBy}
-use Rattle.edit_ops.specs.Passing.{place, ended as ended_at, last_of, count_then, passed, last_put, mark_at, marks, none_passed, IsSmallShift, AreSmallShifts}
+use Rattle.buffer_store.specs.Stored.{shift_of, change_shifts}
+use Rattle.edit_ops.specs.declared.passing.PassedShifts.{PassedShifts}
+use Rattle.edit_ops.specs.Leaving.{put_for, filled, edit_mark, gone_through, ranges_left, edited_text}
+use Rattle.edit_ops.specs.Left.{IsOfEdit, IsOfSomeEdit, IsLeftByEdit}
+use Rattle.edit_ops.specs.Passing.{place, ended as ended_at, last_shift_of, count_then, passed, last_put, mark_at, passed_marks, none_passed, IsSmallShift, AreSmallShifts}
 use Rattle.edit_ops.proofs.ShapeLemmas.{is_kept, kept-by, put_for-kept, put_for-plain, shape-length, RisesFrom, from-later, AllFrom}
 use Rattle.edit_ops.proofs.EndedLemmas.{gone_at, gone_through-at, coords-stay, gone-stays, gone-inside, ended-is, from-weaker}
 use Rattle.edit_ops.proofs.CountLemmas.{ways, put_for-some}
@@ -72,8 +72,8 @@ put-at text put new p k rest h e l =
     ∙ ap (reached origin) (take-append-add (take p text) (put ++ rest) k ∙ ap (λ t. take p text ++ t) (take-append-le k put rest l)) ∙ reached-append origin (take p text) (take k put)
 
 -- a replacement that puts nothing in leaves the character at its place, or the last one
-left-empty : (text : List ℕ) (last : Coord) (shifts : List Shift) (w : Passed) (s : Splice) (ss : List Splice) (now : List ℕ) (from : ℕ) → IsUnderway text last shifts w (s ∷ ss) now from → length s.text ≡ 0
-    → IsSelOf (last_in text now s ss) (mark_at shifts (passed last shifts w s) s (place w s)) (gone_through (then_in text now s) (rest_in text now s ss) (mark_of (length text) now (flat_splice text s)))
+left-empty : (text : List ℕ) (last : Coord) (shifts : List Shift) (w : PassedShifts) (s : Splice) (ss : List Splice) (now : List ℕ) (from : ℕ) → IsUnderway text last shifts w (s ∷ ss) now from → length s.text ≡ 0
+    → IsSelOf (last_in text now s ss) (mark_at shifts (passed last shifts w s) s (place w s)) (gone_through (then_in text now s) (rest_in text now s ss) (edit_mark (length text) now (flat_splice text s)))
 left-empty text last shifts w s ss now from u none =
     let n : IsNext text last shifts w s ss now = next text last shifts w s ss now from u in
     let a : AreNext text last shifts w s ss now = next-shifts text last shifts w s ss now from u n in
@@ -83,7 +83,7 @@ left-empty text last shifts w s ss now from u none =
     let ds : List Change = rest_in text now s ss in
     let put : List ℕ = put_for now p q s.text in
     let o : ℕ = min p (last_place new) in
-    let w2 : Passed = passed last shifts w s in
+    let w2 : PassedShifts = passed last shifts w s in
     let nothing : put ≡ [] = empty-put now p q s.text none in
     let long : length new + n.shape.kept ≡ length now + (p + length put) = shape-length now p q put new n.tests.inside n.shape in
     let below : p ≤ length new = omega (arith, long, n.shape.from, n.shape.to, n.tests.inside) in
@@ -96,8 +96,8 @@ left-empty text last shifts w s ss now from u none =
     let low : Coord = ended_at (drop w2.next shifts) (earlier (place w s) w2.last) in
     let there : gone_at new ds o < length (last_in text now s ss) = gone-inside new ds o n.back (omega (arith, n.stored.is_text.some)) in
     let one : IsSelOf (last_in text now s ss) (sel low) (only (gone_at new ds o)) = sel-of (last_in text now s ss) low low (gone_at new ds o) (gone_at new ds o) ends ends (omega arith) there in
-    let is : mark_at shifts w2 s (place w s) ≡ sel low = ap (λ v. cond v (sel low) (record { low = place w s; high = last_put (place w s) s.text (last_of shifts w2.next).end; turned = false; target = None })) (eq-eqb (length s.text) 0 none) in
-    let range : gone_through new ds (mark_of (length text) now (flat_splice text s)) ≡ only (gone_at new ds o) = ap (λ xs. gone_through new ds (filled new p xs)) nothing ∙ gone_through-at new ds (only o) in
+    let is : mark_at shifts w2 s (place w s) ≡ sel low = ap (λ v. cond v (sel low) (record { low = place w s; high = last_put (place w s) s.text (last_shift_of shifts w2.next).end; turned = false; target = None })) (eq-eqb (length s.text) 0 none) in
+    let range : gone_through new ds (edit_mark (length text) now (flat_splice text s)) ≡ only (gone_at new ds o) = ap (λ xs. gone_through new ds (filled new p xs)) nothing ∙ gone_through-at new ds (only o) in
     record {
       inside = subst (IsInside (last_in text now s ss)) (sym is) one.inside;
       range_is = ap (range_of (last_in text now s ss)) is ∙ one.range_is ∙ sym range;
@@ -140,38 +140,38 @@ put-of_rest : (text : List ℕ) (p q : ℕ) (s : List ℕ) → is_kept text p q 
 put-of_rest text p q s b e = elim (put_in-cases (erased text p q) p s) [ inl w ↦ inl (put_for-plain text p q s b ∙ w) | inr w ↦ inr (put_for-plain text p q s b ∙ w ∙ ended-other s e) ]
 
 -- the last character that counts as put in
-put-last : (text : List ℕ) (last : Coord) (shifts : List Shift) (w : Passed) (s : Splice) (ss : List Splice) (now : List ℕ) (from : ℕ) → IsUnderway text last shifts w (s ∷ ss) now from → IsNext text last shifts w s ss now → AreNext text last shifts w s ss now → 0 < length s.text
-    → last_put (place w s) s.text (last_of shifts (count_then last w s (place w s))).end ≡ coord_at (then_in text now s) (begin_in text now s + (length (put_for now (begin_in text now s) (end_in text now s) s.text) - 1))
+put-last : (text : List ℕ) (last : Coord) (shifts : List Shift) (w : PassedShifts) (s : Splice) (ss : List Splice) (now : List ℕ) (from : ℕ) → IsUnderway text last shifts w (s ∷ ss) now from → IsNext text last shifts w s ss now → AreNext text last shifts w s ss now → 0 < length s.text
+    → last_put (place w s) s.text (last_shift_of shifts (count_then last w s (place w s))).end ≡ coord_at (then_in text now s) (begin_in text now s + (length (put_for now (begin_in text now s) (end_in text now s) s.text) - 1))
 put-last text last shifts w s ss now from u n a some =
     let p : ℕ = begin_in text now s in
     let q : ℕ = end_in text now s in
     let put : List ℕ = put_for now p q s.text in
-    let end : Coord = (last_of shifts (count_then last w s (place w s))).end in
+    let end : Coord = (last_shift_of shifts (count_then last w s (place w s))).end in
     let far : (k : ℕ) → k ≤ length put → coord_at (then_in text now s) (p + k) ≡ reached (place w s) (take k put) =
     λ (k : ℕ) (l : k ≤ length put). put-at now put (then_in text now s) p k (drop n.shape.kept now) (omega (arith, n.shape.from, n.shape.to, n.tests.inside)) n.shape.parts l ∙ ap (λ c. reached c (take k put)) (sym n.place_is) in
     by (test_cases (ends_in_newline s.text)) ∙ sym (far (length put - 1) (omega arith))
   where
     by : (ends_in_newline s.text ≡ true) ⊎ (ends_in_newline s.text ≡ false)
-        → last_put (place w s) s.text (last_of shifts (count_then last w s (place w s))).end ≡ reached (place w s) (take (length (put_for now (begin_in text now s) (end_in text now s) s.text) - 1) (put_for now (begin_in text now s) (end_in text now s) s.text))
-    by (inl e) = last-of_line (place w s) s.text (put_for now (begin_in text now s) (end_in text now s) s.text) (last_of shifts (count_then last w s (place w s))).end e (put-of_line now (begin_in text now s) (end_in text now s) s.text e)
+        → last_put (place w s) s.text (last_shift_of shifts (count_then last w s (place w s))).end ≡ reached (place w s) (take (length (put_for now (begin_in text now s) (end_in text now s) s.text) - 1) (put_for now (begin_in text now s) (end_in text now s) s.text))
+    by (inl e) = last-of_line (place w s) s.text (put_for now (begin_in text now s) (end_in text now s) s.text) (last_shift_of shifts (count_then last w s (place w s))).end e (put-of_line now (begin_in text now s) (end_in text now s) s.text e)
     by (inr e) =
         let p : ℕ = begin_in text now s in
         let q : ℕ = end_in text now s in
         let put : List ℕ = put_for now p q s.text in
         let plain : is_kept now p q s.text ≡ false = elim (test_cases (is_kept now p q s.text)) [ inl b ↦ absurd (let no_line : true ≡ false = sym (kept-by now p q s.text b).line ∙ e in cc) | inr b ↦ b ] in
-        let behind : (last_of shifts (count_then last w s (place w s))).end ≡ reached (place w s) put =
+        let behind : (last_shift_of shifts (count_then last w s (place w s))).end ≡ reached (place w s) put =
         put-end text last shifts w s ss now a plain some
         ∙ put-at now put (then_in text now s) p (length put) (drop n.shape.kept now) (omega (arith, n.shape.from, n.shape.to, n.tests.inside)) n.shape.parts (omega arith)
         ∙ ap₂ reached (sym n.place_is) (take_all (length put) put (omega arith)) in
-        last-of_rest (place w s) s.text put (last_of shifts (count_then last w s (place w s))).end some e behind (put-of_rest now p q s.text plain e)
+        last-of_rest (place w s) s.text put (last_shift_of shifts (count_then last w s (place w s))).end some e behind (put-of_rest now p q s.text plain e)
 
 filled-some : (text : List ℕ) (p : ℕ) (put : List ℕ) → 0 < length put → filled text p put ≡ record { low = p; high = p + (length put - 1); turned = false; target = None }
 filled-some text p [] h = absurd (omega arith)
 filled-some text p (c ∷ cs) h = let e : p + length cs ≡ p + (length (c ∷ cs) - 1) = omega arith in ap (λ k. let r : Range = record { low = p; high = k; turned = false; target = None } in r) e
 
 -- one that puts characters in leaves these
-left-some : (text : List ℕ) (last : Coord) (shifts : List Shift) (w : Passed) (s : Splice) (ss : List Splice) (now : List ℕ) (from : ℕ) → IsUnderway text last shifts w (s ∷ ss) now from → 0 < length s.text
-    → IsSelOf (last_in text now s ss) (mark_at shifts (passed last shifts w s) s (place w s)) (gone_through (then_in text now s) (rest_in text now s ss) (mark_of (length text) now (flat_splice text s)))
+left-some : (text : List ℕ) (last : Coord) (shifts : List Shift) (w : PassedShifts) (s : Splice) (ss : List Splice) (now : List ℕ) (from : ℕ) → IsUnderway text last shifts w (s ∷ ss) now from → 0 < length s.text
+    → IsSelOf (last_in text now s ss) (mark_at shifts (passed last shifts w s) s (place w s)) (gone_through (then_in text now s) (rest_in text now s ss) (edit_mark (length text) now (flat_splice text s)))
 left-some text last shifts w s ss now from u some =
     let n : IsNext text last shifts w s ss now = next text last shifts w s ss now from u in
     let a : AreNext text last shifts w s ss now = next-shifts text last shifts w s ss now from u n in
@@ -181,21 +181,21 @@ left-some text last shifts w s ss now from u some =
     let ds : List Change = rest_in text now s ss in
     let put : List ℕ = put_for now p q s.text in
     let j : ℕ = p + (length put - 1) in
-    let w2 : Passed = passed last shifts w s in
+    let w2 : PassedShifts = passed last shifts w s in
     let more : 0 < length put = put_for-some now p q s.text some in
     let long : length new + n.shape.kept ≡ length now + (p + length put) = shape-length now p q put new n.tests.inside n.shape in
     let before : AllFrom (j + 1) ds = from-weaker (j + 1) (offset text s.to + length new - length text) ds (omega (arith, long, n.shape.from, n.shape.to, n.lower, n.ordered)) n.later.from in
     let low : place w s ≡ coord_at (last_in text now s ss) p = place-stays text last shifts w s ss now from u n ∙ sym (coords-stay new ds p n.stored n.back (from-weaker p (j + 1) ds (omega arith) before)) in
-    let high : last_put (place w s) s.text (last_of shifts w2.next).end ≡ coord_at (last_in text now s ss) j =
+    let high : last_put (place w s) s.text (last_shift_of shifts w2.next).end ≡ coord_at (last_in text now s ss) j =
     put-last text last shifts w s ss now from u n a some ∙ sym (coords-stay new ds j n.stored n.back (from-weaker j (j + 1) ds (omega arith) before)) in
     let low_stays : gone_at new ds p ≡ p = gone-stays new ds p n.back (from-weaker (p + 1) (j + 1) ds (omega arith) before) in
     let high_stays : gone_at new ds j ≡ j = gone-stays new ds j n.back before in
     let there : j < length (last_in text now s ss) = subst (λ k. k < length (last_in text now s ss)) high_stays (gone-inside new ds j n.back (omega (arith, long, n.shape.from, n.shape.to, n.tests.inside))) in
-    let sel : Sel = record { low = place w s; high = last_put (place w s) s.text (last_of shifts w2.next).end; turned = false; target = None } in
+    let sel : Sel = record { low = place w s; high = last_put (place w s) s.text (last_shift_of shifts w2.next).end; turned = false; target = None } in
     let empty : Coord = ended_at (drop w2.next shifts) (earlier (place w s) w2.last) in
     let one : IsSelOf (last_in text now s ss) sel (record { low = p; high = j; turned = false; target = None }) = sel-of (last_in text now s ss) sel.low sel.high p j low high (omega arith) there in
     let is : mark_at shifts w2 s (place w s) ≡ sel = ap (λ v. cond v (record { low = empty; high = empty; turned = false; target = None }) sel) (ne_eqb (length s.text) 0 (λ e. omega arith)) in
-    let range : gone_through new ds (mark_of (length text) now (flat_splice text s)) ≡ record { low = p; high = j; turned = false; target = None } =
+    let range : gone_through new ds (edit_mark (length text) now (flat_splice text s)) ≡ record { low = p; high = j; turned = false; target = None } =
     ap (gone_through new ds) (filled-some new p put more) ∙ gone_through-at new ds (record { low = p; high = j; turned = false; target = None })
     ∙ ap₂ (λ x y. let r : Range = record { low = x; high = y; turned = false; target = None } in r) low_stays high_stays in
     record {
@@ -203,8 +203,8 @@ left-some text last shifts w s ss now from u some =
       range_is = ap (range_of (last_in text now s ss)) is ∙ one.range_is ∙ sym range;
     }
 
-pub one-left : (text : List ℕ) (last : Coord) (shifts : List Shift) (w : Passed) (s : Splice) (ss : List Splice) (now : List ℕ) (from : ℕ) → IsUnderway text last shifts w (s ∷ ss) now from
-    → IsSelOf (last_in text now s ss) (mark_at shifts (passed last shifts w s) s (place w s)) (gone_through (then_in text now s) (rest_in text now s ss) (mark_of (length text) now (flat_splice text s)))
+pub one-left : (text : List ℕ) (last : Coord) (shifts : List Shift) (w : PassedShifts) (s : Splice) (ss : List Splice) (now : List ℕ) (from : ℕ) → IsUnderway text last shifts w (s ∷ ss) now from
+    → IsSelOf (last_in text now s ss) (mark_at shifts (passed last shifts w s) s (place w s)) (gone_through (then_in text now s) (rest_in text now s ss) (edit_mark (length text) now (flat_splice text s)))
 one-left text last shifts w s ss now from u =
     elim (ways 0 (length s.text)) [ inl some ↦ left-some text last shifts w s ss now from u some | inr none ↦ left-empty text last shifts w s ss now from u (omega arith) ]
 
@@ -213,15 +213,15 @@ pub record AreSelsOf (text : List ℕ) (sels : List Sel) (rs : List Range) : Typ
   pub inside : AreInside text sels
   pub ranges_are : ranges_of text sels ≡ rs
 
-pub all-left : (text : List ℕ) (last : Coord) (shifts : List Shift) (w : Passed) (rest : List Splice) (now : List ℕ) (from : ℕ) → IsUnderway text last shifts w rest now from
-    → AreSelsOf (all_changed now (edit_changes (length text) now (flat_splices text rest))) (marks last shifts w rest) (ranges_left (length text) now (flat_splices text rest))
+pub all-left : (text : List ℕ) (last : Coord) (shifts : List Shift) (w : PassedShifts) (rest : List Splice) (now : List ℕ) (from : ℕ) → IsUnderway text last shifts w rest now from
+    → AreSelsOf (all_changed now (edit_changes (length text) now (flat_splices text rest))) (passed_marks last shifts w rest) (ranges_left (length text) now (flat_splices text rest))
 all-left text last shifts w [] now from u = record { inside = tt; ranges_are = refl }
 all-left text last shifts w (s ∷ ss) now from u =
     let end : all_changed now (changes_in text now s ++ rest_in text now s ss) ≡ last_in text now s ss = all_changed-append now (changes_in text now s) (rest_in text now s ss) in
-    let one : IsSelOf (last_in text now s ss) (mark_at shifts (passed last shifts w s) s (place w s)) (gone_through (then_in text now s) (rest_in text now s ss) (mark_of (length text) now (flat_splice text s))) = one-left text last shifts w s ss now from u in
-    let others : AreSelsOf (last_in text now s ss) (marks last shifts (passed last shifts w s) ss) (ranges_left (length text) (then_in text now s) (flat_splices text ss)) =
+    let one : IsSelOf (last_in text now s ss) (mark_at shifts (passed last shifts w s) s (place w s)) (gone_through (then_in text now s) (rest_in text now s ss) (edit_mark (length text) now (flat_splice text s))) = one-left text last shifts w s ss now from u in
+    let others : AreSelsOf (last_in text now s ss) (passed_marks last shifts (passed last shifts w s) ss) (ranges_left (length text) (then_in text now s) (flat_splices text ss)) =
     all-left text last shifts (passed last shifts w s) ss (then_in text now s) (offset text s.to) (then-underway text last shifts w s ss now from u) in
-    subst (λ t. AreSelsOf t (marks last shifts w (s ∷ ss)) (ranges_left (length text) now (flat_splices text (s ∷ ss)))) (sym end)
+    subst (λ t. AreSelsOf t (passed_marks last shifts w (s ∷ ss)) (ranges_left (length text) now (flat_splices text (s ∷ ss)))) (sym end)
     (record { inside = (one.inside, others.inside); ranges_are = ap₂ (λ x xs. x ∷ xs) one.range_is others.ranges_are })
 
 put-long : (text : List ℕ) (p q : ℕ) (s : List ℕ) → length s ≤ length (put_for text p q s)
@@ -238,7 +238,7 @@ put-long text p q s =
     ]
 
 -- what the next replacement needs for its arithmetic
-pub record CanPass (last : Coord) (shifts : List Shift) (w : Passed) (s : Splice) : Type 0 where
+pub record CanPass (last : Coord) (shifts : List Shift) (w : PassedShifts) (s : Splice) : Type 0 where
   pub ordered : is_at_most w.old s.from ≡ true
   pub from_small : IsSmall s.from
   pub now_small : IsSmall w.now
@@ -247,7 +247,7 @@ pub record CanPass (last : Coord) (shifts : List Shift) (w : Passed) (s : Splice
   pub few : length s.text ≤ MAX_CHARS
   pub room : count_then last w s (place w s) ≤ length shifts
 
-can-pass : (text : List ℕ) (last : Coord) (shifts : List Shift) (w : Passed) (s : Splice) (ss : List Splice) (now : List ℕ) (from : ℕ) → IsUnderway text last shifts w (s ∷ ss) now from → CanPass last shifts w s
+can-pass : (text : List ℕ) (last : Coord) (shifts : List Shift) (w : PassedShifts) (s : Splice) (ss : List Splice) (now : List ℕ) (from : ℕ) → IsUnderway text last shifts w (s ∷ ss) now from → CanPass last shifts w s
 can-pass text last shifts w s ss now from u =
     let n : IsNext text last shifts w s ss now = next text last shifts w s ss now from u in
     let a : AreNext text last shifts w s ss now = next-shifts text last shifts w s ss now from u n in
@@ -266,16 +266,16 @@ can-pass text last shifts w s ss now from u =
     }
 
 -- some text of the moment in which replacements are left of some edit
-pub record GoesOn (last : Coord) (shifts : List Shift) (w : Passed) (rest : List Splice) : Type 0 where
+pub record GoesOn (last : Coord) (shifts : List Shift) (w : PassedShifts) (rest : List Splice) : Type 0 where
   pub text : List ℕ
   pub now : List ℕ
   pub from : ℕ
   pub underway : IsUnderway text last shifts w rest now from
 
-pub can-go-on : (last : Coord) (shifts : List Shift) (w : Passed) (s : Splice) (ss rest : List Splice) → rest ≡ s ∷ ss → GoesOn last shifts w rest → CanPass last shifts w s
+pub can-go-on : (last : Coord) (shifts : List Shift) (w : PassedShifts) (s : Splice) (ss rest : List Splice) → rest ≡ s ∷ ss → GoesOn last shifts w rest → CanPass last shifts w s
 can-go-on last shifts w s ss rest e g = can-pass g.text last shifts w s ss g.now g.from (subst (λ r. IsUnderway g.text last shifts w r g.now g.from) e g.underway)
 
-pub go-on : (last : Coord) (shifts : List Shift) (w : Passed) (s : Splice) (ss rest : List Splice) → rest ≡ s ∷ ss → GoesOn last shifts w rest → GoesOn last shifts (passed last shifts w s) ss
+pub go-on : (last : Coord) (shifts : List Shift) (w : PassedShifts) (s : Splice) (ss rest : List Splice) → rest ≡ s ∷ ss → GoesOn last shifts w rest → GoesOn last shifts (passed last shifts w s) ss
 go-on last shifts w s ss rest e g = record {
   text = g.text;
   now = then_in g.text g.now s;
@@ -318,7 +318,7 @@ shift-small text (Erasure p q) h k = record {
   last = coord_at-small (changed text (Erasure p q)) (last_place (changed text (Erasure p q))) k.small;
 }
 
-shifts-small : (text : List ℕ) (cs : List Change) → IsStored text → AreSteps text cs → AreSmallShifts (shifts_of text cs)
+shifts-small : (text : List ℕ) (cs : List Change) → IsStored text → AreSteps text cs → AreSmallShifts (change_shifts text cs)
 shifts-small text [] h a n k = absurd (omega arith)
 shifts-small text (c ∷ cs) h a zero k = shift-small text c h a.0.stored
 shifts-small text (c ∷ cs) h a (suc n) k = shifts-small (changed text c) cs a.0.stored a.1 n (omega arith)
@@ -326,16 +326,16 @@ shifts-small text (c ∷ cs) h a (suc n) k = shifts-small (changed text c) cs a.
 pub edit-small : (last : Coord) (splices : List Splice) (shifts : List Shift) → IsOfSomeEdit last splices shifts → AreSmallShifts shifts
 edit-small last splices shifts h = subst AreSmallShifts (sym h.edit.shifts_are) (shifts-small h.text (changes_of h.text splices) h.edit.stored h.edit.steps)
 
-pub length-marks : (last : Coord) (shifts : List Shift) (w : Passed) (ss : List Splice) → length (marks last shifts w ss) ≡ length ss
+pub length-marks : (last : Coord) (shifts : List Shift) (w : PassedShifts) (ss : List Splice) → length (passed_marks last shifts w ss) ≡ length ss
 length-marks last shifts w [] = refl
 length-marks last shifts w (s ∷ ss) = ap (λ n. suc n) (length-marks last shifts (passed last shifts w s) ss)
 
 -- the settled list of what replacements leave is the list that the edit leaves
-pub edit-left : (text : List ℕ) (last : Coord) (main : ℕ) (s : Listed) (splices : List Splice) (shifts : List Shift) (sels : List Sel) → IsOfEdit text last splices shifts → main < length splices → sels ≡ marks last shifts (none_passed last) splices
-    → ((t : List ℕ) → AreInside t sels → IsSettledIn t (ranges_of t sels) main s) → IsLeftBy text splices main s
+pub edit-left : (text : List ℕ) (last : Coord) (main : ℕ) (s : Listed) (splices : List Splice) (shifts : List Shift) (sels : List Sel) → IsOfEdit text last splices shifts → main < length splices → sels ≡ passed_marks last shifts (none_passed last) splices
+    → ((t : List ℕ) → AreInside t sels → IsSettledIn t (ranges_of t sels) main s) → IsLeftByEdit text splices main s
 edit-left text last main s splices shifts sels h inside_main e settles =
-    let end : List ℕ = edited text (flat_splices text splices) in
-    let all : AreSelsOf end (marks last shifts (none_passed last) splices) (ranges_left (length text) text (flat_splices text splices)) = all-left text last shifts (none_passed last) splices text 0 (begin-underway text last splices shifts h) in
+    let end : List ℕ = edited_text text (flat_splices text splices) in
+    let all : AreSelsOf end (passed_marks last shifts (none_passed last) splices) (ranges_left (length text) text (flat_splices text splices)) = all-left text last shifts (none_passed last) splices text 0 (begin-underway text last splices shifts h) in
     let inside : AreInside end sels = subst (AreInside end) (sym e) all.inside in
     let ranges : ranges_of end sels ≡ ranges_left (length text) text (flat_splices text splices) = ap (ranges_of end) e ∙ all.ranges_are in
     let settled_in : IsSettledIn end (ranges_of end sels) main s = settles end inside in
@@ -347,7 +347,7 @@ edit-left text last main s splices shifts sels h inside_main e settles =
     }
 
 -- so the settled list is the one that is left
-pub ok-left : (r : Result Listed AllocError) (last : Coord) (main : ℕ) (splices : List Splice) (shifts : List Shift) (sels : List Sel) → main < length splices → sels ≡ marks last shifts (none_passed last) splices
-    → IfOk r (λ s. (t : List ℕ) → AreInside t sels → IsSettledIn t (ranges_of t sels) main s) → IfOk r (λ s. (text : List ℕ) → IsOfEdit text last splices shifts → IsLeftBy text splices main s)
+pub ok-left : (r : Result Listed AllocError) (last : Coord) (main : ℕ) (splices : List Splice) (shifts : List Shift) (sels : List Sel) → main < length splices → sels ≡ passed_marks last shifts (none_passed last) splices
+    → IfOk r (λ s. (t : List ℕ) → AreInside t sels → IsSettledIn t (ranges_of t sels) main s) → IfOk r (λ s. (text : List ℕ) → IsOfEdit text last splices shifts → IsLeftByEdit text splices main s)
 ok-left (Ok s) last main splices shifts sels h k settles = λ text edit. edit-left text last main s splices shifts sels edit h k settles
 ok-left (Err x) last main splices shifts sels h k settles = settles

@@ -12,7 +12,7 @@ use Rattle.buffer_store.specs.Buffers.{flat_splice, flat_splices, IsSpliceOf, Ar
 use Rattle.edit_ops.specs.declared.kinds.Indent.{Indent}
 use Rattle.edit_ops.specs.declared.kinds.Indent.TheVariants.{More, Less}
 use Rattle.list_model.specs.Ranges.{Range}
-use Rattle.edit_ops.specs.declared.spans.Reach.{Reach}
+use Rattle.edit_ops.specs.declared.spans.LineReach.{LineReach}
 use Rattle.edit_ops.specs.Spans.{line_start, reachable, lines_reached}
 use Rattle.edit_ops.specs.Blanks.{blanks, blanks_within}
 use Rattle.edit_ops.specs.Joining.{join_at}
@@ -40,12 +40,12 @@ pub line-splices : (text : List ℕ) (count : ℕ) (f : ℕ → Splice) (ns : Li
 line-splices text count f ns ss k r e ends = record { ends = ends; in_order = subst (AreInOrder 0 (length text)) (sym e) (lines-in_order (length text) count f ns k r) }
 
 -- those for lines that the ranges of a list reach, and for those of them that a test keeps
-pub reached-splices : (text : List ℕ) (reach : Reach) (rs : List Range) (f : ℕ → Splice) (ns : List ℕ) (i : ℕ) (ss : List CodeSplice) → KeepsLines (length text) (reachable text reach) f
+pub reached-splices : (text : List ℕ) (reach : LineReach) (rs : List Range) (f : ℕ → Splice) (ns : List ℕ) (i : ℕ) (ss : List CodeSplice) → KeepsLines (length text) (reachable text reach) f
     → ns ≡ lines_reached text reach rs → length ns ≤ i → flat_splices text ss ≡ map f (take i ns) → AllByRecursion (IsSpliceOf text) ss → AreSplicesOf text ss
 reached-splices text reach rs f ns i ss k e h so ends =
     line-splices text (reachable text reach) f (lines_reached text reach rs) ss k (reached-rise text reach rs) (so ∙ ap (map f) (take_all i ns h ∙ e)) ends
 
-pub kept-splices : (text : List ℕ) (reach : Reach) (rs : List Range) (p : ℕ → Bool) (f : ℕ → Splice) (ns : List ℕ) (i : ℕ) (ss : List CodeSplice) → KeepsLines (length text) (reachable text reach) f
+pub kept-splices : (text : List ℕ) (reach : LineReach) (rs : List Range) (p : ℕ → Bool) (f : ℕ → Splice) (ns : List ℕ) (i : ℕ) (ss : List CodeSplice) → KeepsLines (length text) (reachable text reach) f
     → ns ≡ lines_reached text reach rs → length ns ≤ i → flat_splices text ss ≡ map f (filter p (take i ns)) → AllByRecursion (IsSpliceOf text) ss → AreSplicesOf text ss
 kept-splices text reach rs p f ns i ss k e h so ends =
     line-splices text (reachable text reach) f (filter p (lines_reached text reach rs)) ss k (rising-kept p 0 (reachable text reach) (lines_reached text reach rs) (reached-rise text reach rs))

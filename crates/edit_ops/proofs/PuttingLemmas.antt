@@ -8,11 +8,11 @@ use Rattle.text_model.proofs.PlaceLemmas.{coord_at-offset, offset-coord_at, IsPl
 use Rattle.line_buffer.proofs.FlatLemmas.{ordered_lines}
 use Rattle.edit_ops.specs.declared.kinds.Put.{Put}
 use Rattle.edit_ops.specs.declared.kinds.Put.TheVariants.{Before, After, Over, BeforeCursor}
-use Rattle.edit_ops.specs.Putting.{line_begin, line_behind, put_at, some_is_line}
+use Rattle.edit_ops.specs.Putting.{line_begin_of, line_behind, put_at, some_is_line}
 use Rattle.edit_ops.proofs.EachLemmas.{KeepsOrder, cursor-in}
 
 -- by coordinates: where the line of a place begins, and the line behind
-pub line_begin-at : (text : List ℕ) (at : Coord) → IsPlace text at → line_begin text (offset text at) ≡ offset text (record { line = at.line; column = 0 })
+pub line_begin-at : (text : List ℕ) (at : Coord) → IsPlace text at → line_begin_of text (offset text at) ≡ offset text (record { line = at.line; column = 0 })
 line_begin-at text at h = ap (λ (c : Coord). offset text (record { line = c.line; column = 0 })) (coord_at-offset text at h)
 
 pub line_behind-at : (text : List ℕ) (at : Coord) → IsPlace text at → line_behind text (offset text at) ≡ offset text (record { line = at.line + 1; column = 0 })
@@ -23,13 +23,13 @@ pub lines-rise : (text : List ℕ) (a b : ℕ) → a ≤ b → b < length text �
 lines-rise text a b h k =
     ordered_lines text (coord_at text a) (coord_at text b) (inl (IsPlace-coord_at text a (omega arith))) (inl (IsPlace-coord_at text b k)) (omega (arith, offset-coord_at text a (omega arith), offset-coord_at text b (omega arith)))
 
-pub line_begin-rises : (text : List ℕ) (a b : ℕ) → a ≤ b → b < length text → line_begin text a ≤ line_begin text b
+pub line_begin-rises : (text : List ℕ) (a b : ℕ) → a ≤ b → b < length text → line_begin_of text a ≤ line_begin_of text b
 line_begin-rises text a b h k = omega (arith, start-le (lines_of text) (coord_at text a).line (coord_at text b).line (lines-rise text a b h k))
 
 pub line_behind-rises : (text : List ℕ) (a b : ℕ) → a ≤ b → b < length text → line_behind text a ≤ line_behind text b
 line_behind-rises text a b h k = omega (arith, start-le (lines_of text) ((coord_at text a).line + 1) ((coord_at text b).line + 1) (omega (arith, lines-rise text a b h k)))
 
-pub line_begin-le : (text : List ℕ) (o : ℕ) → o < length text → line_begin text o ≤ o
+pub line_begin-le : (text : List ℕ) (o : ℕ) → o < length text → line_begin_of text o ≤ o
 line_begin-le text o h = omega (arith, offset-coord_at text o (omega arith))
 
 pub line_behind-le : (text : List ℕ) (o : ℕ) → o < length text → line_behind text o ≤ length text

@@ -3,7 +3,7 @@ use Rattle.std.proofs.Common.{◌≡◌, ℕ, ◌+◌, ◌-◌, ◌<◌, ◌≤�
 use Rattle.std.specs.List.{AllByRecursion}
 use Rattle.std.proofs.lemmas.List.{take_at, drop_all, drop-drop}
 use Rattle.text_model.specs.Texts.{IsText, IsStored, ends_in_newline}
-use Rattle.text_model.specs.Changes.{Change, Insertion, Erasure, changed, all_changed, put_in, inserted, taken_end, erased, erasure, insertion, insertion_of, front, exchange, replacement, IsInside, move_of}
+use Rattle.text_model.specs.Changes.{Change, Insertion, Erasure, changed, all_changed, put_in, inserted, taken_end, erased, erasure, insertion, insertion_of, front, exchange, replacement, IsChangeInside, move_of}
 use Rattle.text_model.specs.Mapping.{shifted, past_insertion, past_erasure}
 use Rattle.text_model.proofs.CoordLemmas.{test_cases}
 use Rattle.text_model.proofs.ChangeLemmas.{taken_end_cases, taken_end-within, exchange-changes, replacement-plain, replacement-kept, replacement-to_end, put_in-inside, taken_end-inside, length-changed_insertion, length-changed_erasure}
@@ -186,7 +186,7 @@ edit-rises before text from (s ∷ ss) h b k a =
     (rises-replacement text p q s.put (s.to + length new - before) (edit_changes before new ss) (omega arith) (omega (arith, long, one.to, k.0, k.1)) rest)
 
 -- a change leaves the places before it
-pub shift-stays : (text : List ℕ) (c : Change) (o : ℕ) → IsInside text c → o + 1 ≤ begin_of c → shifted (move_of text c) o ≡ o
+pub shift-stays : (text : List ℕ) (c : Change) (o : ℕ) → IsChangeInside text c → o + 1 ≤ begin_of c → shifted (move_of text c) o ≡ o
 shift-stays text (Insertion p s) o h k =
     let same : past_insertion p (p + length s - p) o ≡ o = past_insertion-before p (p + length s - p) o (omega arith) in
     omega (arith, same, length-changed_insertion text p s h)
@@ -195,7 +195,7 @@ shift-stays text (Erasure p q) o h k =
     omega (arith, same, length-changed_erasure text p q h.0 h.1, h.0, h.1)
 
 -- a change takes its begin no further than behind what it puts in
-pub shift-top : (text : List ℕ) (c : Change) → IsInside text c → shifted (move_of text c) (begin_of c) ≤ top_of c
+pub shift-top : (text : List ℕ) (c : Change) → IsChangeInside text c → shifted (move_of text c) (begin_of c) ≤ top_of c
 shift-top text (Insertion p s) h =
     let goes : past_insertion p (p + length s - p) p ≡ p + (p + length s - p) = past_insertion-behind p (p + length s - p) p (omega arith) in
     omega (arith, goes)

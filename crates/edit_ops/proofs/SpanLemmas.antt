@@ -12,10 +12,10 @@ use Rattle.selection_set.specs.declared.sel.Sel.{Sel}
 use Rattle.selection_set.specs.Inside.{range_of, IsInside}
 use Rattle.selection_set.specs.Listing.{Listed, AreInside, ranges_of}
 use Rattle.selection_set.specs.Held.{IsHeld}
-use Rattle.edit_ops.specs.declared.spans.Span.{Span}
-use Rattle.edit_ops.specs.declared.spans.Reach.{Reach}
-use Rattle.edit_ops.specs.declared.spans.Reach.TheVariants.{Touched, Joined}
-use Rattle.edit_ops.specs.Spans.{span_of, is_in, numbers_in, reachable, lines_reached}
+use Rattle.edit_ops.specs.declared.spans.LineSpan.{LineSpan}
+use Rattle.edit_ops.specs.declared.spans.LineReach.{LineReach}
+use Rattle.edit_ops.specs.declared.spans.LineReach.TheVariants.{Touched, Joined}
+use Rattle.edit_ops.specs.Spans.{line_span_of, is_in, numbers_in, reachable, lines_reached}
 use Rattle.edit_ops.specs.SpanWalk.{span_at, end_below, numbers_between, walked}
 
 -- ---- numbers in a row, and what a test keeps of them
@@ -53,21 +53,21 @@ keeps-later p low fails passes f t = keeps-split p low fails passes ∙ ap₂ (�
 -- ---- one span after another
 
 -- spans of which none begins before an earlier one
-abbrev pub FirstsDontFall : List Span → Type 0
+abbrev pub FirstsDontFall : List LineSpan → Type 0
 FirstsDontFall [] = Unit {0}
-FirstsDontFall (s ∷ ss) = AllByRecursion (λ (t : Span). s.first ≤ t.first) ss × FirstsDontFall ss
+FirstsDontFall (s ∷ ss) = AllByRecursion (λ (t : LineSpan). s.first ≤ t.first) ss × FirstsDontFall ss
 
-in-none : (k first : ℕ) (ss : List Span) → k < first → AllByRecursion (λ (t : Span). first ≤ t.first) ss → list_any (is_in k) ss ≡ false
+in-none : (k first : ℕ) (ss : List LineSpan) → k < first → AllByRecursion (λ (t : LineSpan). first ≤ t.first) ss → list_any (is_in k) ss ≡ false
 in-none k first [] h a = refl
 in-none k first (s ∷ ss) h a = ap₂ (λ b c. (b && leb k s.last) || c) (lt-leb s.first k (omega (arith, a.0))) (in-none k first ss h a.1)
 
-before-span : (k : ℕ) (s : Span) (ss : List Span) → k < s.first → AllByRecursion (λ (t : Span). s.first ≤ t.first) ss → list_any (is_in k) (s ∷ ss) ≡ false
+before-span : (k : ℕ) (s : LineSpan) (ss : List LineSpan) → k < s.first → AllByRecursion (λ (t : LineSpan). s.first ≤ t.first) ss → list_any (is_in k) (s ∷ ss) ≡ false
 before-span k s ss h a = ap₂ (λ b c. (b && leb k s.last) || c) (lt-leb s.first k h) (in-none k s.first ss h a)
 
-in-span : (k : ℕ) (s : Span) (ss : List Span) → s.first ≤ k → k ≤ s.last → list_any (is_in k) (s ∷ ss) ≡ true
+in-span : (k : ℕ) (s : LineSpan) (ss : List LineSpan) → s.first ≤ k → k ≤ s.last → list_any (is_in k) (s ∷ ss) ≡ true
 in-span k s ss h l = ap₂ (λ b c. (b && c) || list_any (is_in k) ss) (le-leb s.first k h) (le-leb k s.last l)
 
-behind-span : (k : ℕ) (s : Span) (ss : List Span) → s.last < k → list_any (is_in k) (s ∷ ss) ≡ list_any (is_in k) ss
+behind-span : (k : ℕ) (s : LineSpan) (ss : List LineSpan) → s.last < k → list_any (is_in k) (s ∷ ss) ≡ list_any (is_in k) ss
 behind-span k s ss h = ap (λ b. b || list_any (is_in k) ss) (ap (λ c. leb s.first k && c) (lt-leb k s.last h) ∙ and-false (leb s.first k))
   where
     and-false : (b : Bool) → (b && false) ≡ false
@@ -78,7 +78,7 @@ none-between : (a b : ℕ) → b ≤ a → [] ≡ numbers_between a b
 none-between a b h = ap (range_with_len a) (let e : 0 ≡ b - a = omega arith in e)
 
 -- the numbers from a least one to where a span ends that are in it, or in later ones
-span-part : (count low : ℕ) (s : Span) (ss : List Span) → AllByRecursion (λ (t : Span). s.first ≤ t.first) ss
+span-part : (count low : ℕ) (s : LineSpan) (ss : List LineSpan) → AllByRecursion (λ (t : LineSpan). s.first ≤ t.first) ss
     → filter (λ k. list_any (is_in k) (s ∷ ss)) (range_with_len low (max low (end_below count s) - low)) ≡ numbers_between (max low s.first) (end_below count s)
 span-part count low s ss a = by_order (leb (end_below count s) (max low s.first)) refl
   where
@@ -102,7 +102,7 @@ span-part count low s ss a = by_order (leb (end_below count s) (max low s.first)
         ∙ ap (λ k. range_with_len k (stop - begin)) back
 
 -- the numbers from a least one on that are in some of the spans
-found : (count low n : ℕ) (ss : List Span) → low + n ≡ count → FirstsDontFall ss → filter (λ k. list_any (is_in k) ss) (range_with_len low n) ≡ walked count low ss
+found : (count low n : ℕ) (ss : List LineSpan) → low + n ≡ count → FirstsDontFall ss → filter (λ k. list_any (is_in k) ss) (range_with_len low n) ≡ walked count low ss
 found count low n [] e f = keeps-none (λ k. false) low n (λ k l u. refl)
 found count low n (s ∷ ss) e f =
     let stop : ℕ = end_below count s in
@@ -119,33 +119,33 @@ found count low n (s ∷ ss) e f =
 
 -- ---- the spans of selections
 
-span-of : (text : List ℕ) (reach : Reach) (sel : Sel) → IsInside text sel → span_of text reach (range_of text sel) ≡ span_at reach sel
-span-of text Touched sel i = ap₂ (λ (a b : Coord). let s : Span = record { first = a.line; last = b.line } in s) (coord_at-offset text sel.low i.low) (coord_at-offset text sel.high i.high)
+span-of : (text : List ℕ) (reach : LineReach) (sel : Sel) → IsInside text sel → line_span_of text reach (range_of text sel) ≡ span_at reach sel
+span-of text Touched sel i = ap₂ (λ (a b : Coord). let s : LineSpan = record { first = a.line; last = b.line } in s) (coord_at-offset text sel.low i.low) (coord_at-offset text sel.high i.high)
 span-of text Joined sel i =
-    ap₂ (λ (a b : Coord). let s : Span = record { first = a.line; last = max a.line (b.line - 1) } in s) (coord_at-offset text sel.low i.low) (coord_at-offset text sel.high i.high)
+    ap₂ (λ (a b : Coord). let s : LineSpan = record { first = a.line; last = max a.line (b.line - 1) } in s) (coord_at-offset text sel.low i.low) (coord_at-offset text sel.high i.high)
 
-spans-of : (text : List ℕ) (reach : Reach) (sels : List Sel) → AreInside text sels → map (span_of text reach) (ranges_of text sels) ≡ map (span_at reach) sels
+spans-of : (text : List ℕ) (reach : LineReach) (sels : List Sel) → AreInside text sels → map (line_span_of text reach) (ranges_of text sels) ≡ map (span_at reach) sels
 spans-of text reach [] a = refl
-spans-of text reach (x ∷ sels) a = ap₂ (λ (s : Span) ss. s ∷ ss) (span-of text reach x a.0) (spans-of text reach sels a.1)
+spans-of text reach (x ∷ sels) a = ap₂ (λ (s : LineSpan) ss. s ∷ ss) (span-of text reach x a.0) (spans-of text reach sels a.1)
 
-first-at : (reach : Reach) (sel : Sel) → (span_at reach sel).first ≡ sel.low.line
+first-at : (reach : LineReach) (sel : Sel) → (span_at reach sel).first ≡ sel.low.line
 first-at Touched sel = refl
 first-at Joined sel = refl
 
-later-firsts : (text : List ℕ) (reach : Reach) (sel : Sel) (sels : List Sel) → IsInside text sel → AreInside text sels → AllByRecursion (λ (s : Range). (range_of text sel).high < s.low) (ranges_of text sels)
-    → AllByRecursion (λ (t : Span). (span_at reach sel).first ≤ t.first) (map (span_at reach) sels)
+later-firsts : (text : List ℕ) (reach : LineReach) (sel : Sel) (sels : List Sel) → IsInside text sel → AreInside text sels → AllByRecursion (λ (s : Range). (range_of text sel).high < s.low) (ranges_of text sels)
+    → AllByRecursion (λ (t : LineSpan). (span_at reach sel).first ≤ t.first) (map (span_at reach) sels)
 later-firsts text reach sel [] i a b = tt
 later-firsts text reach sel (x ∷ sels) i a b = (
   omega (arith, first-at reach sel, first-at reach x, ordered_lines text sel.low x.low (inl i.low) (inl a.0.low) (omega (arith, i.ordered, b.0))),
   later-firsts text reach sel sels i a.1 b.1,
 )
 
-firsts-at : (text : List ℕ) (reach : Reach) (sels : List Sel) → AreInside text sels → AreApart (ranges_of text sels) → FirstsDontFall (map (span_at reach) sels)
+firsts-at : (text : List ℕ) (reach : LineReach) (sels : List Sel) → AreInside text sels → AreApart (ranges_of text sels) → FirstsDontFall (map (span_at reach) sels)
 firsts-at text reach [] a b = tt
 firsts-at text reach (x ∷ sels) a b = (later-firsts text reach x sels a.0 a.1 b.0, firsts-at text reach sels a.1 b.1)
 
 -- the walk finds the lines that the selections of a list reach
-pub walk-reaches : (text : List ℕ) (reach : Reach) (list : Listed) → IsHeld text list → walked (reachable text reach) 0 (map (span_at reach) list.list) ≡ lines_reached text reach (ranges_of text list.list)
+pub walk-reaches : (text : List ℕ) (reach : LineReach) (list : Listed) → IsHeld text list → walked (reachable text reach) 0 (map (span_at reach) list.list) ≡ lines_reached text reach (ranges_of text list.list)
 walk-reaches text reach list h =
     let count : ℕ = reachable text reach in
     sym (ap (λ ss. numbers_in count ss) (spans-of text reach list.list h.inside) ∙ found count 0 count (map (span_at reach) list.list) (omega arith) (firsts-at text reach list.list h.inside h.settled.apart))
@@ -175,9 +175,9 @@ rising-kept p from count [] r = tt
 rising-kept p from count (n ∷ ns) r = rising-test (p n) from count n (filter p ns) r.0 r.1 (rising-kept p (n + 1) count ns r.2)
 
 -- and so do the lines that ranges reach
-pub reached-rise : (text : List ℕ) (reach : Reach) (rs : List Range) → IsRising 0 (reachable text reach) (lines_reached text reach rs)
+pub reached-rise : (text : List ℕ) (reach : LineReach) (rs : List Range) → IsRising 0 (reachable text reach) (lines_reached text reach rs)
 reached-rise text reach rs =
-    rising-kept (λ n. list_any (is_in n) (map (span_of text reach) rs)) 0 (reachable text reach) (range_with_len 0 (reachable text reach)) (rising-row 0 (reachable text reach) (reachable text reach) (omega arith))
+    rising-kept (λ n. list_any (is_in n) (map (line_span_of text reach) rs)) 0 (reachable text reach) (range_with_len 0 (reachable text reach)) (rising-row 0 (reachable text reach) (reachable text reach) (omega arith))
 
 pub rising-below : (from count : ℕ) (ns : List ℕ) (i d : ℕ) → IsRising from count ns → i < length ns → get_or ns i d < count
 rising-below from count [] i d r h = absurd (omega arith)
@@ -185,7 +185,7 @@ rising-below from count (n ∷ ns) zero d r h = r.1
 rising-below from count (n ∷ ns) (suc i) d r h = rising-below (n + 1) count ns i d r.2 (omega arith)
 
 -- so each lies below the count
-pub reached-below : (text : List ℕ) (reach : Reach) (rs : List Range) (ns : List ℕ) (i : ℕ) → ns ≡ lines_reached text reach rs → i < length ns → get_or ns i 0 < reachable text reach
+pub reached-below : (text : List ℕ) (reach : LineReach) (rs : List Range) (ns : List ℕ) (i : ℕ) → ns ≡ lines_reached text reach rs → i < length ns → get_or ns i 0 < reachable text reach
 reached-below text reach rs ns i e h = rising-below 0 (reachable text reach) ns i 0 (subst (IsRising 0 (reachable text reach)) (sym e) (reached-rise text reach rs)) h
 
 -- ---- the walk by its steps

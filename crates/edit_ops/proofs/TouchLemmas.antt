@@ -5,14 +5,14 @@ use Rattle.text_model.specs.Texts.{IsText, IsPlace, coord_at, lines_of}
 use Rattle.text_model.proofs.PlaceLemmas.{coord_at-offset, offset-coord_at, IsPlace-coord_at, nth_line_is_line, offset-earlier_line}
 use Rattle.line_buffer.proofs.FlatLemmas.{ordered_lines, start-le-offset}
 use Rattle.list_model.specs.Ranges.{Range}
-use Rattle.edit_ops.specs.declared.spans.Reach.TheVariants.{Touched}
-use Rattle.edit_ops.specs.Spans.{line_of, line_start, span_of, is_in, HoldsSomeOf}
+use Rattle.edit_ops.specs.declared.spans.LineReach.TheVariants.{Touched}
+use Rattle.edit_ops.specs.Spans.{line_of, line_start, line_span_of, is_in, HoldsSomeOf}
 
 lines-rise : (text : List ℕ) (a b : ℕ) → a ≤ b → b < length text → line_of text a ≤ line_of text b
 lines-rise text a b h k =
     ordered_lines text (coord_at text a) (coord_at text b) (inl (IsPlace-coord_at text a (omega arith))) (inl (IsPlace-coord_at text b k)) (omega (arith, offset-coord_at text a (omega arith), offset-coord_at text b (omega arith)))
 
-pub held-touched : (text : List ℕ) (r : Range) (n : ℕ) → r.high < length text → HoldsSomeOf text r n → is_in n (span_of text Touched r) ≡ true
+pub held-touched : (text : List ℕ) (r : Range) (n : ℕ) → r.high < length text → HoldsSomeOf text r n → is_in n (line_span_of text Touched r) ≡ true
 held-touched text r n l (o, from, to, at) =
     ap₂ (λ (b c : Bool). b && c) (le-leb (line_of text r.low) n (omega (arith, at, lines-rise text r.low o from (omega arith)))) (le-leb n (line_of text r.high) (omega (arith, at, lines-rise text o r.high to l)))
 
@@ -39,7 +39,7 @@ both-hold : (a b : Bool) → (a && b) ≡ true → (a ≡ true) × (b ≡ true)
 both-hold true b h = (refl, h)
 both-hold false b h = absurd (let e : false ≡ true = h in cc)
 
-pub touched-held : (text : List ℕ) (r : Range) (n : ℕ) → IsText text → r.low ≤ r.high → r.high < length text → is_in n (span_of text Touched r) ≡ true → HoldsSomeOf text r n
+pub touched-held : (text : List ℕ) (r : Range) (n : ℕ) → IsText text → r.low ≤ r.high → r.high < length text → is_in n (line_span_of text Touched r) ≡ true → HoldsSomeOf text r n
 touched-held text r n t o l h =
     let b = both-hold (leb (line_of text r.low) n) (leb n (line_of text r.high)) h in
     first-or-later text r n (leb n (line_of text r.low)) refl t o l (leb-true (line_of text r.low) n b.0) (leb-true n (line_of text r.high) b.1)

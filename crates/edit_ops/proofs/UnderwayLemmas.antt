@@ -19,17 +19,17 @@ use Rattle.selection_map.specs.Premises.{IsTied}
 use Rattle.selection_map.proofs.TieLemmas.{rebased-at}
 use Rattle.buffer_store.specs.declared.edits.Splice.{Splice}
 use Rattle.buffer_store.specs.Buffers.{flat_splice, flat_splices, IsSpliceOf}
-use Rattle.buffer_store.specs.Stored.{shifts_of}
+use Rattle.buffer_store.specs.Stored.{change_shifts}
 use Rattle.buffer_store.proofs.MakingLemmas.{shifts_of-append}
-use Rattle.edit_ops.specs.declared.passing.Passed.{Passed}
+use Rattle.edit_ops.specs.declared.passing.PassedShifts.{PassedShifts}
 use Rattle.edit_ops.specs.Leaving.{put_for, replaced}
-use Rattle.edit_ops.specs.Passing.{is_same, one_if, place, keeps_newline, puts_in, no_shift, last_of, count_then, last_then, passed}
+use Rattle.edit_ops.specs.Passing.{is_same, one_if, place, keeps_newline, puts_in, no_shift, last_shift_of, count_then, last_then, passed}
 use Rattle.edit_ops.proofs.ShapeLemmas.{begin_of, is_kept, put_for-plain, Shape, shape, shape-length, shape-behind, steps-front, steps-back, RisesFrom, edit-rises, rises-replacement, order-within}
 use Rattle.edit_ops.proofs.EndedLemmas.{same-true, same-refl, coords-stay}
 use Rattle.edit_ops.proofs.CountLemmas.{AreTests, count-replacement, last-shift, last-insertion, length-shifts, put_in-some, ways, and_false}
 
 -- the replacements that are left of an edit of a text, in the text of the moment, which is the same behind an offset of each
-pub record IsUnderway (text : List ℕ) (last : Coord) (shifts : List Shift) (w : Passed) (rest : List Splice) (now : List ℕ) (from : ℕ) : Type 0 where
+pub record IsUnderway (text : List ℕ) (last : Coord) (shifts : List Shift) (w : PassedShifts) (rest : List Splice) (now : List ℕ) (from : ℕ) : Type 0 where
   pub first : IsStored text
   pub stored : IsStored now
   pub behind : length text ≤ from + length now
@@ -42,7 +42,7 @@ pub record IsUnderway (text : List ℕ) (last : Coord) (shifts : List Shift) (w 
   pub order : AreInOrder from (length text) (flat_splices text rest)
   pub steps : AreSteps now (edit_changes (length text) now (flat_splices text rest))
   pub next_in : w.next ≤ length shifts
-  pub shifts_are : drop w.next shifts ≡ shifts_of now (edit_changes (length text) now (flat_splices text rest))
+  pub shifts_are : drop w.next shifts ≡ change_shifts now (edit_changes (length text) now (flat_splices text rest))
 
 -- the range of the next replacement in the text of the moment, its changes, and the text behind it
 abbrev pub begin_in : List ℕ → List ℕ → Splice → ℕ
@@ -61,7 +61,7 @@ abbrev pub rest_in : List ℕ → List ℕ → Splice → List Splice → List C
 rest_in text now s ss = edit_changes (length text) (then_in text now s) (flat_splices text ss)
 
 -- what is known of the next replacement
-pub record IsNext (text : List ℕ) (last : Coord) (shifts : List Shift) (w : Passed) (s : Splice) (ss : List Splice) (now : List ℕ) : Type 0 where
+pub record IsNext (text : List ℕ) (last : Coord) (shifts : List Shift) (w : PassedShifts) (s : Splice) (ss : List Splice) (now : List ℕ) : Type 0 where
   pub lower : length text ≤ offset text s.from + length now
   pub ordered : offset text s.from ≤ offset text s.to
   pub within : offset text s.to ≤ length text
@@ -80,7 +80,7 @@ pub record IsNext (text : List ℕ) (last : Coord) (shifts : List Shift) (w : Pa
 same-of : (text : List ℕ) (a b : Coord) → IsText text → IsPlaceOrEnd text a → IsPlaceOrEnd text b → is_same a b ≡ false → offset text a ≢ offset text b
 same-of text a b h k l e o = let n : true ≡ false = sym (same-refl a b (offset_determines text a b k l o)) ∙ e in cc
 
-pub next : (text : List ℕ) (last : Coord) (shifts : List Shift) (w : Passed) (s : Splice) (ss : List Splice) (now : List ℕ) (from : ℕ) → IsUnderway text last shifts w (s ∷ ss) now from → IsNext text last shifts w s ss now
+pub next : (text : List ℕ) (last : Coord) (shifts : List Shift) (w : PassedShifts) (s : Splice) (ss : List Splice) (now : List ℕ) (from : ℕ) → IsUnderway text last shifts w (s ∷ ss) now from → IsNext text last shifts w s ss now
 next text last shifts w s ss now from u =
     let p : ℕ = begin_in text now s in
     let q : ℕ = end_in text now s in
@@ -124,7 +124,7 @@ next text last shifts w s ss now from u =
     }
 
 -- whether the last newline stays
-pub keeps-is : (text : List ℕ) (last : Coord) (shifts : List Shift) (w : Passed) (s : Splice) (ss : List Splice) (now : List ℕ) → 0 < length text → IsNext text last shifts w s ss now → keeps_newline last s ≡ is_kept now (begin_in text now s) (end_in text now s) s.text
+pub keeps-is : (text : List ℕ) (last : Coord) (shifts : List Shift) (w : PassedShifts) (s : Splice) (ss : List Splice) (now : List ℕ) → 0 < length text → IsNext text last shifts w s ss now → keeps_newline last s ≡ is_kept now (begin_in text now s) (end_in text now s) s.text
 keeps-is text last shifts w s ss now some n =
     ap₂ (λ v x. v && (x && ends_in_newline s.text)) (first (is_same s.from s.to) n.same_is n.other_is) (ap not n.end_test ∙ second)
   where
@@ -139,46 +139,46 @@ keeps-is text last shifts w s ss now some n =
     ]
 
 -- the shifts of the next replacement come first
-pub record AreNext (text : List ℕ) (last : Coord) (shifts : List Shift) (w : Passed) (s : Splice) (ss : List Splice) (now : List ℕ) : Type 0 where
+pub record AreNext (text : List ℕ) (last : Coord) (shifts : List Shift) (w : PassedShifts) (s : Splice) (ss : List Splice) (now : List ℕ) : Type 0 where
   pub count : count_then last w s (place w s) ≡ w.next + length (changes_in text now s)
-  pub parts : drop w.next shifts ≡ shifts_of now (changes_in text now s) ++ shifts_of (then_in text now s) (rest_in text now s ss)
+  pub parts : drop w.next shifts ≡ change_shifts now (changes_in text now s) ++ change_shifts (then_in text now s) (rest_in text now s ss)
   pub room : w.next + length (changes_in text now s) ≤ length shifts
-  pub rest : drop (count_then last w s (place w s)) shifts ≡ shifts_of (then_in text now s) (rest_in text now s ss)
+  pub rest : drop (count_then last w s (place w s)) shifts ≡ change_shifts (then_in text now s) (rest_in text now s ss)
 
-pub next-shifts : (text : List ℕ) (last : Coord) (shifts : List Shift) (w : Passed) (s : Splice) (ss : List Splice) (now : List ℕ) (from : ℕ) → IsUnderway text last shifts w (s ∷ ss) now from → IsNext text last shifts w s ss now → AreNext text last shifts w s ss now
+pub next-shifts : (text : List ℕ) (last : Coord) (shifts : List Shift) (w : PassedShifts) (s : Splice) (ss : List Splice) (now : List ℕ) (from : ℕ) → IsUnderway text last shifts w (s ∷ ss) now from → IsNext text last shifts w s ss now → AreNext text last shifts w s ss now
 next-shifts text last shifts w s ss now from u n =
     let cs : List Change = changes_in text now s in
     let count : count_then last w s (place w s) ≡ w.next + length cs =
     ap (λ k. w.next + k) (sym (count-replacement now (begin_in text now s) (end_in text now s) s.text (is_same s.from s.to) (is_same s.from last) (ltb 0 (place w s).line && eqb (place w s).column 0) (keeps_newline last s) n.tests (keeps-is text last shifts w s ss now u.first.is_text.some n))) in
-    let parts : drop w.next shifts ≡ shifts_of now cs ++ shifts_of (then_in text now s) (rest_in text now s ss) = u.shifts_are ∙ shifts_of-append now cs (rest_in text now s ss) in
+    let parts : drop w.next shifts ≡ change_shifts now cs ++ change_shifts (then_in text now s) (rest_in text now s ss) = u.shifts_are ∙ shifts_of-append now cs (rest_in text now s ss) in
     record {
       count = count;
       parts = parts;
-      room = omega (arith, u.next_in, length-drop w.next shifts, ap length parts, length-append (shifts_of now cs) (shifts_of (then_in text now s) (rest_in text now s ss)), length-shifts now cs);
-      rest = ap (λ k. drop k shifts) count ∙ sym (drop-drop (length cs) w.next shifts) ∙ ap (drop (length cs)) parts ∙ drop_at (shifts_of now cs) (shifts_of (then_in text now s) (rest_in text now s ss)) (length cs) (length-shifts now cs);
+      room = omega (arith, u.next_in, length-drop w.next shifts, ap length parts, length-append (change_shifts now cs) (change_shifts (then_in text now s) (rest_in text now s ss)), length-shifts now cs);
+      rest = ap (λ k. drop k shifts) count ∙ sym (drop-drop (length cs) w.next shifts) ∙ ap (drop (length cs)) parts ∙ drop_at (change_shifts now cs) (change_shifts (then_in text now s) (rest_in text now s ss)) (length cs) (length-shifts now cs);
     }
 
 -- the last of them
-pub last_of-is : (text : List ℕ) (last : Coord) (shifts : List Shift) (w : Passed) (s : Splice) (ss : List Splice) (now : List ℕ) (i : ℕ) → AreNext text last shifts w s ss now → i + 1 ≡ length (changes_in text now s)
-    → last_of shifts (count_then last w s (place w s)) ≡ get_or (shifts_of now (changes_in text now s)) i no_shift
+pub last_of-is : (text : List ℕ) (last : Coord) (shifts : List Shift) (w : PassedShifts) (s : Splice) (ss : List Splice) (now : List ℕ) (i : ℕ) → AreNext text last shifts w s ss now → i + 1 ≡ length (changes_in text now s)
+    → last_shift_of shifts (count_then last w s (place w s)) ≡ get_or (change_shifts now (changes_in text now s)) i no_shift
 last_of-is text last shifts w s ss now i a e =
     let at : count_then last w s (place w s) - 1 ≡ w.next + i = omega (arith, a.count) in
     ap (λ k. get_or shifts k no_shift) at ∙ sym (get_or-drop w.next shifts i no_shift) ∙ ap (λ l. get_or l i no_shift) a.parts
-    ∙ get_or_append_left (shifts_of now (changes_in text now s)) (shifts_of (then_in text now s) (rest_in text now s ss)) no_shift i (omega (arith, length-shifts now (changes_in text now s)))
+    ∙ get_or_append_left (change_shifts now (changes_in text now s)) (change_shifts (then_in text now s) (rest_in text now s ss)) no_shift i (omega (arith, length-shifts now (changes_in text now s)))
 
-pub last_then-is : (text : List ℕ) (last : Coord) (shifts : List Shift) (w : Passed) (s : Splice) (ss : List Splice) (now : List ℕ) (from : ℕ) → IsUnderway text last shifts w (s ∷ ss) now from → AreNext text last shifts w s ss now
+pub last_then-is : (text : List ℕ) (last : Coord) (shifts : List Shift) (w : PassedShifts) (s : Splice) (ss : List Splice) (now : List ℕ) (from : ℕ) → IsUnderway text last shifts w (s ∷ ss) now from → AreNext text last shifts w s ss now
     → last_then shifts w (count_then last w s (place w s)) ≡ coord_at (then_in text now s) (last_place (then_in text now s))
 last_then-is text last shifts w s ss now from u a = by (changes_in text now s) refl
   where
     by : (cs : List Change) → changes_in text now s ≡ cs → last_then shifts w (count_then last w s (place w s)) ≡ coord_at (then_in text now s) (last_place (then_in text now s))
     by [] e =
-        ap (λ v. cond v w.last (last_of shifts (count_then last w s (place w s))).last) (eq-eqb (count_then last w s (place w s)) w.next (omega (arith, a.count, ap length e)))
+        ap (λ v. cond v w.last (last_shift_of shifts (count_then last w s (place w s))).last) (eq-eqb (count_then last w s (place w s)) w.next (omega (arith, a.count, ap length e)))
         ∙ u.last_is ∙ ap (λ t. coord_at t (last_place t)) (sym (ap (all_changed now) e))
     by (c ∷ cs) e =
         let some : 0 < length (changes_in text now s) = omega (arith, ap length e) in
         let i : ℕ = length (changes_in text now s) - 1 in
         let at : i + 1 ≡ length (changes_in text now s) = omega arith in
-        ap (λ v. cond v w.last (last_of shifts (count_then last w s (place w s))).last) (ne_eqb (count_then last w s (place w s)) w.next (λ k. omega (arith, a.count)))
+        ap (λ v. cond v w.last (last_shift_of shifts (count_then last w s (place w s))).last) (ne_eqb (count_then last w s (place w s)) w.next (λ k. omega (arith, a.count)))
         ∙ ap (λ (x : Shift). x.last) (last_of-is text last shifts w s ss now i a at) ∙ last-shift now (changes_in text now s) i at
 
 pub all-front : {X : Type 0} (P : X → Type 0) (xs ys : List X) → AllByRecursion P (xs ++ ys) → AllByRecursion P xs
@@ -192,8 +192,8 @@ end-behind text h =
     ap (coord_at text) up ∙ reached-push origin text (last_place text) (omega (arith, h.some)) ∙ after-newline (coord_at text (last_place text)) (get_or text (last_place text) 0) (eq-eqb (get_or text (last_place text) 0) 10 h.ended)
 
 -- where nothing of the last newline stays, the shift of what is put in ends behind it
-pub put-end : (text : List ℕ) (last : Coord) (shifts : List Shift) (w : Passed) (s : Splice) (ss : List Splice) (now : List ℕ) → AreNext text last shifts w s ss now → is_kept now (begin_in text now s) (end_in text now s) s.text ≡ false → 0 < length s.text
-    → (last_of shifts (count_then last w s (place w s))).end ≡ coord_at (then_in text now s) (begin_in text now s + length (put_for now (begin_in text now s) (end_in text now s) s.text))
+pub put-end : (text : List ℕ) (last : Coord) (shifts : List Shift) (w : PassedShifts) (s : Splice) (ss : List Splice) (now : List ℕ) → AreNext text last shifts w s ss now → is_kept now (begin_in text now s) (end_in text now s) s.text ≡ false → 0 < length s.text
+    → (last_shift_of shifts (count_then last w s (place w s))).end ≡ coord_at (then_in text now s) (begin_in text now s + length (put_for now (begin_in text now s) (end_in text now s) s.text))
 put-end text last shifts w s ss now a k some =
     let p : ℕ = begin_in text now s in
     let q : ℕ = end_in text now s in
@@ -202,7 +202,7 @@ put-end text last shifts w s ss now a k some =
     let cs : changes_in text now s ≡ erasure now p q ++ insertion_of p put = replacement-plain now p q s.text k in
     let one : length (insertion_of p put) ≡ 1 = ones p put more in
     let at : length (erasure now p q) + 1 ≡ length (changes_in text now s) = omega (arith, ap length cs, length-append (erasure now p q) (insertion_of p put), one) in
-    ap (λ (x : Shift). x.end) (last_of-is text last shifts w s ss now (length (erasure now p q)) a at ∙ ap (λ xs. get_or (shifts_of now xs) (length (erasure now p q)) no_shift) cs)
+    ap (λ (x : Shift). x.end) (last_of-is text last shifts w s ss now (length (erasure now p q)) a at ∙ ap (λ xs. get_or (change_shifts now xs) (length (erasure now p q)) no_shift) cs)
     ∙ last-insertion now (erasure now p q) p put (length (erasure now p q)) more refl
     ∙ ap₂ (λ xs ys. coord_at (all_changed now xs) (p + length ys)) (sym cs) (sym (put_for-plain now p q s.text k))
   where
@@ -211,7 +211,7 @@ put-end text last shifts w s ss now a k some =
     ones p (x ∷ xs) h = refl
 
 -- what is before the begin of a replacement stays
-pub place-stays : (text : List ℕ) (last : Coord) (shifts : List Shift) (w : Passed) (s : Splice) (ss : List Splice) (now : List ℕ) (from : ℕ) → IsUnderway text last shifts w (s ∷ ss) now from → IsNext text last shifts w s ss now
+pub place-stays : (text : List ℕ) (last : Coord) (shifts : List Shift) (w : PassedShifts) (s : Splice) (ss : List Splice) (now : List ℕ) (from : ℕ) → IsUnderway text last shifts w (s ∷ ss) now from → IsNext text last shifts w s ss now
     → place w s ≡ coord_at (then_in text now s) (begin_in text now s)
 place-stays text last shifts w s ss now from u n =
     n.place_is ∙ sym (coords-stay now (changes_in text now s) (begin_in text now s) u.stored n.front (all-front (λ c. begin_in text now s ≤ begin_of c) (changes_in text now s) (rest_in text now s ss) n.rises.from))
@@ -224,7 +224,7 @@ empty-put text p q [] h = none (is_kept text p q [])
     none false = refl
 empty-put text p q (c ∷ cs) h = absurd (omega arith)
 
-now_then-is : (text : List ℕ) (last : Coord) (shifts : List Shift) (w : Passed) (s : Splice) (ss : List Splice) (now : List ℕ) (from : ℕ) → IsUnderway text last shifts w (s ∷ ss) now from → IsNext text last shifts w s ss now → AreNext text last shifts w s ss now
+now_then-is : (text : List ℕ) (last : Coord) (shifts : List Shift) (w : PassedShifts) (s : Splice) (ss : List Splice) (now : List ℕ) (from : ℕ) → IsUnderway text last shifts w (s ∷ ss) now from → IsNext text last shifts w s ss now → AreNext text last shifts w s ss now
     → (passed last shifts w s).now ≡ coord_at (then_in text now s) (offset text s.to + length (then_in text now s) - length text)
 now_then-is text last shifts w s ss now from u n a =
     let p : ℕ = begin_in text now s in
@@ -233,7 +233,7 @@ now_then-is text last shifts w s ss now from u n a =
     let put : List ℕ = put_for now p q s.text in
     let l : Coord = last_then shifts w (count_then last w s (place w s)) in
     let after_end : Coord = record { line = l.line + 1; column = 0 } in
-    let shift_end : Coord = (last_of shifts (count_then last w s (place w s))).end in
+    let shift_end : Coord = (last_shift_of shifts (count_then last w s (place w s))).end in
     let long : length new + n.shape.kept ≡ length now + (p + length put) = shape-length now p q put new n.tests.inside n.shape in
     elim (ways (offset text s.to) (length text)) [
       | inl lt ↦
@@ -258,7 +258,7 @@ now_then-is text last shifts w s ss now from u n a =
     ]
 
 -- behind a replacement, the others are left
-pub then-underway : (text : List ℕ) (last : Coord) (shifts : List Shift) (w : Passed) (s : Splice) (ss : List Splice) (now : List ℕ) (from : ℕ) → IsUnderway text last shifts w (s ∷ ss) now from
+pub then-underway : (text : List ℕ) (last : Coord) (shifts : List Shift) (w : PassedShifts) (s : Splice) (ss : List Splice) (now : List ℕ) (from : ℕ) → IsUnderway text last shifts w (s ∷ ss) now from
     → IsUnderway text last shifts (passed last shifts w s) ss (then_in text now s) (offset text s.to)
 then-underway text last shifts w s ss now from u =
     let n : IsNext text last shifts w s ss now = next text last shifts w s ss now from u in

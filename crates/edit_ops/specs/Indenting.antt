@@ -6,7 +6,7 @@ use Rattle.list_model.specs.Ranges.{Range}
 use Rattle.undo_model.specs.Edits.{Splice}
 use Rattle.edit_ops.specs.declared.kinds.Indent.{Indent}
 use Rattle.edit_ops.specs.declared.kinds.Indent.TheVariants.{More, Less}
-use Rattle.edit_ops.specs.declared.spans.Reach.TheVariants.{Touched}
+use Rattle.edit_ops.specs.declared.spans.LineReach.TheVariants.{Touched}
 use Rattle.edit_ops.specs.Spans.{line_start, lines_reached}
 use Rattle.edit_ops.specs.Blanks.{blanks_within}
 

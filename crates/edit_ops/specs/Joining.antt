@@ -3,7 +3,7 @@ use Rattle.std.specs.Prelude.{ℕ, ◌+◌, ◌-◌, List, [], ◌∷◌, map}
 use Rattle.text_model.specs.Texts.{nth_line}
 use Rattle.list_model.specs.Ranges.{Range}
 use Rattle.undo_model.specs.Edits.{Splice}
-use Rattle.edit_ops.specs.declared.spans.Reach.TheVariants.{Joined}
+use Rattle.edit_ops.specs.declared.spans.LineReach.TheVariants.{Joined}
 use Rattle.edit_ops.specs.Spans.{line_start, lines_reached}
 use Rattle.edit_ops.specs.Blanks.{blanks}
 

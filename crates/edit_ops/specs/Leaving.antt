@@ -8,8 +8,8 @@ use Rattle.list_model.specs.Settling.{carried, settled}
 use Rattle.undo_model.specs.Edits.{Splice, splice_changes, edit_changes}
 
 -- the text after an edit
-abbrev pub edited : List ℕ → List Splice → List ℕ
-edited text ss = all_changed text (edit_changes (length text) text ss)
+abbrev pub edited_text : List ℕ → List Splice → List ℕ
+edited_text text ss = all_changed text (edit_changes (length text) text ss)
 
 -- what counts as put in where the range from p to before q is replaced: what is really put in, and with it the last newline
 -- of the text where it stays in the place of another
@@ -26,8 +26,8 @@ abbrev pub replaced : ℕ → List ℕ → Splice → List ℕ
 replaced before text s = all_changed text (splice_changes before text s)
 
 -- what one replacement of an edit leaves, in the text behind it
-abbrev pub mark_of : ℕ → List ℕ → Splice → Range
-mark_of before text s = filled (replaced before text s) (s.from + length text - before) (put_for text (s.from + length text - before) (s.to + length text - before) s.put)
+abbrev pub edit_mark : ℕ → List ℕ → Splice → Range
+edit_mark before text s = filled (replaced before text s) (s.from + length text - before) (put_for text (s.from + length text - before) (s.to + length text - before) s.put)
 
 -- a range gone through changes of a text, one after another
 abbrev pub gone_through : List ℕ → List Change → Range → Range
@@ -38,8 +38,8 @@ gone_through text (c ∷ cs) r = gone_through (changed text c) cs (carried (shif
 abbrev pub ranges_left : ℕ → List ℕ → List Splice → List Range
 ranges_left before text [] = []
 ranges_left before text (s ∷ ss) =
-    gone_through (replaced before text s) (edit_changes before (replaced before text s) ss) (mark_of before text s) ∷ ranges_left before (replaced before text s) ss
+    gone_through (replaced before text s) (edit_changes before (replaced before text s) ss) (edit_mark before text s) ∷ ranges_left before (replaced before text s) ss
 
 -- the list that an edit leaves, where the main selection was the one with this number
-abbrev pub left_by : List ℕ → List Splice → ℕ → Selected
-left_by text ss main = settled (record { list = ranges_left (length text) text ss; main = main })
+abbrev pub list_left_by : List ℕ → List Splice → ℕ → Selected
+list_left_by text ss main = settled (record { list = ranges_left (length text) text ss; main = main })

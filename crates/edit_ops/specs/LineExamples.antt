@@ -6,32 +6,32 @@ use Rattle.edit_ops.specs.declared.kinds.Indent.TheVariants.{More, Less}
 use Rattle.edit_ops.specs.Samples.{straight, turned}
 use Rattle.edit_ops.specs.Joining.{joins}
 use Rattle.edit_ops.specs.Indenting.{indents}
-use Rattle.edit_ops.specs.Leaving.{edited}
+use Rattle.edit_ops.specs.Leaving.{edited_text}
 
 -- a text whose lines were joined
-abbrev pub joined : List ℕ → List Range → List ℕ
-joined text rs = edited text (joins text rs)
+abbrev pub text_joined : List ℕ → List Range → List ℕ
+text_joined text rs = edited_text text (joins text rs)
 
 -- a text whose lines were indented, where tabs reach each eighth column
 abbrev pub indented : List ℕ → Indent → ℕ → List Range → List ℕ
-indented text how width rs = edited text (indents text how width 8 rs)
+indented text how width rs = edited_text text (indents text how width 8 rs)
 
 pub record JoinExamples : Type 0 where
-  pub two_lines : joined (codes "a\nb\n") (straight 0 3 ∷ []) ≡ codes "a b\n"
-  pub each_newline_becomes_a_space : joined (codes "a\n\nb\n") (straight 0 4 ∷ []) ≡ codes "a  b\n"
-  pub blanks_go : joined (codes "a\n  b\n") (only 0 ∷ []) ≡ codes "a b\n"
-  pub tabs_go_too : joined (codes "a\n\t b\n") (only 1 ∷ []) ≡ codes "a b\n"
-  pub wide_spaces_go_too : joined (97 ∷ 10 ∷ 0x3000 ∷ 98 ∷ 10 ∷ []) (only 0 ∷ []) ≡ codes "a b\n"
-  pub line_of_blanks : joined (codes "a\n  \nb\n") (only 0 ∷ []) ≡ codes "a \nb\n"
-  pub and_the_next : joined (codes "a\n  \n b\n") (straight 0 5 ∷ []) ≡ codes "a  b\n"
-  pub last_line_has_no_next : joined (codes "a\nb\n") (straight 2 3 ∷ []) ≡ codes "a\nb\n"
-  pub last_newline_stays : joined (codes "a\n") (straight 0 1 ∷ []) ≡ codes "a\n"
-  pub last_touched_line_stays : joined (codes "a\nb\nc\n") (straight 0 2 ∷ []) ≡ codes "a b\nc\n"
-  pub turned_counts_the_same : joined (codes "a\nb\nc\n") (turned 0 2 ∷ []) ≡ codes "a b\nc\n"
-  pub its_newline_is_on_a_line : joined (codes "a\nb\nc\n") (only 1 ∷ []) ≡ codes "a b\nc\n"
-  pub two_on_a_line : joined (codes "ab\nc\n") (only 0 ∷ only 1 ∷ []) ≡ codes "ab c\n"
-  pub and_one_on_the_next : joined (codes "a\nb\nc\n") (straight 0 2 ∷ only 3 ∷ []) ≡ codes "a b c\n"
-  pub lines_between_stay : joined (codes "a\nb\nc\nd\n") (only 0 ∷ only 4 ∷ []) ≡ codes "a b\nc d\n"
+  pub two_lines : text_joined (codes "a\nb\n") (straight 0 3 ∷ []) ≡ codes "a b\n"
+  pub each_newline_becomes_a_space : text_joined (codes "a\n\nb\n") (straight 0 4 ∷ []) ≡ codes "a  b\n"
+  pub blanks_go : text_joined (codes "a\n  b\n") (only 0 ∷ []) ≡ codes "a b\n"
+  pub tabs_go_too : text_joined (codes "a\n\t b\n") (only 1 ∷ []) ≡ codes "a b\n"
+  pub wide_spaces_go_too : text_joined (97 ∷ 10 ∷ 0x3000 ∷ 98 ∷ 10 ∷ []) (only 0 ∷ []) ≡ codes "a b\n"
+  pub line_of_blanks : text_joined (codes "a\n  \nb\n") (only 0 ∷ []) ≡ codes "a \nb\n"
+  pub and_the_next : text_joined (codes "a\n  \n b\n") (straight 0 5 ∷ []) ≡ codes "a  b\n"
+  pub last_line_has_no_next : text_joined (codes "a\nb\n") (straight 2 3 ∷ []) ≡ codes "a\nb\n"
+  pub last_newline_stays : text_joined (codes "a\n") (straight 0 1 ∷ []) ≡ codes "a\n"
+  pub last_touched_line_stays : text_joined (codes "a\nb\nc\n") (straight 0 2 ∷ []) ≡ codes "a b\nc\n"
+  pub turned_counts_the_same : text_joined (codes "a\nb\nc\n") (turned 0 2 ∷ []) ≡ codes "a b\nc\n"
+  pub its_newline_is_on_a_line : text_joined (codes "a\nb\nc\n") (only 1 ∷ []) ≡ codes "a b\nc\n"
+  pub two_on_a_line : text_joined (codes "ab\nc\n") (only 0 ∷ only 1 ∷ []) ≡ codes "ab c\n"
+  pub and_one_on_the_next : text_joined (codes "a\nb\nc\n") (straight 0 2 ∷ only 3 ∷ []) ≡ codes "a b c\n"
+  pub lines_between_stay : text_joined (codes "a\nb\nc\nd\n") (only 0 ∷ only 4 ∷ []) ≡ codes "a b\nc d\n"
 
 pub record IndentExamples : Type 0 where
   pub empty_lines_stay : indented (codes "a\n\nb\n") More 4 (straight 0 4 ∷ []) ≡ codes "    a\n\n    b\n"

@@ -5,12 +5,12 @@ use Rattle.undo_model.specs.Edits.{Splice}
 use Rattle.edit_ops.specs.declared.kinds.Side.{Side}
 use Rattle.edit_ops.specs.declared.kinds.Side.TheVariants.{Below, Above}
 use Rattle.edit_ops.specs.Each.{each_from}
-use Rattle.edit_ops.specs.Putting.{line_begin, line_behind, put_in_at}
+use Rattle.edit_ops.specs.Putting.{line_begin_of, line_behind, put_in_at}
 
 -- where a line is opened at a range: behind the line of its last character, or at the begin of that of its first one
 abbrev pub opened_from : List ℕ → Side → Range → ℕ
 opened_from text Below r = line_behind text r.high
-opened_from text Above r = line_begin text r.low
+opened_from text Above r = line_begin_of text r.low
 
 -- a newline (10) put in there, for each range of a list
 abbrev pub opens : List ℕ → Side → List Range → List Splice

@@ -17,8 +17,8 @@ some_is_line [] = false
 some_is_line (s ∷ ss) = ends_in_newline s || some_is_line ss
 
 -- where the line of an offset begins
-abbrev pub line_begin : List ℕ → ℕ → ℕ
-line_begin text o = offset text (record { line = (coord_at text o).line; column = 0 })
+abbrev pub line_begin_of : List ℕ → ℕ → ℕ
+line_begin_of text o = offset text (record { line = (coord_at text o).line; column = 0 })
 
 -- where the line behind that of an offset begins, or the end
 abbrev pub line_behind : List ℕ → ℕ → ℕ
@@ -34,7 +34,7 @@ put_over s r = record { from = r.low; «to» = r.high + 1; put = s }
 
 -- characters put at a range; before it and behind it, they go to its lines where whole lines are put
 abbrev pub put_at : List ℕ → Bool → Put → List ℕ → Range → Splice
-put_at text whole Before s r = put_in_at (if whole then line_begin text r.low else r.low) s
+put_at text whole Before s r = put_in_at (if whole then line_begin_of text r.low else r.low) s
 put_at text whole After s r = put_in_at (if whole then line_behind text r.high else r.high + 1) s
 put_at text whole Over s r = put_over s r
 put_at text whole BeforeCursor s r = put_in_at (cursor r) s

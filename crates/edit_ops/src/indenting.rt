@@ -11,7 +11,7 @@ ghost use Rattle.edit_ops.specs.Indenting.{indentation, most_columns, indent_at,
 use crate::kinds::Indent;
 use crate::line_blanks::blanks_within;
 use crate::places::line_start;
-use crate::spans::{Reach, lines_reached};
+use crate::spans::{LineReach, lines_reached};
 use buffer_store::Splice;
 use kak_text::{Chars, Coord};
 use line_buffer::Lines;
@@ -35,7 +35,7 @@ pub fn indent(
     ensures indents { IfOk result (λ s. flat_splices lines.now s.items ≡ indents lines.now how width tabstop (ranges_of lines.now sels.now.list)) }
     ensures splices { IfOk result (λ s. AreSplicesOf lines.now s.items) }
 {
-    let numbers = lines_reached(alloc, lines, sels, Reach::Touched)?;
+    let numbers = lines_reached(alloc, lines, sels, LineReach::Touched)?;
     let mut splices = Vec::with_capacity(alloc, numbers.len())?;
     for n in numbers.as_slice() {
         if has_more(lines, *n) {

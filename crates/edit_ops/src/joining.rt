@@ -9,7 +9,7 @@ ghost use Rattle.edit_ops.specs.Joining.{join_at, joins};
 
 use crate::line_blanks::blanks;
 use crate::places::next_line;
-use crate::spans::{Reach, lines_reached};
+use crate::spans::{LineReach, lines_reached};
 use buffer_store::Splice;
 use kak_text::{Chars, Coord};
 use line_buffer::Lines;
@@ -25,7 +25,7 @@ pub fn join(alloc: Global, lines: &Lines, sels: &Sels) -> Result<Vec<Splice>, Al
     ensures joins { IfOk result (λ s. flat_splices lines.now s.items ≡ joins lines.now (ranges_of lines.now sels.now.list)) }
     ensures splices { IfOk result (λ s. AreSplicesOf lines.now s.items) }
 {
-    let numbers = lines_reached(alloc, lines, sels, Reach::Joined)?;
+    let numbers = lines_reached(alloc, lines, sels, LineReach::Joined)?;
     let mut splices = Vec::with_capacity(alloc, numbers.len())?;
     for n in numbers.as_slice() {
         splices.push_reserved(join_at(alloc, lines, *n)?);

@@ -4,11 +4,11 @@ ghost use Rattle.std.specs.Prelude.{◌≡◌, ℕ, ◌+◌, ◌-◌, ◌<◌, �
 ghost use Rattle.text_model.specs.declared.TheConstants.{MAX_CHARS, MAX_SELECTIONS};
 ghost use Rattle.selection_set.specs.Listing.{AreInside, ranges_of, IsSettledIn};
 ghost use Rattle.selection_map.specs.Carrying.{IsSmall};
-ghost use Rattle.edit_ops.specs.Left.{IsOfEdit, IsOfSomeEdit, IsLeftBy, HasHome};
-ghost use Rattle.edit_ops.specs.Passing.{ended, homes, last_of, none_passed, mark_at, marks, AreSmallShifts};
+ghost use Rattle.edit_ops.specs.Left.{IsOfEdit, IsOfSomeEdit, IsLeftByEdit, HasHome};
+ghost use Rattle.edit_ops.specs.Passing.{ended, homes, last_shift_of, none_passed, mark_at, passed_marks, AreSmallShifts};
 ghost use Rattle.selection_map.specs.Rebasing.{earlier};
 
-use crate::passing::{Passed, is_same, last_put, passed_at, place};
+use crate::passing::{PassedShifts, is_same, last_put, passed_at, place};
 use buffer_store::Splice;
 use kak_text::{Coord, Shift};
 use selection_map::map_one;
@@ -31,7 +31,7 @@ pub fn left_list(
     requires edit { IsOfSomeEdit last splices.now shifts.now }
     requires main { main < length splices.now }
     requires few { length splices.now ≤ MAX_SELECTIONS }
-    ensures { IfOk result (λ s. (text : List ℕ) → IsOfEdit text last splices.now shifts.now → IsLeftBy text splices.now main s) }
+    ensures { IfOk result (λ s. (text : List ℕ) → IsOfEdit text last splices.now shifts.now → IsLeftByEdit text splices.now main s) }
 {
     let homes = homes_of(alloc, shifts)?;
     let list = marks_of(alloc, last, splices, shifts, homes.as_slice())?;
@@ -48,7 +48,7 @@ pub fn after(
 ) -> Result<Sels, AllocError>
     requires edit { IsOfSomeEdit last splices.now shifts.now }
     requires one_each { length splices.now ≡ length sels.now.list }
-    ensures { IfOk result (λ s. (text : List ℕ) → IsOfEdit text last splices.now shifts.now → IsLeftBy text splices.now sels.now.main s) }
+    ensures { IfOk result (λ s. (text : List ℕ) → IsOfEdit text last splices.now shifts.now → IsLeftByEdit text splices.now sels.now.main s) }
 {
     left_list(alloc, last, sels.main(), splices, shifts)
 }
@@ -89,7 +89,7 @@ fn marks_of(
 ) -> Result<SmallVec<Sel, 4>, AllocError>
     requires edit { IsOfSomeEdit last splices.now shifts.now }
     requires homes { ends.now ≡ homes shifts.now }
-    ensures { IfOk result (λ list. list.items ≡ marks last shifts.now (none_passed last) splices.now) }
+    ensures { IfOk result (λ list. list.items ≡ passed_marks last shifts.now (none_passed last) splices.now) }
 {
     let mut list = SmallVec::with_capacity(alloc, splices.len())?;
     let mut walk = none_passed(last);
@@ -102,11 +102,11 @@ fn marks_of(
 }
 
 // Nothing was passed yet in a text with this last place.
-fn none_passed(last: Coord) -> Passed
+fn none_passed(last: Coord) -> PassedShifts
     ensures { result ≡ none_passed last }
 {
     let origin = Coord { line: 0, column: 0 };
-    Passed {
+    PassedShifts {
         old: origin,
         now: origin,
         last,
@@ -115,7 +115,7 @@ fn none_passed(last: Coord) -> Passed
 }
 
 // What a replacement leaves that began at a coordinate of the text of that moment, and behind which so much was passed.
-fn mark_at(shifts: &[Shift], ends: &[Coord], walk: Passed, splice: &Splice, at: Coord) -> Sel
+fn mark_at(shifts: &[Shift], ends: &[Coord], walk: PassedShifts, splice: &Splice, at: Coord) -> Sel
     requires home { HasHome shifts.now ends.now walk.next }
     requires few { length splice.now.text ≤ MAX_CHARS }
     requires at_small { IsSmall at }
@@ -143,7 +143,7 @@ fn earlier(a: Coord, b: Coord) -> Coord
 
 // Where the last of the first n shifts ends.
 fn end_of(shifts: &[Shift], n: usize) -> Coord
-    ensures { result ≡ (last_of shifts.now n).end }
+    ensures { result ≡ (last_shift_of shifts.now n).end }
 {
     let at = if n == 0 { 0 } else { n - 1 };
     match shifts.get(at) {

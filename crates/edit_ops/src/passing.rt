@@ -14,7 +14,7 @@ use selection_map::rebase;
 
 /// Behind `old` in the text before the edit, and behind `now` in the text of the moment, both are the same.
 #[derive(Clone, Copy, Debug)]
-pub(crate) struct Passed {
+pub(crate) struct PassedShifts {
     pub(crate) old: Coord,
     pub(crate) now: Coord,
     /// The last place of the text of the moment.
@@ -31,7 +31,7 @@ pub(crate) fn is_same(a: Coord, b: Coord) -> bool
 }
 
 /// Where a replacement begins in the text of the moment.
-pub(crate) fn place(walk: Passed, splice: &Splice) -> Coord
+pub(crate) fn place(walk: PassedShifts, splice: &Splice) -> Coord
     requires ordered { is_at_most walk.old splice.now.from ≡ true }
     requires from_small { IsSmall splice.now.from }
     requires now_small { IsSmall walk.now }
@@ -44,10 +44,10 @@ pub(crate) fn place(walk: Passed, splice: &Splice) -> Coord
 pub(crate) fn passed_at(
     last: Coord,
     shifts: &[Shift],
-    walk: Passed,
+    walk: PassedShifts,
     splice: &Splice,
     at: Coord,
-) -> Passed
+) -> PassedShifts
     requires room { count_then last walk splice.now at ≤ length shifts.now }
     requires small { AreSmallShifts shifts.now }
     requires last_small { IsSmall walk.last }
@@ -57,7 +57,7 @@ pub(crate) fn passed_at(
     let put = one_if(puts_in(last, splice));
     let next = walk.next + (out + put);
     let end = last_then(shifts, walk, next);
-    Passed {
+    PassedShifts {
         old: splice.to,
         now: now_then(last, shifts, splice, at, next, end),
         last: end,
@@ -104,7 +104,7 @@ fn puts_in(last: Coord, splice: &Splice) -> bool
 }
 
 // The last place behind so many shifts.
-fn last_then(shifts: &[Shift], walk: Passed, next: usize) -> Coord
+fn last_then(shifts: &[Shift], walk: PassedShifts, next: usize) -> Coord
     requires from { walk.next ≤ next }
     requires room { next ≤ length shifts.now }
     requires small { AreSmallShifts shifts.now }

@@ -7,7 +7,7 @@ ghost use Rattle.selection_set.specs.Inside.{IsInside, range_of};
 ghost use Rattle.selection_set.specs.Listing.{ranges_of};
 ghost use Rattle.selection_set.specs.Held.{IsHeld};
 ghost use Rattle.buffer_store.specs.Buffers.{flat_splice, flat_splices, IsSpliceOf, AreSplicesOf};
-ghost use Rattle.edit_ops.specs.Putting.{nth_string, some_is_line, line_begin, line_behind, put_over, put_at, puts};
+ghost use Rattle.edit_ops.specs.Putting.{nth_string, some_is_line, line_begin_of, line_behind, put_over, put_at, puts};
 ghost use Rattle.edit_ops.specs.Crowding.{put_together};
 
 use crate::crowding::{PutError, are_crowded};
@@ -151,7 +151,7 @@ pub(crate) fn put_in_at(at: Coord, text: Chars) -> Splice
 fn place_before(lines: &Lines, whole: bool, at: Coord) -> Coord
     requires { IsPlace lines.now at }
     ensures place { IsPlaceOrEnd lines.now result }
-    ensures value { offset lines.now result ≡ (if whole then line_begin lines.now (offset lines.now at) else offset lines.now at) }
+    ensures value { offset lines.now result ≡ (if whole then line_begin_of lines.now (offset lines.now at) else offset lines.now at) }
 {
     if !whole {
         return at;

@@ -13,14 +13,14 @@ use std::alloc::{AllocError, Global};
 
 /// The lines from a first one to a last one.
 #[derive(Clone, Copy, Debug)]
-pub(crate) struct Span {
+pub(crate) struct LineSpan {
     pub(crate) first: u32,
     pub(crate) last: u32,
 }
 
 /// Which lines a selection reaches.
 #[derive(Clone, Copy, Debug)]
-pub(crate) enum Reach {
+pub(crate) enum LineReach {
     /// Those that it touches.
     Touched,
     /// Those that it joins to the next one: all that it touches but the last, or the only one.
@@ -32,7 +32,7 @@ pub(crate) fn lines_reached(
     alloc: Global,
     lines: &Lines,
     sels: &Sels,
-    reach: Reach,
+    reach: LineReach,
 ) -> Result<Vec<u32>, AllocError>
     requires { IsHeld lines.now sels.now }
     ensures reached { IfOk result (λ v. v.items ≡ lines_reached lines.now reach (ranges_of lines.now sels.now.list)) }
@@ -42,19 +42,19 @@ pub(crate) fn lines_reached(
 }
 
 // How many lines can be reached.
-fn reachable(lines: &Lines, reach: Reach) -> u32
+fn reachable(lines: &Lines, reach: LineReach) -> u32
     ensures value { result ≡ reachable lines.now reach }
     ensures valid { IsStored lines.now }
 {
     let count = lines.line_count() as u32;
     match reach {
-        Reach::Touched => count,
-        Reach::Joined => count - 1,
+        LineReach::Touched => count,
+        LineReach::Joined => count - 1,
     }
 }
 
 // The lines below a count that selections reach, each selection from where none before it ended.
-fn walked(alloc: Global, sels: &[Sel], reach: Reach, count: u32) -> Result<Vec<u32>, AllocError>
+fn walked(alloc: Global, sels: &[Sel], reach: LineReach, count: u32) -> Result<Vec<u32>, AllocError>
     ensures { IfOk result (λ v. v.items ≡ walked count 0 (map (span_at reach) sels.now)) }
 {
     let mut numbers = Vec::new(alloc);
@@ -69,16 +69,16 @@ fn walked(alloc: Global, sels: &[Sel], reach: Reach, count: u32) -> Result<Vec<u
 }
 
 // The lines that a selection reaches.
-fn span_at(sel: Sel, reach: Reach) -> Span
+fn span_at(sel: Sel, reach: LineReach) -> LineSpan
     ensures { result ≡ span_at reach sel }
 {
     let first = sel.low.line;
     match reach {
-        Reach::Touched => Span {
+        LineReach::Touched => LineSpan {
             first,
             last: sel.high.line,
         },
-        Reach::Joined => Span {
+        LineReach::Joined => LineSpan {
             first,
             last: first.max(sel.high.line.saturating_sub(1)),
         },
@@ -86,7 +86,7 @@ fn span_at(sel: Sel, reach: Reach) -> Span
 }
 
 // The line behind a span, or the count.
-fn end_below(span: Span, count: u32) -> u32
+fn end_below(span: LineSpan, count: u32) -> u32
     ensures { result ≡ end_below count span }
 {
     if span.last < count {

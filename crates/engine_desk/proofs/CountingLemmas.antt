@@ -10,7 +10,7 @@ use Rattle.session_events.specs.declared.event.Event.TheVariants.{Join, Key as S
 use Rattle.session_events.specs.declared.event.Answered.{Answered}
 use Rattle.session_events.specs.declared.event.Entry.{Entry}
 use Rattle.session_events.specs.Entries.{is_join, entry_with}
-use Rattle.session_events.specs.Legal.{Presence, Away, is_here, moved_by, presence_from}
+use Rattle.session_events.specs.Legal.{Presence, Away, is_here, presence_after, presence_from}
 use Rattle.engine_desk.specs.Counting.{here_after, here_from, here_among, comings}
 
 here_from-append : (here : List ℕ) (a b : List Entry) → here_from here (a ++ b) ≡ here_from (here_from here a) b
@@ -60,10 +60,10 @@ without-other who other (x ∷ here) d = by (x == other) refl (without-other who
 
 module _ (who : ℕ) where
   -- a number is among those that are here where its client is here
-  here-step : (other : ℕ) (event : Event) (here : List ℕ) (p : Presence) → has who here ≡ is_here p → has who (here_after other event here) ≡ is_here (if other == who then moved_by event p else p)
+  here-step : (other : ℕ) (event : Event) (here : List ℕ) (p : Presence) → has who here ≡ is_here p → has who (here_after other event here) ≡ is_here (if other == who then presence_after event p else p)
   here-step other Join here p h = list_any-append (λ number. number == who) here (other ∷ []) ∙ by (other == who) (has who here) h
     where
-      by : (t q : Bool) → q ≡ is_here p → (q || (t || false)) ≡ is_here (if t then moved_by Join p else p)
+      by : (t q : Bool) → q ≡ is_here p → (q || (t || false)) ≡ is_here (if t then presence_after Join p else p)
       by true true e = refl
       by true false e = refl
       by false true e = e
@@ -80,13 +80,13 @@ module _ (who : ℕ) where
       by false = h
   here-step other Leave here p h = by (other == who) refl
     where
-      by : (t : Bool) → (other == who) ≡ t → has who (filter (λ number. not (number == other)) here) ≡ is_here (if t then moved_by Leave p else p)
+      by : (t : Bool) → (other == who) ≡ t → has who (filter (λ number. not (number == other)) here) ≡ is_here (if t then presence_after Leave p else p)
       by true e = ap (λ (k : ℕ). has who (filter (λ number. not (number == k)) here)) (eqb-true other who e) ∙ without-own who here
       by false e = without-other who other here e ∙ h
 
   here-along : (here : List ℕ) (p : Presence) (entries : List Entry) → has who here ≡ is_here p → has who (here_from here entries) ≡ is_here (presence_from who p entries)
   here-along here p [] h = h
-  here-along here p (e ∷ entries) h = here-along (here_after e.who e.event here) (if e.who == who then moved_by e.event p else p) entries (here-step e.who e.event here p h)
+  here-along here p (e ∷ entries) h = here-along (here_after e.who e.event here) (if e.who == who then presence_after e.event p else p) entries (here-step e.who e.event here p h)
 
   pub here-present : (history : List Entry) → list_any (λ number. number == who) (here_among history) ≡ is_here (presence_from who Away history)
   here-present history = here-along [] Away history refl

@@ -4,7 +4,7 @@ use Rattle.std.specs.Prelude.{if◌then◌else◌, ◌&&◌, not, nat_le, IfSome
 use Rattle.std.specs.declared.option.Option.{Option}
 use Rattle.std.proofs.lemmas.Bool.{leb-true}
 use Rattle.session_desk.specs.Histories.{Met}
-use Rattle.session_desk.specs.Tokens.{Home, PassView, Refuses as PassRefuses}
+use Rattle.session_desk.specs.Tokens.{Home, PassView, PassRefuses}
 use Rattle.session_desk.proofs.HistoryLemmas.{met_through}
 use Rattle.session_events.specs.declared.event.Event.{Event}
 use Rattle.session_events.specs.declared.event.Entry.{Entry}
@@ -13,10 +13,10 @@ use Rattle.session_events.specs.declared.fault.StepFault.{StepFault}
 use Rattle.session_events.specs.declared.fault.StepFault.TheVariants.{Broken, NoClient, Joined, HistoryFull, Full, NoMemory}
 use Rattle.session_events.specs.Entries.{is_join, is_leave, has_joined}
 use Rattle.session_events.specs.Legal.{Away, is_here, presence_from}
-use Rattle.session_events.specs.Seats.{Refuses as SeatRefuses, IsWhole}
+use Rattle.session_events.specs.Seats.{Refuses as SeatRefuses, StaysUnbroken}
 use Rattle.kak_engine.specs.Held.{refused_at, refused_by}
-use Rattle.kak_engine.specs.Steps.{run, is_full, crowded_by}
-use Rattle.engine_desk.specs.Sharing.{Frame, Answers, marked_behind}
+use Rattle.kak_engine.specs.Steps.{run, is_session_full, crowded_by}
+use Rattle.engine_desk.specs.Sharing.{Frame, MoveAnswers, marked_behind}
 use Rattle.engine_desk.specs.Sitting.{told_behind}
 use Rattle.engine_desk.proofs.SeatLemmas.{whose}
 
@@ -52,17 +52,17 @@ plain-reason : (limit : ℕ) (h : List Entry) (who : ℕ) (event : Event) (fault
     → IsPlain fault × SeatRefuses crowded_by fault (record { number = who; limit = limit; mark = mark; seen = h; others = others }) event
 plain-reason limit h who event fault mark others e =
     chain (λ f. IsPlain f × SeatRefuses crowded_by f (record { number = who; limit = limit; mark = mark; seen = h; others = others }) event) who
-    (not (is_join event) && not (is_here (presence_from who Away h))) (is_join event && has_joined who h) (not (is_leave event) && nat_le limit (length h)) (is_join event && is_full (run h)) fault
+    (not (is_join event) && not (is_here (presence_from who Away h))) (is_join event && has_joined who h) (not (is_leave event) && nat_le limit (length h)) (is_join event && is_session_full (run h)) fault
     (λ a. let s = both-not (is_join event) (is_here (presence_from who Away h)) a in (tt, (refl, s.0, s.1)))
     (λ b. let s = both (is_join event) (has_joined who h) b in (tt, (refl, s.0, s.1)))
     (λ c. let s = not-and (is_leave event) (nat_le limit (length h)) c in (tt, (s.0, leb-true limit (length h) s.1)))
-    (λ d. (tt, both (is_join event) (is_full (run h)) d)) e
+    (λ d. (tt, both (is_join event) (is_session_full (run h)) d)) e
 
 -- What a refusal is to the client.
 pub record IsRefusal (limit : ℕ) (h : List Entry) (who : ℕ) (event : Event) (fault : StepFault) (told told' mark' : Option ℕ) : Type 0 where
   pub why : SeatRefuses crowded_by fault (record { number = who; limit = limit; mark = told'; seen = h; others = None }) event
   pub met : Met told' mark'
-  pub whole : IsWhole {A = Output} (Err fault) (record { number = who; limit = limit; mark = told'; seen = h; others = None })
+  pub whole : StaysUnbroken {A = Output} (Err fault) (record { number = who; limit = limit; mark = told'; seen = h; others = None })
   pub marked : IfSome told (λ at. told' ≡ Some at)
   pub broken : IfSome told (λ at. fault ≡ Broken at)
 
@@ -114,7 +114,7 @@ module _ (limit : ℕ) (h : List Entry) (who : ℕ) (event : Event) where
   any-refusal None fault told mark' met why wanting m = whole-refusal (refused_by h limit who event) refl fault told mark' (none-met told met) why wanting m
 
 -- what a refusal at a desk is to the client, which had met no mark but the desk's
-pub seat-refused : (home : Home Frame) (b a : PassView Entry Frame) (event : Event) (fault : StepFault) (told told' : Option ℕ) (count : ℕ) → PassRefuses whose (Answers home.frame) b a event fault → Met told b.mark
+pub seat-refused : (home : Home Frame) (b a : PassView Entry Frame) (event : Event) (fault : StepFault) (told told' : Option ℕ) (count : ℕ) → PassRefuses whose (MoveAnswers home.frame) b a event fault → Met told b.mark
     → count ≡ length a.seen → told' ≡ told_behind fault told count → IsRefusal home.frame.limit a.seen b.number event fault told told' a.mark
 seat-refused home b a event fault told told' count s met c t =
     subst (λ (o : Option ℕ). IsRefusal home.frame.limit a.seen b.number event fault told o a.mark) (sym (t ∙ ap (told_behind fault told) c))

@@ -3,8 +3,8 @@ use Rattle.std.proofs.Common.{◌≡◌, ⊎_elim, inl, ℕ, Bool, true, false, 
 use Rattle.std.specs.Prelude.{if◌then◌else◌, ◌==◌, ◌&&◌, not, Some, None}
 use Rattle.std.specs.declared.option.Option.{Option}
 use Rattle.std.proofs.lemmas.Bool.{eq-eqb}
-use Rattle.session_desk.specs.Histories.{own as own_entries}
-use Rattle.session_desk.specs.Tokens.{Home, Place, IsOf, PassView, IsSamePass, Adds, Refuses as PassRefuses, SeesMore}
+use Rattle.session_desk.specs.Histories.{entries_by as own_entries}
+use Rattle.session_desk.specs.Tokens.{Home, DeskPlace, IsOf, PassView, IsSamePass, PassAdds, PassRefuses, SeesMore}
 use Rattle.session_desk.proofs.HistoryLemmas.{starts_through, none_between, met_through}
 use Rattle.session_turns.specs.Histories.{own}
 use Rattle.session_events.specs.declared.event.Event.{Event}
@@ -13,15 +13,15 @@ use Rattle.session_events.specs.declared.event.Entry.{Entry}
 use Rattle.session_events.specs.declared.event.Output.{Output}
 use Rattle.session_events.specs.declared.fault.StepFault.{StepFault}
 use Rattle.session_events.specs.Entries.{is_leave, entry_with}
-use Rattle.session_events.specs.Legal.{Presence, Away, is_here, moved_by, presence_from}
+use Rattle.session_events.specs.Legal.{Presence, Away, is_here, presence_after, presence_from}
 use Rattle.session_events.specs.Meaning.{Gives, rules}
 use Rattle.session_events.specs.Seats.{Seated, IsIn, Steps, Sees}
 use Rattle.session_events.proofs.LegalLemmas.{presence-append}
 use Rattle.session_events.specs.Missing.{is_drawing, has_news, has_missed}
 use Rattle.session_events.proofs.MissingLemmas.{news-new, news-drawn}
 use Rattle.kak_engine.specs.Steps.{given_by}
-use Rattle.engine_desk.specs.Sharing.{Frame, Answers, Takes}
-use Rattle.engine_desk.specs.Sitting.{IsAtDesk, seat_of, missed_behind}
+use Rattle.engine_desk.specs.Sharing.{Frame, MoveAnswers, TakesMove}
+use Rattle.engine_desk.specs.Sitting.{IsAtDesk, desk_seat_of, missed_behind}
 
 abbrev pub whose : Entry → ℕ
 whose e = e.who
@@ -40,7 +40,7 @@ presence-foreign : (who : ℕ) (p : Presence) (entries : List Entry) → own_ent
 presence-foreign who p [] h = refl
 presence-foreign who p (e ∷ entries) h = by (e.who == who) (presence-foreign who p entries) h
   where
-    by : (t : Bool) → (own_entries whose who entries ≡ [] → presence_from who p entries ≡ p) → (if t then e ∷ own_entries whose who entries else own_entries whose who entries) ≡ [] → presence_from who (if t then moved_by e.event p else p) entries ≡ p
+    by : (t : Bool) → (own_entries whose who entries ≡ [] → presence_from who p entries ≡ p) → (if t then e ∷ own_entries whose who entries else own_entries whose who entries) ≡ [] → presence_from who (if t then presence_after e.event p else p) entries ≡ p
     by true f g = cc
     by false f g = f g
 
@@ -50,7 +50,7 @@ in-behind who seen between now others e here =
 
 -- a seat of the desk `home`, with a pass and what its client was told
 abbrev pub at_desk : Home Frame → PassView Entry Frame → Option ℕ → Seated
-at_desk home pass told = seat_of (record { home = home; pass = pass; told = told })
+at_desk home pass told = desk_seat_of (record { home = home; pass = pass; told = told })
 
 module _ (home : Home Frame) (b a : PassView Entry Frame) (told told' : Option ℕ) where
   -- more of the history was seen
@@ -63,7 +63,7 @@ module _ (home : Home Frame) (b a : PassView Entry Frame) (told told' : Option �
       (in-behind b.number b.seen s.begins.0 a.seen (none_between whose b.number a.seen b.seen s.begins s.own_entries) s.begins.1 here)
 
   -- a move was taken
-  pub seat-steps : (event : Event) (output : Output) → Adds whose (Answers home.frame) b a event output → Steps given_by (at_desk home b told) (at_desk home a told') event output
+  pub seat-steps : (event : Event) (output : Output) → PassAdds whose (MoveAnswers home.frame) b a event output → Steps given_by (at_desk home b told) (at_desk home a told') event output
   seat-steps event output s = record {
     between = s.between;
     answers = s.answer.answers;
@@ -73,10 +73,10 @@ module _ (home : Home Frame) (b a : PassView Entry Frame) (told told' : Option �
   }
 
   -- a move was refused
-  pub refused-sees : (event : Event) (fault : StepFault) → PassRefuses whose (Answers home.frame) b a event fault → Sees given_by (at_desk home b told) (at_desk home a told')
+  pub refused-sees : (event : Event) (fault : StepFault) → PassRefuses whose (MoveAnswers home.frame) b a event fault → Sees given_by (at_desk home b told) (at_desk home a told')
   refused-sees event fault s = record { between = s.between; foreign = foreign given_by b.number s.between s.others; stands = s.seen }
 
-  pub refused-stays : (event : Event) (fault : StepFault) → PassRefuses whose (Answers home.frame) b a event fault → a.number ≡ b.number → IsIn (at_desk home b told) → IsIn (at_desk home a told')
+  pub refused-stays : (event : Event) (fault : StepFault) → PassRefuses whose (MoveAnswers home.frame) b a event fault → a.number ≡ b.number → IsIn (at_desk home b told) → IsIn (at_desk home a told')
   refused-stays event fault s same here =
       subst (λ (n : ℕ). is_here (presence_from n Away a.seen) ≡ true) (sym same) (in-behind b.number b.seen s.between a.seen s.others s.seen here)
 
@@ -89,7 +89,7 @@ sees-twice a b c same first second = record {
 }
 
 -- what the client has missed behind its own event
-pub missed-own : (limit : ℕ) (before : List Entry) (mark : Option ℕ) (who : ℕ) (event : Event) (output : Output) (after : List Entry) (marked : Option ℕ) → Takes limit before mark who event output after marked → missed_behind event ≡ has_missed who after
+pub missed-own : (limit : ℕ) (before : List Entry) (mark : Option ℕ) (who : ℕ) (event : Event) (output : Output) (after : List Entry) (marked : Option ℕ) → TakesMove limit before mark who event output after marked → missed_behind event ≡ has_missed who after
 missed-own limit before mark who event output after marked t = by (is_leave event) (is_drawing event) refl refl ∙ sym (ap (has_missed who) t.stands)
   where
     now : List Entry
@@ -98,14 +98,14 @@ missed-own limit before mark who event output after marked t = by (is_leave even
     here : is_leave event ≡ false → is_here (presence_from who Away now) ≡ true
     here l = ap (λ (h : List Entry). is_here (presence_from who Away h)) (sym t.stands) ∙ t.here l
 
-    left : (e : Event) → is_leave e ≡ true → (p : Presence) → is_here (moved_by e p) ≡ false
+    left : (e : Event) → is_leave e ≡ true → (p : Presence) → is_here (presence_after e p) ≡ false
     left Leave l p = refl
     left Join l p = cc
     left (Struck key) l p = cc
     left (Refresh asked) l p = cc
 
     away : is_leave event ≡ true → is_here (presence_from who Away now) ≡ false
-    away l = ap is_here (presence-append who Away before (entry_with who event t.answers ∷ [])) ∙ ap (λ (m : Bool). is_here (if m then moved_by event (presence_from who Away before) else presence_from who Away before)) (eq-eqb who who refl) ∙ left event l (presence_from who Away before)
+    away l = ap is_here (presence-append who Away before (entry_with who event t.answers ∷ [])) ∙ ap (λ (m : Bool). is_here (if m then presence_after event (presence_from who Away before) else presence_from who Away before)) (eq-eqb who who refl) ∙ left event l (presence_from who Away before)
 
     by : (l d : Bool) → is_leave event ≡ l → is_drawing event ≡ d → (not d && not l) ≡ (is_here (presence_from who Away now) && has_news who now)
     by true d e f = and-not d ∙ sym (ap (λ (p : Bool). p && has_news who now) (away e))
@@ -117,10 +117,10 @@ missed-own limit before mark who event output after marked t = by (is_leave even
     by false false e f = sym (ap (λ (p : Bool). p && has_news who now) (here e) ∙ news-new who before (entry_with who event t.answers) f)
 
 -- behind a move that was taken, the pass is of the desk still, and it is known whether its client has missed something
-pub desk-taken : (home : Home Frame) (b a : PassView Entry Frame) (told : Option ℕ) (event : Event) (output : Output) (missed : Bool) {old : Option Bool} → IsAtDesk home b told old → IsSamePass b a → Adds whose (Answers home.frame) b a event output → missed ≡ missed_behind event
+pub desk-taken : (home : Home Frame) (b a : PassView Entry Frame) (told : Option ℕ) (event : Event) (output : Output) (missed : Bool) {old : Option Bool} → IsAtDesk home b told old → IsSamePass b a → PassAdds whose (MoveAnswers home.frame) b a event output → missed ≡ missed_behind event
     → IsAtDesk home a told (Some missed)
 desk-taken home b a told event output missed at same s m = record {
-  own = subst (λ (p : Place Frame). IsOf p home) (sym same.place) at.own;
+  own = subst (λ (p : DeskPlace Frame). IsOf p home) (sym same.place) at.own;
   met = inl (⊎_elim (λ (e : told ≡ None). e) (λ (e : told ≡ b.mark). e ∙ s.unmarked.0) at.met);
   known = m ∙ missed-own home.frame.limit (b.seen ++ s.between) None b.number event output a.seen None s.answer ∙ ap (λ (n : ℕ). has_missed n a.seen) (sym same.number);
 }

@@ -12,11 +12,11 @@ use Rattle.session_events.specs.Entries.{is_join, entry_with}
 use Rattle.session_events.specs.Missing.{has_news, has_missed}
 use Rattle.kak_world.specs.declared.clients.Client.{Client}
 use Rattle.kak_world.specs.declared.world.TheConstants.{MAX_CLIENTS}
-use Rattle.kak_world.specs.Flat.{Flat, opening, is_of, joined_by, left_by}
+use Rattle.kak_world.specs.Flat.{Flat, opening, is_of, joined_by, left_by_client}
 use Rattle.kak_world.specs.Keeping.{whos_of}
 use Rattle.kak_engine.specs.Steps.{after_entry, after_event, run_from, run}
 use Rattle.kak_engine.specs.Honesty.{Outside}
-use Rattle.kak_engine.specs.Held.{Held, refused_at, refused_by}
+use Rattle.kak_engine.specs.Held.{HeldEngine, refused_at, refused_by}
 use Rattle.kak_engine.specs.Seating.{WasHonest}
 use Rattle.kak_engine.proofs.SeatingLemmas.{honest-first}
 use Rattle.kak_engine.proofs.KeepingLaws.{keeps_key, keeps_refresh}
@@ -38,8 +38,8 @@ whos-left who (c ∷ clients) = by (c.who == who) (whos-left who clients)
     by true e = e
     by false e = ap (λ (numbers : List ℕ). c.who ∷ numbers) e
 
-whos-go : (who : ℕ) (flat : Flat) → whos_of (left_by who flat).clients ≡ filter (λ number. not (number == who)) (whos_of flat.clients)
-unfolding left_by
+whos-go : (who : ℕ) (flat : Flat) → whos_of (left_by_client who flat).clients ≡ filter (λ number. not (number == who)) (whos_of flat.clients)
+unfolding left_by_client
 whos-go who flat = whos-left who flat.clients
 
 whos-after : (who : ℕ) (event : Event) (answers : List Answered) (flat : Flat) → whos_of (after_event who event answers flat).clients ≡ here_after who event (whos_of flat.clients)
@@ -69,7 +69,7 @@ room-for history mark limit who event e j =
     less : {a b : ℕ} → a ≡ b → b < MAX_CLIENTS → a < MAX_CLIENTS
     less e l = omega (arith, e, l)
 
-module _ (x y : Held) (here : List ℕ) (room joins : ℕ) (mark : Option ℕ) (beside : IsBeside x here room joins mark) where
+module _ (x y : HeldEngine) (here : List ℕ) (room joins : ℕ) (mark : Option ℕ) (beside : IsBeside x here room joins mark) where
   -- there is room for the number of who comes
   pub room-beside : (who : ℕ) (event : Event) → refused_at x.mark x.history x.limit who event ≡ None → is_join event ≡ true → length here + 1 ≤ MAX_CLIENTS
   room-beside who event e j = less (ap length beside.here_is) (room-for x.history x.mark x.limit who event e j)
@@ -105,13 +105,13 @@ module _ (x y : Held) (here : List ℕ) (room joins : ℕ) (mark : Option ℕ) (
   }
 
 -- what an engine at a desk keeps, as it is made
-pub new-keeps : (outside : Outside) (limit : ℕ) (x first : Held) (here : List ℕ) (room : ℕ) → x ≡ (new_shared outside limit).engine → first ≡ x → here ≡ [] → MAX_CLIENTS ≤ room → WasHonest x.history x.mark first.outside x.outside × IsBeside x here room 0 None
+pub new-keeps : (outside : Outside) (limit : ℕ) (x first : HeldEngine) (here : List ℕ) (room : ℕ) → x ≡ (new_shared outside limit).engine → first ≡ x → here ≡ [] → MAX_CLIENTS ≤ room → WasHonest x.history x.mark first.outside x.outside × IsBeside x here room 0 None
 new-keeps outside limit x first here room new same empty fits = (
-  subst (λ (h : Held). WasHonest h.history h.mark first.outside h.outside) (sym new) (subst (λ (o : Outside). WasHonest [] None o outside) (sym (ap (λ (h : Held). h.outside) (same ∙ new))) (honest-first outside)),
+  subst (λ (h : HeldEngine). WasHonest h.history h.mark first.outside h.outside) (sym new) (subst (λ (o : Outside). WasHonest [] None o outside) (sym (ap (λ (h : HeldEngine). h.outside) (same ∙ new))) (honest-first outside)),
   record {
-    here_is = ap (λ (h : Held). here_among h.history) new ∙ sym empty;
-    joins_is = ap (λ (h : Held). comings h.history) new;
-    mark_is = ap (λ (h : Held). h.mark) new;
+    here_is = ap (λ (h : HeldEngine). here_among h.history) new ∙ sym empty;
+    joins_is = ap (λ (h : HeldEngine). comings h.history) new;
+    mark_is = ap (λ (h : HeldEngine). h.mark) new;
     few = none here empty;
     fits = fits;
   },
@@ -122,7 +122,7 @@ new-keeps outside limit x first here room new same empty fits = (
     none (x ∷ xs) e = cc
 
 -- a glimpse of an engine by what stands beside it
-pub glimpse-is : (x : Held) (here : List ℕ) (room joins : ℕ) (mark : Option ℕ) (who : ℕ) (stale : Bool) (joined : ℕ) → IsBeside x here room joins mark → stale ≡ (list_any (λ number. number == who) here && has_news who x.history) → joined ≡ length here
+pub glimpse-is : (x : HeldEngine) (here : List ℕ) (room joins : ℕ) (mark : Option ℕ) (who : ℕ) (stale : Bool) (joined : ℕ) → IsBeside x here room joins mark → stale ≡ (list_any (λ number. number == who) here && has_news who x.history) → joined ≡ length here
     → record { stale = stale; joined = joined; joins = joins; broken = mark } ≡ glimpse_of x.mark who x.history
 glimpse-is x here room joins mark who stale joined beside s j =
     let stale-is : stale ≡ has_missed who x.history =

@@ -13,7 +13,7 @@ use Rattle.session_events.specs.Legal.{Away, is_here, presence_from, IsLegal}
 use Rattle.session_events.specs.Missing.{has_missed}
 use Rattle.kak_world.specs.declared.world.TheConstants.{MAX_CLIENTS}
 use Rattle.kak_engine.specs.Honesty.{Outside}
-use Rattle.kak_engine.specs.Held.{Held, refused_at, marked_by}
+use Rattle.kak_engine.specs.Held.{HeldEngine, refused_at, marked_by}
 use Rattle.kak_engine.specs.Steps.{run, given_by, AreAskedFor}
 use Rattle.engine_desk.specs.declared.glimpse.Glimpse.{Glimpse}
 use Rattle.engine_desk.specs.Counting.{here_among, joined_among, comings}
@@ -25,7 +25,7 @@ pub record Frame : Type 0 where
 
 -- an engine at a desk: what it holds, and the outside as it was at first
 pub record Shared : Type 0 where
-  pub engine : Held
+  pub engine : HeldEngine
   pub first : Outside
 
 abbrev pub frame_of : Shared → Frame
@@ -39,7 +39,7 @@ new_shared outside limit = record {
 }
 
 -- What stands beside an engine is as its history and its mark say, with room for the numbers of all that may be here.
-pub record IsBeside (held : Held) (here : List ℕ) (room joins : ℕ) (mark : Option ℕ) : Type 0 where
+pub record IsBeside (held : HeldEngine) (here : List ℕ) (room joins : ℕ) (mark : Option ℕ) : Type 0 where
   pub here_is : here_among held.history ≡ here
   pub joins_is : comings held.history ≡ joins
   pub mark_is : held.mark ≡ mark
@@ -63,7 +63,7 @@ marked_behind _ mark count = mark
 -- A move that was taken: nothing refuses it, and its entry was added with what the outside answered, which is what was asked
 -- for. The output is what this entry gives its client. The longer history is one that there can be, and the client is here
 -- behind it unless it left.
-pub record Takes (limit : ℕ) (before : List Entry) (mark : Option ℕ) (who : ℕ) (event : Event) (output : Output) (after : List Entry) (marked : Option ℕ) : Type 0 where
+pub record TakesMove (limit : ℕ) (before : List Entry) (mark : Option ℕ) (who : ℕ) (event : Event) (output : Output) (after : List Entry) (marked : Option ℕ) : Type 0 where
   pub answers : List Answered
   pub granted : refused_at mark before limit who event ≡ None
   pub stands : after ≡ before ++ entry_with who event answers ∷ []
@@ -75,7 +75,7 @@ pub record Takes (limit : ℕ) (before : List Entry) (mark : Option ℕ) (who : 
 
 -- A move that was refused, for the first reason that holds; where none does memory was wanting, which it is for no leaving,
 -- and which sets the mark. No entry was added, and the history is one that there can be.
-pub record Refuses (limit : ℕ) (before : List Entry) (mark : Option ℕ) (who : ℕ) (event : Event) (fault : StepFault) (after : List Entry) (marked : Option ℕ) : Type 0 where
+pub record RefusesMove (limit : ℕ) (before : List Entry) (mark : Option ℕ) (who : ℕ) (event : Event) (fault : StepFault) (after : List Entry) (marked : Option ℕ) : Type 0 where
   pub why : IfSome (refused_at mark before limit who event) (λ due. fault ≡ due)
   pub wanting : refused_at mark before limit who event ≡ None → (fault ≡ NoMemory) × (is_leave event ≡ false)
   pub stands : after ≡ before
@@ -83,6 +83,6 @@ pub record Refuses (limit : ℕ) (before : List Entry) (mark : Option ℕ) (who 
   pub mark_is : marked ≡ marked_behind fault mark (length before)
 
 -- what a move of a client answers
-abbrev pub Answers : Frame → List Entry → Option ℕ → ℕ → Event → Result Output StepFault → List Entry → Option ℕ → Type 0
-Answers frame before mark who event (Ok output) after marked = Takes frame.limit before mark who event output after marked
-Answers frame before mark who event (Err fault) after marked = Refuses frame.limit before mark who event fault after marked
+abbrev pub MoveAnswers : Frame → List Entry → Option ℕ → ℕ → Event → Result Output StepFault → List Entry → Option ℕ → Type 0
+MoveAnswers frame before mark who event (Ok output) after marked = TakesMove frame.limit before mark who event output after marked
+MoveAnswers frame before mark who event (Err fault) after marked = RefusesMove frame.limit before mark who event fault after marked

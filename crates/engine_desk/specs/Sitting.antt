@@ -2,7 +2,7 @@
 use Rattle.std.specs.Prelude.{◌≡◌, ℕ, Bool, not, ◌&&◌, IfSome, Some, None}
 use Rattle.std.specs.declared.option.Option.{Option}
 use Rattle.session_desk.specs.Histories.{Met}
-use Rattle.session_desk.specs.Tokens.{Home, Place, IsOf, PassView}
+use Rattle.session_desk.specs.Tokens.{Home, DeskPlace, IsOf, PassView}
 use Rattle.session_events.specs.declared.event.Event.{Event}
 use Rattle.session_events.specs.declared.event.Entry.{Entry}
 use Rattle.session_events.specs.declared.fault.StepFault.{StepFault}
@@ -23,8 +23,8 @@ abbrev pub new_seat : Home Frame → PassView Entry Frame → DeskSeated
 new_seat home pass = record { home = home; pass = pass; told = None }
 
 -- what it is to its client: others play too
-abbrev pub seat_of : DeskSeated → Seated
-seat_of seat = record {
+abbrev pub desk_seat_of : DeskSeated → Seated
+desk_seat_of seat = record {
   number = seat.pass.number;
   limit = seat.home.frame.limit;
   mark = seat.told;
@@ -35,7 +35,7 @@ seat_of seat = record {
 -- what no step changes: the desk, and that the pass is of this desk
 pub record AtDesk : Type 0 where
   pub home : Home Frame
-  pub place : Place Frame
+  pub place : DeskPlace Frame
 
 abbrev pub desk_of : DeskSeated → AtDesk
 desk_of seat = record { home = seat.home; place = seat.pass.place }

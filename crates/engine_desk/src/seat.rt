@@ -91,13 +91,13 @@ impl<'a, R: Wait, F: Files + Drop, M: PatternMaker + Drop> DeskSeat<'a, R, F, M>
 
 impl<'a, R: Wait, F: Files + Drop, M: PatternMaker + Drop> Seat for DeskSeat<'a, R, F, M> {
     ghost use Rattle.kak_engine.specs.Steps.{given_by, crowded_by};
-    ghost use Rattle.engine_desk.specs.Sitting.{AtDesk, seat_of, desk_of};
+    ghost use Rattle.engine_desk.specs.Sitting.{AtDesk, desk_seat_of, desk_of};
 
     ghost gives = { given_by };
 
     ghost crowded = { crowded_by };
 
-    ghost seated = { seat_of };
+    ghost seated = { desk_seat_of };
 
     ghost Kept = { AtDesk };
 

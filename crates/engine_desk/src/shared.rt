@@ -138,7 +138,7 @@ impl<F: Files, M: PatternMaker> SharedEngine<F, M> {
 }
 
 impl<F: Files + Drop, M: PatternMaker + Drop> Played for SharedEngine<F, M> {
-    ghost use Rattle.engine_desk.specs.Sharing.{frame_of, Answers, Shows};
+    ghost use Rattle.engine_desk.specs.Sharing.{frame_of, MoveAnswers, Shows};
 
     type Move = Event;
 
@@ -160,7 +160,7 @@ impl<F: Files + Drop, M: PatternMaker + Drop> Played for SharedEngine<F, M> {
 
     ghost frame = { frame_of };
 
-    ghost answers = { Answers };
+    ghost answers = { MoveAnswers };
 
     ghost shows = { Shows };
 

@@ -13,7 +13,7 @@ use std::alloc::{AllocError, Global};
 
 // How far the runs have been gone over: the place before which all is done, and the first run that reaches behind it.
 #[derive(Clone, Copy, Debug)]
-pub(crate) struct Reach {
+pub(crate) struct FaceReach {
     pub place: usize,
     pub run: usize,
 }
@@ -66,9 +66,9 @@ fn go_over_run(
     runs: &[Run],
     rest: Face,
     out: &mut Vec<Run>,
-    reach: Reach,
+    reach: FaceReach,
     over: Option<Face>,
-) -> Result<Reach, AllocError>
+) -> Result<FaceReach, AllocError>
     requires { reach.run < length runs.now }
     ensures drawn { IfOk result (λ r. GoesOver over runs.now rest reach.run reach.place r.place out.old.items out.new.items) }
     ensures ahead { IfOk result (λ r. StayAhead runs.now rest reach.run reach.place r.run r.place) }
@@ -77,7 +77,7 @@ fn go_over_run(
 {
     let end = runs[reach.run].end.max(reach.place);
     push_run(out, reach.place, end, under(runs[reach.run].face, over))?;
-    Ok(Reach {
+    Ok(FaceReach {
         place: end,
         run: reach.run + 1,
     })
@@ -88,10 +88,10 @@ fn go_over(
     runs: &[Run],
     rest: Face,
     out: &mut Vec<Run>,
-    reach: Reach,
+    reach: FaceReach,
     to: usize,
     over: Option<Face>,
-) -> Result<Reach, AllocError>
+) -> Result<FaceReach, AllocError>
     requires { reach.place ≤ to }
     ensures drawn { OnOk result (GoesOver over runs.now rest reach.run reach.place to out.old.items out.new.items) }
     ensures place { IfOk result (λ r. r.place ≡ to) }
@@ -107,7 +107,7 @@ fn go_over(
         to,
         under(face_here(runs, rest, now.run), over),
     )?;
-    Ok(Reach {
+    Ok(FaceReach {
         place: to,
         run: now.run,
     })
@@ -118,9 +118,9 @@ fn lay_one(
     runs: &[Run],
     rest: Face,
     out: &mut Vec<Run>,
-    reach: Reach,
+    reach: FaceReach,
     over: Over,
-) -> Result<Reach, AllocError>
+) -> Result<FaceReach, AllocError>
     requires begins { reach.place ≤ over.from }
     requires ends { over.from ≤ over.to }
     ensures drawn { OnOk result (LaysOne over runs.now rest reach.run reach.place out.old.items out.new.items) }
@@ -132,7 +132,7 @@ fn lay_one(
 }
 
 // Goes over the runs that are left.
-fn finish(runs: &[Run], rest: Face, out: &mut Vec<Run>, reach: Reach) -> Result<(), AllocError>
+fn finish(runs: &[Run], rest: Face, out: &mut Vec<Run>, reach: FaceReach) -> Result<(), AllocError>
     ensures { OnOk result (Finishes runs.now rest reach.run reach.place out.old.items out.new.items) }
 {
     let mut now = reach;
@@ -153,7 +153,7 @@ pub(crate) fn lay(
     requires none { out.old.items ≡ [] }
     ensures { OnOk result ((n : ℕ) → face_in out.new.items rest n ≡ over_all overs.now n (face_in runs.now rest n)) }
 {
-    let mut reach = Reach { place: 0, run: 0 };
+    let mut reach = FaceReach { place: 0, run: 0 };
     for over in overs {
         reach = lay_one(runs, rest, out, reach, *over)?;
     }

@@ -7,18 +7,18 @@ use Rattle.kak_faces.specs.declared.colour.Attributes.{Attributes}
 use Rattle.kak_faces.specs.declared.face.Face.{Face}
 use Rattle.kak_faces.specs.Standard.{no_attributes, plain_face, default_face}
 use Rattle.face_texts.specs.declared.text.FaceText.{FaceText}
-use Rattle.face_texts.specs.declared.rows.Named.{Named}
+use Rattle.face_texts.specs.declared.rows.NamedFace.{NamedFace}
 use Rattle.face_texts.specs.Texts.{face_on, face_text_of}
-use Rattle.face_texts.specs.Tables.{face_named, seen_named, shown, set_in, unset_in, named_row, based_on, word_text}
+use Rattle.face_texts.specs.Tables.{face_named, seen_named, shown, face_set_in, face_unset_in, named_row, based_on, word_text}
 use Rattle.face_texts.specs.Given.{given}
 
 -- a face of two colours, without a base
-abbrev pub plain : NamedColour → NamedColour → FaceText
-plain fg bg = face_on (plain_face fg bg) None
+abbrev pub plain_face_text : NamedColour → NamedColour → FaceText
+plain_face_text fg bg = face_on (plain_face fg bg) None
 
 -- red letters, over nothing and over a base
 abbrev pub red : FaceText
-red = plain named.Red named.Default
+red = plain_face_text named.Red named.Default
 
 abbrev pub red_on : List ℕ → FaceText
 red_on base = face_on (plain_face named.Red named.Default) (Some base)
@@ -41,15 +41,15 @@ abbrev pub kept_red : Face
 kept_red = record (plain_face named.Red named.Default) { attributes = record no_attributes { final_fg = true } }
 
 -- a over b over c
-abbrev pub three : List Named
-three =
+abbrev pub three_names : List NamedFace
+three_names =
     named_row (codes "a") (face_on kept_red (Some (codes "b"))) ∷ named_row (codes "b") (face_on kept_attributes (Some (codes "c")))
     ∷ named_row (codes "c") (face_on kept_green None) ∷ []
 
 -- the examples of texts
 pub record TextExamples : Type 0 where
   pub one : face_text_of (codes "red") ≡ Ok red
-  pub ground_alone : face_text_of (codes ",blue") ≡ Ok (plain named.Default named.Blue)
+  pub ground_alone : face_text_of (codes ",blue") ≡ Ok (plain_face_text named.Default named.Blue)
   pub missing_between : face_text_of (codes "red,,green") ≡ Ok (face_on (record (plain_face named.Red named.Default) { underline = NamedOf named.Green }) None)
   pub nothing : face_text_of [] ≡ Ok (face_on default_face None)
   pub all_three : face_text_of (codes "bright-cyan,default,black") ≡ Ok (face_on (record (plain_face named.BrightCyan named.Default) { underline = NamedOf named.Black }) None)
@@ -95,25 +95,25 @@ pub record TableExamples : Type 0 where
   pub given_face : face_named given (codes "Error") ≡ Some (plain_face named.Black named.Red)
   pub no_face : face_named given (codes "A") ≡ None
   pub counts_as_default : seen_named given (codes "A") ≡ default_face
-  pub unset_default : seen_named (unset_in (codes "Error") given) (codes "Error") ≡ default_face
+  pub unset_default : seen_named (face_unset_in (codes "Error") given) (codes "Error") ≡ default_face
   -- a base is merged below, and one that isn't set counts as the default face
   pub over_base : shown given (red_on (codes "Error")) ≡ plain_face named.Red named.Red
   pub over_nothing : shown given (red_on (codes "A")) ≡ plain_face named.Red named.Default
   -- a base that is set later is followed
   pub later : face_named (named_row (codes "A") (based_on (codes "B")) ∷ named_row (codes "B") red ∷ []) (codes "A") ≡ Some (plain_face named.Red named.Default)
   -- bases are merged from the last on: `b` over `c` has lost that green stays, so that `a` over both is red
-  pub from_the_last : face_named three (codes "a") ≡ Some (record (plain_face named.Red named.Default) { attributes = record no_attributes { final_attr = true } })
+  pub from_the_last : face_named three_names (codes "a") ≡ Some (record (plain_face named.Red named.Default) { attributes = record no_attributes { final_attr = true } })
   -- in place of what the name had, and at the end where it had nothing
-  pub set_again : set_in (codes "A") red (named_row (codes "A") (based_on (codes "B")) ∷ named_row (codes "C") red ∷ []) ≡ Ok (named_row (codes "A") red ∷ named_row (codes "C") red ∷ [])
-  pub set_new : set_in (codes "A") (based_on (codes "B")) (named_row (codes "C") red ∷ []) ≡ Ok (named_row (codes "C") red ∷ named_row (codes "A") (based_on (codes "B")) ∷ [])
+  pub set_again : face_set_in (codes "A") red (named_row (codes "A") (based_on (codes "B")) ∷ named_row (codes "C") red ∷ []) ≡ Ok (named_row (codes "A") red ∷ named_row (codes "C") red ∷ [])
+  pub set_new : face_set_in (codes "A") (based_on (codes "B")) (named_row (codes "C") red ∷ []) ≡ Ok (named_row (codes "C") red ∷ named_row (codes "A") (based_on (codes "B")) ∷ [])
   -- bases that would come back
-  pub itself : set_in (codes "A") (based_on (codes "A")) given ≡ Err (codes "A")
-  pub two_of_them : set_in (codes "B") (based_on (codes "A")) (named_row (codes "A") (based_on (codes "B")) ∷ []) ≡ Err (codes "B")
-  pub three_of_them : set_in (codes "c") (based_on (codes "a")) three ≡ Err (codes "c")
+  pub itself : face_set_in (codes "A") (based_on (codes "A")) given ≡ Err (codes "A")
+  pub two_of_them : face_set_in (codes "B") (based_on (codes "A")) (named_row (codes "A") (based_on (codes "B")) ∷ []) ≡ Err (codes "B")
+  pub three_of_them : face_set_in (codes "c") (based_on (codes "a")) three_names ≡ Err (codes "c")
   -- a word that is a set name stands for its face, also where it is a colour
   pub set_word : word_text given (codes "Error") ≡ Ok (based_on (codes "Error"))
   pub colour_word : word_text given (codes "red") ≡ Ok red
-  pub colour_name : word_text (named_row (codes "red") (plain named.Blue named.Default) ∷ []) (codes "red") ≡ Ok (based_on (codes "red"))
+  pub colour_name : word_text (named_row (codes "red") (plain_face_text named.Blue named.Default) ∷ []) (codes "red") ≡ Ok (based_on (codes "red"))
   pub bad_word : word_text given (codes "Err") ≡ Err 0
 
 -- all of them

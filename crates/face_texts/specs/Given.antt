@@ -3,7 +3,7 @@ use Rattle.std.specs.Prelude.{ℕ, List, [], ◌∷◌, map, None, codes}
 use Rattle.kak_faces.specs.declared.standard.StandardFace.{StandardFace}
 use Rattle.kak_faces.specs.declared.standard.StandardFace.TheVariants as name
 use Rattle.kak_faces.specs.Standard.{standard_face}
-use Rattle.face_texts.specs.declared.rows.Named.{Named}
+use Rattle.face_texts.specs.declared.rows.NamedFace.{NamedFace}
 use Rattle.face_texts.specs.Texts.{face_on}
 use Rattle.face_texts.specs.Tables.{named_row}
 
@@ -34,9 +34,9 @@ all_standard =
     ∷ name.Information ∷ name.LineNumbers ∷ name.LineNumberCursor ∷ name.Whitespace ∷ []
 
 -- the row of a given face
-abbrev pub standard_row : StandardFace → Named
+abbrev pub standard_row : StandardFace → NamedFace
 standard_row face = named_row (standard_name face) (face_on (standard_face face) None)
 
 -- the table at the start
-abbrev pub given : List Named
+abbrev pub given : List NamedFace
 given = map standard_row all_standard

@@ -3,17 +3,17 @@ use Rattle.std.specs.Prelude.{List}
 use Rattle.kak_faces.specs.declared.face.Face.{Face}
 use Rattle.kak_faces.specs.declared.standard.StandardFace.{StandardFace}
 use Rattle.kak_faces.specs.declared.standard.StandardFace.TheVariants as name
-use Rattle.face_texts.specs.declared.rows.Named.{Named}
+use Rattle.face_texts.specs.declared.rows.NamedFace.{NamedFace}
 use Rattle.face_texts.specs.declared.palette.Palette.{Palette}
 use Rattle.face_texts.specs.Tables.{seen_named}
 use Rattle.face_texts.specs.Given.{standard_name}
 
 -- what a given name is seen as
-abbrev pub seen_standard : List Named → StandardFace → Face
+abbrev pub seen_standard : List NamedFace → StandardFace → Face
 seen_standard rows face = seen_named rows (standard_name face)
 
 -- what all of them are seen as
-unfoldable pub palette_of : List Named → Palette
+unfoldable pub palette_of : List NamedFace → Palette
 palette_of rows = record {
   default = seen_standard rows name.Default;
   buffer_padding = seen_standard rows name.BufferPadding;
@@ -34,20 +34,20 @@ palette_of rows = record {
 }
 
 -- the face of a name in a palette
-abbrev pub face_in : Palette → StandardFace → Face
-face_in palette name.Default = palette.default
-face_in palette name.BufferPadding = palette.buffer_padding
-face_in palette name.PrimarySelection = palette.primary_selection
-face_in palette name.SecondarySelection = palette.secondary_selection
-face_in palette name.PrimaryCursor = palette.primary_cursor
-face_in palette name.SecondaryCursor = palette.secondary_cursor
-face_in palette name.PrimaryCursorEol = palette.primary_cursor_eol
-face_in palette name.SecondaryCursorEol = palette.secondary_cursor_eol
-face_in palette name.StatusLine = palette.status_line
-face_in palette name.StatusCursor = palette.status_cursor
-face_in palette name.Prompt = palette.prompt
-face_in palette name.Error = palette.error
-face_in palette name.Information = palette.information
-face_in palette name.LineNumbers = palette.line_numbers
-face_in palette name.LineNumberCursor = palette.line_number_cursor
-face_in palette name.Whitespace = palette.whitespace
+abbrev pub palette_face : Palette → StandardFace → Face
+palette_face palette name.Default = palette.default
+palette_face palette name.BufferPadding = palette.buffer_padding
+palette_face palette name.PrimarySelection = palette.primary_selection
+palette_face palette name.SecondarySelection = palette.secondary_selection
+palette_face palette name.PrimaryCursor = palette.primary_cursor
+palette_face palette name.SecondaryCursor = palette.secondary_cursor
+palette_face palette name.PrimaryCursorEol = palette.primary_cursor_eol
+palette_face palette name.SecondaryCursorEol = palette.secondary_cursor_eol
+palette_face palette name.StatusLine = palette.status_line
+palette_face palette name.StatusCursor = palette.status_cursor
+palette_face palette name.Prompt = palette.prompt
+palette_face palette name.Error = palette.error
+palette_face palette name.Information = palette.information
+palette_face palette name.LineNumbers = palette.line_numbers
+palette_face palette name.LineNumberCursor = palette.line_number_cursor
+palette_face palette name.Whitespace = palette.whitespace

@@ -4,12 +4,12 @@ ghost use Rattle.std.specs.Prelude.{◌≡◌};
 ghost use Rattle.face_texts.specs.Tables.{comes_back, shown, seen_named};
 
 use crate::cover::Cover;
-use crate::rows::{Named, is_based_on, text_named, text_of_base};
+use crate::rows::{NamedFace, is_based_on, text_named, text_of_base};
 use crate::text::FaceText;
 use kak_faces::Face;
 
 /// Whether following bases from a text comes to a name.
-pub(crate) fn comes_back(rows: &[Named], name: &str, text: &FaceText) -> bool
+pub(crate) fn comes_back(rows: &[NamedFace], name: &str, text: &FaceText) -> bool
     ensures { result ≡ comes_back rows.now name.now text.now }
 {
     let mut at = text;
@@ -26,7 +26,7 @@ pub(crate) fn comes_back(rows: &[Named], name: &str, text: &FaceText) -> bool
 }
 
 /// What a text is seen as.
-pub(crate) fn shown(rows: &[Named], text: &FaceText) -> Face
+pub(crate) fn shown(rows: &[NamedFace], text: &FaceText) -> Face
     ensures { result ≡ shown rows.now text.now }
 {
     let mut cover = Cover::new();
@@ -42,7 +42,7 @@ pub(crate) fn shown(rows: &[Named], text: &FaceText) -> Face
 }
 
 /// What a name is seen as: one that isn't set is the default face.
-pub(crate) fn seen_named(rows: &[Named], name: &str) -> Face
+pub(crate) fn seen_named(rows: &[NamedFace], name: &str) -> Face
     ensures { result ≡ seen_named rows.now name.now }
 {
     match text_named(rows, name) {

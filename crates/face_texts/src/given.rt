@@ -3,7 +3,7 @@
 ghost use Rattle.std.specs.Prelude.{◌≡◌, map, IfOk};
 ghost use Rattle.face_texts.specs.Given.{standard_name, standard_row, given};
 
-use crate::rows::Named;
+use crate::rows::NamedFace;
 use crate::text::FaceText;
 use byte_texts::Utf8Text;
 use kak_faces::StandardFace;
@@ -53,10 +53,10 @@ pub(crate) fn standard_name(face: StandardFace) -> &'static str
 }
 
 // The row of a given face.
-fn row(alloc: Global, face: StandardFace) -> Result<Named, AllocError>
+fn row(alloc: Global, face: StandardFace) -> Result<NamedFace, AllocError>
     ensures { IfOk result (λ row. row ≡ standard_row face) }
 {
-    Ok(Named {
+    Ok(NamedFace {
         name: Utf8Text::from_str(alloc, standard_name(face))?,
         text: FaceText {
             face: face.face(),
@@ -66,7 +66,7 @@ fn row(alloc: Global, face: StandardFace) -> Result<Named, AllocError>
 }
 
 // The rows of given faces.
-fn rows(alloc: Global, faces: &[StandardFace]) -> Result<Vec<Named>, AllocError>
+fn rows(alloc: Global, faces: &[StandardFace]) -> Result<Vec<NamedFace>, AllocError>
     ensures { IfOk result (λ v. v.items ≡ map standard_row faces.now) }
 {
     let mut rows = Vec::with_capacity(alloc, faces.len())?;
@@ -77,7 +77,7 @@ fn rows(alloc: Global, faces: &[StandardFace]) -> Result<Vec<Named>, AllocError>
 }
 
 /// The rows at the start.
-pub(crate) fn given(alloc: Global) -> Result<Vec<Named>, AllocError>
+pub(crate) fn given(alloc: Global) -> Result<Vec<NamedFace>, AllocError>
     ensures { IfOk result (λ v. v.items ≡ given) }
 {
     rows(alloc, &ALL)

@@ -16,6 +16,6 @@ mod text;
 pub use laws::{names_are_apart, palettes_have_each, worked_examples};
 pub use palette::Palette;
 pub use reading::read_face;
-pub use rows::Named;
+pub use rows::NamedFace;
 pub use table::FaceTable;
 pub use text::{FaceError, FaceText};

@@ -1,11 +1,11 @@
 //! What the given names are seen as.
 
 ghost use Rattle.std.specs.Prelude.{◌≡◌};
-ghost use Rattle.face_texts.specs.Palettes.{palette_of, face_in, seen_standard};
+ghost use Rattle.face_texts.specs.Palettes.{palette_of, palette_face, seen_standard};
 
 use crate::following::seen_named;
 use crate::given::standard_name;
-use crate::rows::Named;
+use crate::rows::NamedFace;
 use kak_faces::{Face, StandardFace};
 
 /// What each of the given names is seen as.
@@ -32,7 +32,7 @@ pub struct Palette {
 impl Palette {
     /// The face of a name.
     pub fn of(&self, name: StandardFace) -> Face
-        ensures { result ≡ face_in self.now name }
+        ensures { result ≡ palette_face self.now name }
     {
         match name {
             StandardFace::Default => self.default,
@@ -56,14 +56,14 @@ impl Palette {
 }
 
 // What a given name is seen as.
-fn seen(rows: &[Named], face: StandardFace) -> Face
+fn seen(rows: &[NamedFace], face: StandardFace) -> Face
     ensures { result ≡ seen_standard rows.now face }
 {
     seen_named(rows, standard_name(face))
 }
 
 /// What the given names are seen as in a table.
-pub(crate) fn palette_of(rows: &[Named]) -> Palette
+pub(crate) fn palette_of(rows: &[NamedFace]) -> Palette
     ensures { result ≡ palette_of rows.now }
 {
     Palette {

@@ -11,20 +11,20 @@ use std::alloc::AllocError;
 
 /// A face under a name.
 #[derive(Drop, Debug)]
-pub struct Named {
+pub struct NamedFace {
     pub name: Utf8Text,
     pub text: FaceText,
 }
 
 /// Whether a row is that of a name.
-pub(crate) fn is_named(row: &Named, name: &str) -> bool
+pub(crate) fn is_named(row: &NamedFace, name: &str) -> bool
     ensures { result ≡ is_named name.now row.now }
 {
     row.name.as_str() == name
 }
 
 /// The text that a name is set to.
-pub(crate) fn text_named<'a>(rows: &'a [Named], name: &str) -> Option<&'a FaceText>
+pub(crate) fn text_named<'a>(rows: &'a [NamedFace], name: &str) -> Option<&'a FaceText>
     ensures { option_copied result ≡ text_named rows.now name.now }
 {
     for row in rows {
@@ -36,7 +36,7 @@ pub(crate) fn text_named<'a>(rows: &'a [Named], name: &str) -> Option<&'a FaceTe
 }
 
 /// What the base of a text is set to.
-pub(crate) fn text_of_base<'a>(rows: &'a [Named], text: &FaceText) -> Option<&'a FaceText>
+pub(crate) fn text_of_base<'a>(rows: &'a [NamedFace], text: &FaceText) -> Option<&'a FaceText>
     ensures { option_copied result ≡ text_of_base rows.now text.now.base }
 {
     match &text.base {
@@ -56,7 +56,7 @@ pub(crate) fn is_based_on(text: &FaceText, name: &str) -> bool
 }
 
 // The place of the row of a name, or how many rows there are where none is.
-fn place(rows: &[Named], name: &str) -> usize
+fn place(rows: &[NamedFace], name: &str) -> usize
     ensures { result ≡ place_where (is_named name.now) rows.now }
 {
     for (i, row) in rows.iter().enumerate() {
@@ -68,7 +68,7 @@ fn place(rows: &[Named], name: &str) -> usize
 }
 
 /// Puts a row in place of the one of its name, or at the end. An `Err` leaves the rows.
-pub(crate) fn put(rows: &mut Vec<Named>, row: Named) -> Result<(), AllocError>
+pub(crate) fn put(rows: &mut Vec<NamedFace>, row: NamedFace) -> Result<(), AllocError>
     ensures ok { OnOk result (rows.new.items ≡ put_where (is_named row.name) row rows.old.items) }
     ensures err { OnErr result (rows.new.items ≡ rows.old.items) }
 {

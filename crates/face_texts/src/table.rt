@@ -1,7 +1,7 @@
 //! The faces of a session.
 
 ghost use Rattle.std.specs.Prelude.{◌≡◌, Ok, is_some, IfOk, IfErr, OnOk, OnErr};
-ghost use Rattle.face_texts.specs.Tables.{set_in, unset_in, text_named, face_named, shown, word_text};
+ghost use Rattle.face_texts.specs.Tables.{face_set_in, face_unset_in, text_named, face_named, shown, word_text};
 ghost use Rattle.face_texts.specs.Given.{given};
 ghost use Rattle.face_texts.specs.Palettes.{palette_of};
 ghost use Rattle.face_texts.specs.Errors.{IsBadFace, IsCycle};
@@ -10,7 +10,7 @@ use crate::following::{comes_back, shown};
 use crate::given::given;
 use crate::palette::{Palette, palette_of};
 use crate::reading::read_face;
-use crate::rows::{Named, is_named, put, text_named};
+use crate::rows::{NamedFace, is_named, put, text_named};
 use crate::text::{FaceError, FaceText};
 use byte_texts::Utf8Text;
 use kak_faces::Face;
@@ -20,17 +20,17 @@ use std::marker::Model;
 /// The faces that are set. Contracts see their names and texts, in the order in which they were first set.
 #[derive(Drop, Debug)]
 pub struct FaceTable {
-    rows: Vec<Named>,
+    rows: Vec<NamedFace>,
     // what the given names are seen as
     palette: Palette,
 }
 
 impl Model for FaceTable {
     ghost use Rattle.std.specs.Prelude.{◌≡◌, List};
-    ghost use Rattle.face_texts.specs.declared.rows.Named.{Named};
+    ghost use Rattle.face_texts.specs.declared.rows.NamedFace.{NamedFace};
     ghost use Rattle.face_texts.specs.Palettes.{palette_of};
 
-    ghost Value = { List Named };
+    ghost Value = { List NamedFace };
 
     ghost view = { λ t. t.rows.items };
 
@@ -50,22 +50,22 @@ impl FaceTable {
     /// Sets a name to a text. The errors are `Cycle` with this name, exactly where following bases from the text comes back
     /// to it, and at any time `NoMemory`. They leave all as it was.
     pub fn set_face(&mut self, alloc: Global, name: &str, value: FaceText) -> Result<(), FaceError>
-        ensures sets { OnOk result (set_in name.now value self.old ≡ Ok self.new) }
-        ensures refused { IfErr result (λ e. IsCycle e (set_in name.now value self.old)) }
+        ensures sets { OnOk result (face_set_in name.now value self.old ≡ Ok self.new) }
+        ensures refused { IfErr result (λ e. IsCycle e (face_set_in name.now value self.old)) }
         ensures err { OnErr result (self.new ≡ self.old) }
     {
         if comes_back(self.rows.as_slice(), name, &value) {
             return Err(FaceError::Cycle(Utf8Text::from_str(alloc, name)?));
         }
         let name = Utf8Text::from_str(alloc, name)?;
-        put(&mut self.rows, Named { name, text: value })?;
+        put(&mut self.rows, NamedFace { name, text: value })?;
         self.palette = palette_of(self.rows.as_slice());
         Ok(())
     }
 
     /// A name isn't set any more. Takes no memory.
     pub fn unset_face(&mut self, name: &str)
-        ensures { self.new ≡ unset_in name.now self.old }
+        ensures { self.new ≡ face_unset_in name.now self.old }
     {
         self.rows.retain(|row| !is_named(row, name));
         self.palette = palette_of(self.rows.as_slice());

@@ -4,7 +4,7 @@ use Rattle.std.specs.Prelude.{encode_utf8_all, IfSome, Some, None}
 use Rattle.std.specs.declared.option.Option.{Option}
 use Rattle.edit_line.specs.Halves.{whole}
 use Rattle.kak_registers.specs.declared.names.RegisterError.{RegisterError}
-use Rattle.kak_registers.specs.Refusals.{refusal_of}
+use Rattle.kak_registers.specs.Refusals.{register_refusal}
 use Rattle.kak_world.specs.declared.ask.EditError.{EditError}
 use Rattle.kak_world.specs.declared.ask.EditError.TheVariants.{NoMemory, BudgetSpent}
 use Rattle.kak_world.specs.Flat.{Flat, is_joined, prompt_of, registers_of, with_registers, with_own}
@@ -27,7 +27,7 @@ left_behind who end = record { world = leave_prompt who end.world; row = end.row
 -- a register is set in a prompt that was left as it is before that
 set-left : (name : ℕ) (strings : List (List ℕ)) (who : ℕ) (flat : Flat) → set_row name strings (leave_prompt who flat) ≡ left_behind who (set_row name strings flat)
 unfolding set_row registers_of with_registers with_own
-set-left name strings who flat = by (refusal_of name strings)
+set-left name strings who flat = by (register_refusal name strings)
   where
     by : (o : Option RegisterError) → set_unless o name strings (leave_prompt who flat) ≡ left_behind who (set_unless o name strings flat)
     by None = refl

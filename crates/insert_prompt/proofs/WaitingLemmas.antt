@@ -2,7 +2,7 @@
 use Rattle.std.proofs.Common.{◌≡◌, ℕ, true, false, List, refl, sym, ap, ◌∙◌}
 use Rattle.std.specs.Prelude.{option_map, is_some, unwrap_or, Some, None}
 use Rattle.std.specs.declared.option.Option.{Option}
-use Rattle.edit_line.specs.Edits.{put_in}
+use Rattle.edit_line.specs.Edits.{put_before_cursor}
 use Rattle.kak_world.specs.declared.ask.EditError.TheVariants.{NoSuchRegister}
 use Rattle.kak_world.specs.Flat.{Flat}
 use Rattle.kak_world.specs.Rows.{RowEnd, does, fails}
@@ -17,21 +17,21 @@ known : (name who : ℕ) (flat : Flat) (o : Option (List ℕ)) → o ≡ option_
 known name who flat o e = e ∙ ap (option_map joined_text) (sym (read-own name who who _ flat))
 
 -- a register that is there
-pub register-goes-in : (name who : ℕ) (flat mid new : Flat) (text : List ℕ) → Some text ≡ option_map joined_text (strings_read name who flat) → mid ≡ prompt_edited (put_in text) who flat → new ≡ awaiting None who mid
+pub register-goes-in : (name who : ℕ) (flat mid new : Flat) (text : List ℕ) → Some text ≡ option_map joined_text (strings_read name who flat) → mid ≡ prompt_edited (put_before_cursor text) who flat → new ≡ awaiting None who mid
     → prompt_register name who (awaiting None who flat) ≡ does new
 register-goes-in name who flat mid new text e m n =
     by (strings_read name who (awaiting None who flat)) (known name who flat (Some text) e)
     ∙ ap does (own_twice who _ _ flat ∙ sym (own_twice who _ _ flat) ∙ ap (awaiting None who) (sym m) ∙ sym n)
   where
-    by : (o : Option (List (List ℕ))) → Some text ≡ option_map joined_text o → with_strings o name (λ strings w. does (prompt_edited (put_in (joined_text strings)) who w)) (awaiting None who flat) ≡ does (prompt_edited (put_in text) who (awaiting None who flat))
+    by : (o : Option (List (List ℕ))) → Some text ≡ option_map joined_text o → with_strings o name (λ strings w. does (prompt_edited (put_before_cursor (joined_text strings)) who w)) (awaiting None who flat) ≡ does (prompt_edited (put_before_cursor text) who (awaiting None who flat))
     by None h = absurd (let no : true ≡ false = ap is_some h in cc)
-    by (Some strings) h = let same : text ≡ joined_text strings = ap (λ o. unwrap_or o text) h in ap (λ t. does (prompt_edited (put_in t) who (awaiting None who flat))) (sym same)
+    by (Some strings) h = let same : text ≡ joined_text strings = ap (λ o. unwrap_or o text) h in ap (λ t. does (prompt_edited (put_before_cursor t) who (awaiting None who flat))) (sym same)
 
 -- and one that isn't
 pub register-is-none : (name who : ℕ) (flat new : Flat) → None ≡ option_map joined_text (strings_read name who flat) → new ≡ awaiting None who flat → prompt_register name who (awaiting None who flat) ≡ fails (NoSuchRegister name) new
 register-is-none name who flat new e n =
     by (strings_read name who (awaiting None who flat)) (known name who flat None e) ∙ ap (fails (NoSuchRegister name)) (sym n)
   where
-    by : (o : Option (List (List ℕ))) → None ≡ option_map joined_text o → with_strings o name (λ strings w. does (prompt_edited (put_in (joined_text strings)) who w)) (awaiting None who flat) ≡ fails (NoSuchRegister name) (awaiting None who flat)
+    by : (o : Option (List (List ℕ))) → None ≡ option_map joined_text o → with_strings o name (λ strings w. does (prompt_edited (put_before_cursor (joined_text strings)) who w)) (awaiting None who flat) ≡ fails (NoSuchRegister name) (awaiting None who flat)
     by None h = refl
     by (Some strings) h = absurd (let no : false ≡ true = ap is_some h in cc)

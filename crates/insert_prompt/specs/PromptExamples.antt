@@ -36,60 +36,60 @@ abbrev pub looking : List (List ℕ) → Flat → Flat
 looking strings flat = record flat { rest = record flat.rest { registers = record { name = 47; values = strings } ∷ [] } }
 
 -- the world behind a key without modifiers there
-abbrev pub struck : Base → List ℕ → List ℕ → Flat
-struck base before behind = (prompt_base base 0 (prompting before behind)).world
+abbrev pub struck_at_prompt : Base → List ℕ → List ℕ → Flat
+struck_at_prompt base before behind = (prompt_base base 0 (prompting before behind)).world
 
 -- keys without modifiers, and with control alone
-abbrev pub plain : Base → Key
-plain base = record { control = false; alt = false; shift = false; base = base }
+abbrev pub key_of_base : Base → Key
+key_of_base base = record { control = false; alt = false; shift = false; base = base }
 
-abbrev pub control : Base → Key
-control base = record { control = true; alt = false; shift = false; base = base }
+abbrev pub control_key : Base → Key
+control_key base = record { control = true; alt = false; shift = false; base = base }
 
 -- the same, where register `a` (97) holds strings
-abbrev pub holding : List (List ℕ) → Flat → Flat
-holding strings flat = record flat { rest = record flat.rest { registers = record { name = 97; values = strings } ∷ [] } }
+abbrev pub holding_register : List (List ℕ) → Flat → Flat
+holding_register strings flat = record flat { rest = record flat.rest { registers = record { name = 97; values = strings } ∷ [] } }
 
 -- what a key gives for which `<c-r>` waits
 abbrev pub behind_control_r : Base → List (List ℕ) → List ℕ → List ℕ → RowEnd
-behind_control_r base strings before behind = row_prompt (plain base) 0 (awaiting (Some (control (Char 114))) 0 (holding strings (prompting before behind)))
+behind_control_r base strings before behind = row_prompt (key_of_base base) 0 (awaiting (Some (control_key (Char 114))) 0 (holding_register strings (prompting before behind)))
 
 -- characters, and what erases
 pub record ErasingExamples : Type 0 where
-  pub character_at_the_start : struck (Char 113) [] (codes "ab") ≡ prompting (codes "q") (codes "ab")
-  pub character_in_the_middle : struck (Char 113) (codes "a") (codes "b") ≡ prompting (codes "aq") (codes "b")
-  pub character_at_the_end : struck (Char 113) (codes "ab") [] ≡ prompting (codes "abq") []
-  pub any_character : struck (Char 0x6F22) (codes "a") (codes "b") ≡ prompting (97 ∷ 0x6F22 ∷ []) (codes "b")
-  pub backspace_at_the_start : struck Backspace [] (codes "ab") ≡ prompting [] (codes "ab")
-  pub backspace_in_the_middle : struck Backspace (codes "ab") (codes "cd") ≡ prompting (codes "a") (codes "cd")
-  pub backspace_at_the_end : struck Backspace (codes "ab") [] ≡ prompting (codes "a") []
-  pub backspace_in_an_empty_one : struck Backspace [] [] ≡ prompting [] []
-  pub del_at_the_start : struck Del [] (codes "ab") ≡ prompting [] (codes "b")
-  pub del_in_the_middle : struck Del (codes "ab") (codes "cd") ≡ prompting (codes "ab") (codes "d")
-  pub del_at_the_end : struck Del (codes "ab") [] ≡ prompting (codes "ab") []
+  pub character_at_the_start : struck_at_prompt (Char 113) [] (codes "ab") ≡ prompting (codes "q") (codes "ab")
+  pub character_in_the_middle : struck_at_prompt (Char 113) (codes "a") (codes "b") ≡ prompting (codes "aq") (codes "b")
+  pub character_at_the_end : struck_at_prompt (Char 113) (codes "ab") [] ≡ prompting (codes "abq") []
+  pub any_character : struck_at_prompt (Char 0x6F22) (codes "a") (codes "b") ≡ prompting (97 ∷ 0x6F22 ∷ []) (codes "b")
+  pub backspace_at_the_start : struck_at_prompt Backspace [] (codes "ab") ≡ prompting [] (codes "ab")
+  pub backspace_in_the_middle : struck_at_prompt Backspace (codes "ab") (codes "cd") ≡ prompting (codes "a") (codes "cd")
+  pub backspace_at_the_end : struck_at_prompt Backspace (codes "ab") [] ≡ prompting (codes "a") []
+  pub backspace_in_an_empty_one : struck_at_prompt Backspace [] [] ≡ prompting [] []
+  pub del_at_the_start : struck_at_prompt Del [] (codes "ab") ≡ prompting [] (codes "b")
+  pub del_in_the_middle : struck_at_prompt Del (codes "ab") (codes "cd") ≡ prompting (codes "ab") (codes "d")
+  pub del_at_the_end : struck_at_prompt Del (codes "ab") [] ≡ prompting (codes "ab") []
 
 -- what moves the cursor
 pub record MovingExamples : Type 0 where
-  pub left_at_the_start : struck Left [] (codes "ab") ≡ prompting [] (codes "ab")
-  pub left_in_the_middle : struck Left (codes "ab") (codes "cd") ≡ prompting (codes "a") (codes "bcd")
-  pub left_at_the_end : struck Left (codes "ab") [] ≡ prompting (codes "a") (codes "b")
-  pub right_at_the_start : struck Right [] (codes "ab") ≡ prompting (codes "a") (codes "b")
-  pub right_in_the_middle : struck Right (codes "ab") (codes "cd") ≡ prompting (codes "abc") (codes "d")
-  pub right_at_the_end : struck Right (codes "ab") [] ≡ prompting (codes "ab") []
-  pub home_from_the_start : struck Home [] (codes "ab") ≡ prompting [] (codes "ab")
-  pub home_from_the_middle : struck Home (codes "ab") (codes "cd") ≡ prompting [] (codes "abcd")
-  pub home_from_the_end : struck Home (codes "ab") [] ≡ prompting [] (codes "ab")
-  pub end_from_the_start : struck End [] (codes "ab") ≡ prompting (codes "ab") []
-  pub end_from_the_middle : struck End (codes "ab") (codes "cd") ≡ prompting (codes "abcd") []
-  pub end_from_the_end : struck End (codes "ab") [] ≡ prompting (codes "ab") []
-  pub tab_does_nothing : struck Tab (codes "a") (codes "b") ≡ prompting (codes "a") (codes "b")
+  pub left_at_the_start : struck_at_prompt Left [] (codes "ab") ≡ prompting [] (codes "ab")
+  pub left_in_the_middle : struck_at_prompt Left (codes "ab") (codes "cd") ≡ prompting (codes "a") (codes "bcd")
+  pub left_at_the_end : struck_at_prompt Left (codes "ab") [] ≡ prompting (codes "a") (codes "b")
+  pub right_at_the_start : struck_at_prompt Right [] (codes "ab") ≡ prompting (codes "a") (codes "b")
+  pub right_in_the_middle : struck_at_prompt Right (codes "ab") (codes "cd") ≡ prompting (codes "abc") (codes "d")
+  pub right_at_the_end : struck_at_prompt Right (codes "ab") [] ≡ prompting (codes "ab") []
+  pub home_from_the_start : struck_at_prompt Home [] (codes "ab") ≡ prompting [] (codes "ab")
+  pub home_from_the_middle : struck_at_prompt Home (codes "ab") (codes "cd") ≡ prompting [] (codes "abcd")
+  pub home_from_the_end : struck_at_prompt Home (codes "ab") [] ≡ prompting [] (codes "ab")
+  pub end_from_the_start : struck_at_prompt End [] (codes "ab") ≡ prompting (codes "ab") []
+  pub end_from_the_middle : struck_at_prompt End (codes "ab") (codes "cd") ≡ prompting (codes "abcd") []
+  pub end_from_the_end : struck_at_prompt End (codes "ab") [] ≡ prompting (codes "ab") []
+  pub tab_does_nothing : struck_at_prompt Tab (codes "a") (codes "b") ≡ prompting (codes "a") (codes "b")
 
 -- what leaves
 pub record LeavingExamples : Type 0 where
   pub all_is_run : (prompt_base Ret 0 (prompting (codes "qu") (codes "it"))).row ≡ Asks (Commands (codes "quit"))
-  pub all_is_kept : strings_of 58 (registers_of (struck Ret (codes "qu") (codes "it"))) ≡ codes "quit" ∷ []
-  pub prompt_is_left : mode_of 0 (struck Ret (codes "qu") (codes "it")) ≡ Normal
-  pub prompt_is_emptied : prompt_of 0 (struck Esc (codes "qu") (codes "it")) ≡ empty
+  pub all_is_kept : strings_of 58 (registers_of (struck_at_prompt Ret (codes "qu") (codes "it"))) ≡ codes "quit" ∷ []
+  pub prompt_is_left : mode_of 0 (struck_at_prompt Ret (codes "qu") (codes "it")) ≡ Normal
+  pub prompt_is_emptied : prompt_of 0 (struck_at_prompt Esc (codes "qu") (codes "it")) ≡ empty
   pub escape_runs_nothing : (prompt_base Esc 0 (prompting (codes "qu") (codes "it"))).row ≡ Asks Nothing
 
 -- what leaves a prompt for a pattern
@@ -105,18 +105,18 @@ pub record PatternExamples : Type 0 where
 
 -- what puts registers in
 pub record RegisterExamples : Type 0 where
-  pub control_r_waits : pending_of 0 (row_prompt (control (Char 114)) 0 (prompting (codes "a") (codes "b"))).world ≡ Some (control (Char 114))
-  pub other_keys_with_control : (row_prompt (control (Char 117)) 0 (prompting (codes "a") (codes "b"))).world ≡ prompting (codes "a") (codes "b")
-  pub one_string_at_the_start : (behind_control_r (Char 97) (codes "xy" ∷ []) [] (codes "ab")).world ≡ holding (codes "xy" ∷ []) (prompting (codes "xy") (codes "ab"))
-  pub one_string_in_the_middle : (behind_control_r (Char 97) (codes "xy" ∷ []) (codes "a") (codes "b")).world ≡ holding (codes "xy" ∷ []) (prompting (codes "axy") (codes "b"))
-  pub two_strings_in_the_middle : (behind_control_r (Char 97) (codes "x" ∷ codes "yz" ∷ []) (codes "a") (codes "b")).world ≡ holding (codes "x" ∷ codes "yz" ∷ []) (prompting (codes "ax yz") (codes "b"))
-  pub two_strings_at_the_end : (behind_control_r (Char 97) (codes "x" ∷ codes "yz" ∷ []) (codes "ab") []).world ≡ holding (codes "x" ∷ codes "yz" ∷ []) (prompting (codes "abx yz") [])
-  pub empty_strings_too : (behind_control_r (Char 97) ([] ∷ codes "x" ∷ [] ∷ []) (codes "a") (codes "b")).world ≡ holding ([] ∷ codes "x" ∷ [] ∷ []) (prompting (codes "a x ") (codes "b"))
-  pub no_strings : (behind_control_r (Char 97) [] (codes "a") (codes "b")).world ≡ holding [] (prompting (codes "a") (codes "b"))
-  pub text_of_the_selection : (behind_control_r (Char 46) [] (codes "x") []).world ≡ holding [] (prompting (codes "xa") [])
+  pub control_r_waits : pending_of 0 (row_prompt (control_key (Char 114)) 0 (prompting (codes "a") (codes "b"))).world ≡ Some (control_key (Char 114))
+  pub other_keys_with_control : (row_prompt (control_key (Char 117)) 0 (prompting (codes "a") (codes "b"))).world ≡ prompting (codes "a") (codes "b")
+  pub one_string_at_the_start : (behind_control_r (Char 97) (codes "xy" ∷ []) [] (codes "ab")).world ≡ holding_register (codes "xy" ∷ []) (prompting (codes "xy") (codes "ab"))
+  pub one_string_in_the_middle : (behind_control_r (Char 97) (codes "xy" ∷ []) (codes "a") (codes "b")).world ≡ holding_register (codes "xy" ∷ []) (prompting (codes "axy") (codes "b"))
+  pub two_strings_in_the_middle : (behind_control_r (Char 97) (codes "x" ∷ codes "yz" ∷ []) (codes "a") (codes "b")).world ≡ holding_register (codes "x" ∷ codes "yz" ∷ []) (prompting (codes "ax yz") (codes "b"))
+  pub two_strings_at_the_end : (behind_control_r (Char 97) (codes "x" ∷ codes "yz" ∷ []) (codes "ab") []).world ≡ holding_register (codes "x" ∷ codes "yz" ∷ []) (prompting (codes "abx yz") [])
+  pub empty_strings_too : (behind_control_r (Char 97) ([] ∷ codes "x" ∷ [] ∷ []) (codes "a") (codes "b")).world ≡ holding_register ([] ∷ codes "x" ∷ [] ∷ []) (prompting (codes "a x ") (codes "b"))
+  pub no_strings : (behind_control_r (Char 97) [] (codes "a") (codes "b")).world ≡ holding_register [] (prompting (codes "a") (codes "b"))
+  pub text_of_the_selection : (behind_control_r (Char 46) [] (codes "x") []).world ≡ holding_register [] (prompting (codes "xa") [])
   pub no_such_register : (behind_control_r (Char 33) [] (codes "a") (codes "b")).row ≡ Fails (error_text (NoSuchRegister 33))
-  pub it_leaves_the_prompt : (behind_control_r (Char 33) [] (codes "a") (codes "b")).world ≡ holding [] (prompting (codes "a") (codes "b"))
-  pub escape_ends_the_waiting : (behind_control_r Esc [] (codes "a") (codes "b")).world ≡ holding [] (prompting (codes "a") (codes "b"))
+  pub it_leaves_the_prompt : (behind_control_r (Char 33) [] (codes "a") (codes "b")).world ≡ holding_register [] (prompting (codes "a") (codes "b"))
+  pub escape_ends_the_waiting : (behind_control_r Esc [] (codes "a") (codes "b")).world ≡ holding_register [] (prompting (codes "a") (codes "b"))
 
 pub record PromptExamples : Type 0 where
   pub erasing : ErasingExamples

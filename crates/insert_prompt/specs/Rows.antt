@@ -6,7 +6,7 @@ use Rattle.key_names.specs.declared.key.Base.{Base}
 use Rattle.key_names.specs.declared.key.Base.TheVariants.{Char, Ret, Tab, Backspace, Del, Left, Right, Up, Down, Home, End, Esc}
 use Rattle.key_names.specs.Modified.{is_modified}
 use Rattle.edit_line.specs.Halves.{Halves, whole, empty}
-use Rattle.edit_line.specs.Edits.{put_in, erased_before, erased_at, gone_left, gone_right, gone_home, gone_to_end}
+use Rattle.edit_line.specs.Edits.{put_before_cursor, erased_before, erased_at, gone_left, gone_right, gone_home, gone_to_end}
 use Rattle.kak_world.specs.declared.ask.Ask.TheVariants.{Commands}
 use Rattle.kak_world.specs.declared.own.Mode.TheVariants.{Normal}
 use Rattle.edit_ops.specs.declared.kinds.Erase.{Erase}
@@ -25,7 +25,7 @@ use Rattle.kak_world.specs.declared.purpose.Purpose.TheVariants as purpose
 use Rattle.kak_world.specs.declared.purpose.Use.{Use}
 use Rattle.kak_world.specs.Registers.{set_row}
 use Rattle.key_rows.specs.Sequence.{then_row}
-use Rattle.key_rows.specs.Each.{each_changed, moved}
+use Rattle.key_rows.specs.Each.{each_changed, each_moved}
 use Rattle.key_rows.specs.Naming.{register_named}
 use Rattle.key_rows.specs.Reading.{strings_read, joined_text}
 use Rattle.key_rows.specs.Patterns.{asks_for, asks_for_last}
@@ -40,8 +40,8 @@ abbrev pub typed : List ℕ → ℕ → Flat → RowEnd
 typed s who flat = edit_row (map (typed_before s) (sels_of who flat).list) who flat
 
 -- a character is erased before each cursor, where there is one, or at it
-abbrev pub erased : Erase → ℕ → Flat → RowEnd
-erased what who flat = edit_row (erasures what (sels_of who flat).list) who flat
+abbrev pub erased_row : Erase → ℕ → Flat → RowEnd
+erased_row what who flat = edit_row (erasures what (sels_of who flat).list) who flat
 
 -- where insert mode was entered behind selections, the cursors go back
 abbrev pub taken_back : ℕ → Flat → Flat
@@ -57,13 +57,13 @@ abbrev pub insert_base : Base → ℕ → Flat → RowEnd
 insert_base (Char c) who flat = typed (c ∷ []) who flat
 insert_base Ret who flat = typed (10 ∷ []) who flat
 insert_base Tab who flat = typed (9 ∷ []) who flat
-insert_base Backspace who flat = erased BeforeCursor who flat
-insert_base Del who flat = erased AtCursor who flat
-insert_base Left who flat = does (moved (Step Backward) Select who flat)
-insert_base Right who flat = does (moved (Step Forward) Select who flat)
-insert_base Up who flat = does (moved (Line Backward) Select who flat)
-insert_base Down who flat = does (moved (Line Forward) Select who flat)
-insert_base Home who flat = does (moved (To LineStart) Select who flat)
+insert_base Backspace who flat = erased_row BeforeCursor who flat
+insert_base Del who flat = erased_row AtCursor who flat
+insert_base Left who flat = does (each_moved (Step Backward) Select who flat)
+insert_base Right who flat = does (each_moved (Step Forward) Select who flat)
+insert_base Up who flat = does (each_moved (Line Backward) Select who flat)
+insert_base Down who flat = does (each_moved (Line Forward) Select who flat)
+insert_base Home who flat = does (each_moved (To LineStart) Select who flat)
 insert_base End who flat = does (each_changed (each.Reshaped CursorNewline) who flat)
 insert_base Esc who flat = does (leave_insert who flat)
 insert_base _ who flat = does flat
@@ -147,7 +147,7 @@ accepted who flat = accepted_as (purpose_of who flat) who flat
 -- the row of a key without modifiers in a prompt: a character goes in before the cursor; the prompt is accepted, or left; others
 -- edit the line, or leave it as it is
 abbrev pub prompt_base : Base → ℕ → Flat → RowEnd
-prompt_base (Char c) who flat = does (prompt_edited (put_in (c ∷ [])) who flat)
+prompt_base (Char c) who flat = does (prompt_edited (put_before_cursor (c ∷ [])) who flat)
 prompt_base Ret who flat = accepted who flat
 prompt_base Esc who flat = does (leave_prompt who flat)
 prompt_base base who flat = does (prompt_edited (line_edited base) who flat)
@@ -159,7 +159,7 @@ prompt_control _ key who flat = does flat
 
 -- the strings of a register go in before the cursor of the prompt, joined by spaces
 abbrev pub prompt_register : ℕ → ℕ → Flat → RowEnd
-prompt_register name who flat = with_strings (strings_read name who flat) name (λ strings w. does (prompt_edited (put_in (joined_text strings)) who w)) flat
+prompt_register name who flat = with_strings (strings_read name who flat) name (λ strings w. does (prompt_edited (put_before_cursor (joined_text strings)) who w)) flat
 
 abbrev pub prompt_named : Option ℕ → ℕ → Flat → RowEnd
 prompt_named None who flat = does flat

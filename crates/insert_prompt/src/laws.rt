@@ -1,12 +1,12 @@
 //! Laws of the rows, and worked examples of the definitions: each is the contract of a function that does nothing.
 
 ghost use Rattle.insert_prompt.specs.Examples.{Examples};
-ghost use Rattle.insert_prompt.specs.Laws.{RowsKeepClients};
+ghost use Rattle.insert_prompt.specs.Laws.{InsertRowsKeepClients};
 ghost use Rattle.insert_prompt.specs.PromptExamples.{PromptExamples};
 
 /// No key of insert mode or of a prompt makes a client come or go.
 pub fn rows_keep_clients()
-    ensures { RowsKeepClients }
+    ensures { InsertRowsKeepClients }
 {}
 
 /// Worked examples of the rows of insert mode.

@@ -2,11 +2,11 @@
 #![tactic(auto, using(kak_world::proofs::WorldLaws::world_laws))]
 
 ghost use Rattle.std.specs.Prelude.{◌≡◌, true, None, IfOk, IfSome, OnOk, OnErr, IsErrOf};
-ghost use Rattle.edit_line.specs.Edits.{put_in};
+ghost use Rattle.edit_line.specs.Edits.{put_before_cursor};
 ghost use Rattle.edit_line.specs.Halves.{whole};
 ghost use Rattle.kak_world.specs.declared.ask.EditError.TheVariants.{NoMemory};
 ghost use Rattle.kak_world.specs.Flat.{is_joined, prompt_of};
-ghost use Rattle.kak_world.specs.Rows.{Answers, Gives, does, row_of};
+ghost use Rattle.kak_world.specs.Rows.{Answers, GivesRow, does, row_of};
 ghost use Rattle.key_rows.specs.Naming.{register_named};
 ghost use Rattle.insert_prompt.specs.Rows.{awaiting, prompt_edited, line_edited, leave_prompt, typed_kept, commands_accepted, pattern_typed, accepted, prompt_base, prompt_control, prompt_register, prompt_named, prompt_first, row_prompt};
 
@@ -68,7 +68,7 @@ fn keep_typed(alloc: Global, world: &mut World, who: u32, name: char) -> Result<
 // Asks for what was typed to be run as commands.
 fn accept_commands(alloc: Global, world: &mut World, who: u32) -> Result<Ask, EditError>
     requires { is_joined who world.old.flat ≡ true }
-    ensures row { Gives result world.new.flat (commands_accepted who world.old.flat) }
+    ensures row { GivesRow result world.new.flat (commands_accepted who world.old.flat) }
     ensures wanting { IsErrOf result NoMemory → world.new.flat ≡ world.old.flat }
 {
     let typed = keep_typed(alloc, world, who, ':')?;
@@ -78,7 +78,7 @@ fn accept_commands(alloc: Global, world: &mut World, who: u32) -> Result<Ask, Ed
 // Asks for what was typed as a pattern, or for the one that was looked for last where nothing was.
 fn accept_pattern(alloc: Global, world: &mut World, who: u32, wanted: Use) -> Result<Ask, EditError>
     requires { is_joined who world.old.flat ≡ true }
-    ensures row { Gives result world.new.flat (pattern_typed (whole (prompt_of who world.old.flat)) wanted who world.old.flat) }
+    ensures row { GivesRow result world.new.flat (pattern_typed (whole (prompt_of who world.old.flat)) wanted who world.old.flat) }
     ensures wanting { IsErrOf result NoMemory → world.new.flat ≡ world.old.flat }
 {
     if world.own(who).prompt.whole().is_empty() {
@@ -96,7 +96,7 @@ fn accept_pattern(alloc: Global, world: &mut World, who: u32, wanted: Use) -> Re
 // Accepts the prompt, as what it is for.
 fn accept(alloc: Global, world: &mut World, who: u32) -> Result<Ask, EditError>
     requires { is_joined who world.old.flat ≡ true }
-    ensures row { Gives result world.new.flat (accepted who world.old.flat) }
+    ensures row { GivesRow result world.new.flat (accepted who world.old.flat) }
     ensures wanting { IsErrOf result NoMemory → world.new.flat ≡ world.old.flat }
 {
     let purpose = world.own(who).purpose;
@@ -109,7 +109,7 @@ fn accept(alloc: Global, world: &mut World, who: u32) -> Result<Ask, EditError>
 // Puts characters in before the cursor of the prompt. An `Err` leaves the world.
 fn put(world: &mut World, who: u32, chars: &[char]) -> Result<(), AllocError>
     requires { is_joined who world.old.flat ≡ true }
-    ensures ok { OnOk result (world.new.flat ≡ prompt_edited (put_in chars.now) who world.old.flat) }
+    ensures ok { OnOk result (world.new.flat ≡ prompt_edited (put_before_cursor chars.now) who world.old.flat) }
     ensures err { OnErr result (world.new.flat ≡ world.old.flat) }
 {
     let own = world.own_mut(who);
@@ -144,7 +144,7 @@ fn edit_prompt(world: &mut World, who: u32, base: Base)
 // Runs a key without modifiers.
 fn run_plain(alloc: Global, world: &mut World, who: u32, base: Base) -> Result<Ask, EditError>
     requires { is_joined who world.old.flat ≡ true }
-    ensures row { Gives result world.new.flat (prompt_base base who world.old.flat) }
+    ensures row { GivesRow result world.new.flat (prompt_base base who world.old.flat) }
     ensures wanting { IsErrOf result NoMemory → world.new.flat ≡ world.old.flat }
 {
     match base {
@@ -178,7 +178,7 @@ fn run_control(world: &mut World, who: u32, key: Key)
 // Runs a key that no other key waits for.
 fn run_first(alloc: Global, world: &mut World, who: u32, key: Key) -> Result<Ask, EditError>
     requires { is_joined who world.old.flat ≡ true }
-    ensures row { Gives result world.new.flat (prompt_first key who world.old.flat) }
+    ensures row { GivesRow result world.new.flat (prompt_first key who world.old.flat) }
     ensures wanting { IsErrOf result NoMemory → world.new.flat ≡ world.old.flat }
 {
     if key.control && !(key.alt || key.shift) {
@@ -194,7 +194,7 @@ fn run_first(alloc: Global, world: &mut World, who: u32, key: Key) -> Result<Ask
 // Puts the strings of a register in before the cursor of the prompt, joined by spaces; no key waits then.
 fn put_register(alloc: Global, world: &mut World, who: u32, name: char) -> Result<Ask, EditError>
     requires { is_joined who world.old.flat ≡ true }
-    ensures row { Gives result world.new.flat (prompt_register name who (awaiting None who world.old.flat)) }
+    ensures row { GivesRow result world.new.flat (prompt_register name who (awaiting None who world.old.flat)) }
     ensures wanting { IsErrOf result NoMemory → world.new.flat ≡ world.old.flat }
 {
     match register_text(alloc, world, who, name)? {
@@ -213,7 +213,7 @@ fn put_register(alloc: Global, world: &mut World, who: u32, name: char) -> Resul
 // Runs a key for which `<c-r>` waited: it names a register, or does nothing.
 fn run_named(alloc: Global, world: &mut World, who: u32, key: Key) -> Result<Ask, EditError>
     requires { is_joined who world.old.flat ≡ true }
-    ensures row { Gives result world.new.flat (prompt_named (register_named key) who (awaiting None who world.old.flat)) }
+    ensures row { GivesRow result world.new.flat (prompt_named (register_named key) who (awaiting None who world.old.flat)) }
     ensures wanting { IsErrOf result NoMemory → world.new.flat ≡ world.old.flat }
 {
     match register_named(key) {
@@ -232,7 +232,7 @@ fn run_named(alloc: Global, world: &mut World, who: u32, key: Key) -> Result<Ask
 #[tactic(auto, using(kak_world::proofs::WorldLaws::world_laws), unfolding(crate::specs::Rows::row_prompt))]
 pub fn prompt_key(alloc: Global, world: &mut World, who: u32, key: Key) -> Result<Ask, EditError>
     requires { is_joined who world.old.flat ≡ true }
-    ensures row { Gives result world.new.flat (row_prompt key who world.old.flat) }
+    ensures row { GivesRow result world.new.flat (row_prompt key who world.old.flat) }
     ensures wanting { IsErrOf result NoMemory → world.new.flat ≡ world.old.flat }
 {
     match world.own(who).pending {

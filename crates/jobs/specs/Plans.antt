@@ -5,8 +5,8 @@ use Rattle.jobs.specs.declared.spawner.Started.{Started}
 use Rattle.jobs.specs.declared.spawner.Started.TheVariants.{Runs, Back, NoMemory}
 
 -- whether the start with this number is to be handed back
-abbrev pub is_planned : List ℕ → ℕ → Bool
-is_planned back made = list_any (λ number. number == made) back
+abbrev pub is_start_planned : List ℕ → ℕ → Bool
+is_start_planned back made = list_any (λ number. number == made) back
 
 -- the number of the next start: at the end of its range it stands still
 abbrev pub next_number : ℕ → ℕ

@@ -4,13 +4,13 @@ use Rattle.jobs.specs.declared.running.Running.{Running}
 use Rattle.jobs.specs.declared.running.Running.TheVariants.{There, Here}
 
 -- the result, from wherever it comes, keeps the promise
-abbrev pub Keeps : {T P : Type 0} → (P → T → Type 0) → Running T P → P → Type 0
-Keeps kept_by (There handle) promise = handle.promise ≡ promise
-Keeps kept_by (Here given) promise = kept_by promise given
+abbrev pub KeepsPromise : {T P : Type 0} → (P → T → Type 0) → Running T P → P → Type 0
+KeepsPromise kept_by (There handle) promise = handle.promise ≡ promise
+KeepsPromise kept_by (Here given) promise = kept_by promise given
 
 -- a result is to be had, which keeps the promise
 abbrev pub IsOwed : {T P : Type 0} → (P → T → Type 0) → Option (Running T P) → P → Type 0
-IsOwed kept_by (Some running) promise = Keeps kept_by running promise
+IsOwed kept_by (Some running) promise = KeepsPromise kept_by running promise
 IsOwed kept_by None promise = ⊥
 
 -- whether the thread was let go from which a result came: it is here

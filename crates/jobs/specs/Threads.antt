@@ -6,9 +6,9 @@ use Rattle.jobs.specs.declared.threads.Begun.{Begun}
 use Rattle.jobs.specs.declared.threads.Begun.TheVariants as begun
 
 -- a job was run, and what it gave keeps its promise; or it was recalled, and may still be run
-abbrev pub Comes : {J G : Type 0} → (J → Type 0) → (J → G → Type 0) → J → Outcome J G → Type 0
-Comes ready gives job (Ran given) = gives job given
-Comes ready gives job (Recalled back) = (back ≡ job) × ready back
+abbrev pub ComesBack : {J G : Type 0} → (J → Type 0) → (J → G → Type 0) → J → Outcome J G → Type 0
+ComesBack ready gives job (Ran given) = gives job given
+ComesBack ready gives job (Recalled back) = (back ≡ job) × ready back
 
 -- a job in a thread of its own, and whether that thread was let go
 pub record AtWork (J : Type 0) : Type 0 where
@@ -16,7 +16,7 @@ pub record AtWork (J : Type 0) : Type 0 where
   pub let_go : Bool
 
 -- the job is at work under this handle, or it is handed back
-abbrev pub Begins : {J H : Type 0} → (H → J) → J → Begun J H → Type 0
-Begins job_of job (begun.There handle) = job_of handle ≡ job
-Begins job_of job (begun.Back back) = back ≡ job
-Begins job_of job (begun.NoMemory back) = back ≡ job
+abbrev pub BeginsJob : {J H : Type 0} → (H → J) → J → Begun J H → Type 0
+BeginsJob job_of job (begun.There handle) = job_of handle ≡ job
+BeginsJob job_of job (begun.Back back) = back ≡ job
+BeginsJob job_of job (begun.NoMemory back) = back ≡ job

@@ -2,7 +2,7 @@
 
 ghost use Rattle.std.specs.Prelude.{◌≡◌, [], All, IfOk};
 ghost use Rattle.jobs.specs.Meets.{Meet};
-ghost use Rattle.jobs.specs.Plans.{is_planned, next_number, IsAsPlanned};
+ghost use Rattle.jobs.specs.Plans.{is_start_planned, next_number, IsAsPlanned};
 ghost use Rattle.jobs.specs.Starts.{Starts, StartIsCounted};
 
 use crate::job::Job;
@@ -39,7 +39,7 @@ impl StartPlan {
 
     // Counts a start, and tells whether it is to be handed back.
     fn is_next(&mut self) -> bool
-        ensures planned { result ≡ is_planned self.old.back.items self.old.made }
+        ensures planned { result ≡ is_start_planned self.old.back.items self.old.made }
         ensures made { self.new.made ≡ next_number self.old.made }
         ensures back { self.new.back ≡ self.old.back }
     {
@@ -111,7 +111,7 @@ impl<J: Job> Spawner<J> for InTurn<J> {
         ensures fit { All J.ready self.new.jobs.items }
         ensures starts { Starts result job self.old.jobs.items self.new.jobs.items }
         ensures counted { StartIsCounted result self.old.faults self.new.faults }
-        ensures planned { IsAsPlanned result (is_planned self.old.plan.back.items self.old.plan.made) }
+        ensures planned { IsAsPlanned result (is_start_planned self.old.plan.back.items self.old.plan.made) }
         ensures made { self.new.plan.made ≡ next_number self.old.plan.made }
         ensures back { self.new.plan.back ≡ self.old.plan.back }
     {

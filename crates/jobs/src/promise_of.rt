@@ -32,7 +32,7 @@ impl<J: Job> PromiseOf<J> {
 }
 
 impl<J: Job> Promise<Outcome<J, J::Gives>> for PromiseOf<J> {
-    ghost use Rattle.jobs.specs.Threads.{Comes};
+    ghost use Rattle.jobs.specs.Threads.{ComesBack};
 
-    ghost kept_by = { λ p outcome. Comes J.ready J.gives p outcome };
+    ghost kept_by = { λ p outcome. ComesBack J.ready J.gives p outcome };
 }

@@ -1,8 +1,8 @@
 //! A job that is run by a thread of its own.
 
 ghost use Rattle.std.specs.Prelude.{◌≡◌};
-ghost use Rattle.jobs.specs.Running.{Keeps};
-ghost use Rattle.jobs.specs.Threads.{Comes, Begins};
+ghost use Rattle.jobs.specs.Running.{KeepsPromise};
+ghost use Rattle.jobs.specs.Threads.{ComesBack, BeginsJob};
 
 use crate::job::Job;
 use crate::promise_of::PromiseOf;
@@ -29,7 +29,7 @@ fn result_of<R: Threads, T: Drop, P: Promise<T>>(
     running: Running<T, P>,
     promise: &Snapshot<P>,
 ) -> T
-    requires { Keeps P.kept_by running promise.now.value }
+    requires { KeepsPromise P.kept_by running promise.now.value }
     ensures { P.kept_by promise.now.value result }
 {
     let _ = promise;
@@ -50,13 +50,13 @@ pub struct Thread<J: Job> {
 
 impl<J: Job> Model for Thread<J> {
     ghost use Rattle.jobs.specs.Running.{IsOwed, is_let_go};
-    ghost use Rattle.jobs.specs.Threads.{Comes, AtWork};
+    ghost use Rattle.jobs.specs.Threads.{ComesBack, AtWork};
 
     ghost Value = { AtWork J };
 
     ghost view = { λ t. record { job = t.promise.value; let_go = is_let_go t.run } };
 
-    ghost invariant = { λ t. IsOwed (Comes J.ready J.gives) t.run t.promise.value };
+    ghost invariant = { λ t. IsOwed (ComesBack J.ready J.gives) t.run t.promise.value };
 }
 
 impl<J: Job> Handle<J> for Thread<J> {
@@ -92,7 +92,7 @@ impl<J: Job> Handle<J> for Thread<J> {
 // Runs a job that wasn't recalled, which then is spent.
 pub(crate) fn attempt<R: Wait, J: Job>(job: J, spent: Spent, rt: &R) -> Outcome<J, J::Gives>
     requires { J.ready job }
-    ensures { Comes J.ready J.gives job result }
+    ensures { ComesBack J.ready J.gives job result }
 {
     if spent.is_set() {
         return Outcome::Recalled(job);
@@ -109,8 +109,8 @@ fn recalled<J: Job>(
     promise: Snapshot<PromiseOf<J>>,
     spent: Spent,
 ) -> Begun<J, Thread<J>>
-    requires { Comes J.ready J.gives promise.value outcome }
-    ensures { Begins (λ t. t.job) promise.value result }
+    requires { ComesBack J.ready J.gives promise.value outcome }
+    ensures { BeginsJob (λ t. t.job) promise.value result }
 {
     match outcome {
         Outcome::Recalled(job) => Begun::Back(job),
@@ -132,7 +132,7 @@ pub fn begin_by<R: Threads + Wait + Copy + Send + 'static, J: Job + Send + 'stat
 where
     J::Gives: Send + 'static,
     requires { J.ready job }
-    ensures { Begins (λ t. t.job) job result }
+    ensures { BeginsJob (λ t. t.job) job result }
 {
     let Ok(spent) = Spent::new(alloc) else {
         return Begun::NoMemory(job);
@@ -144,7 +144,7 @@ where
     let copy = Snapshot::of(&promise);
     let run = move || -> Outcome<J, J::Gives>
         requires { J.ready job }
-        ensures { Comes J.ready J.gives job result }
+        ensures { ComesBack J.ready J.gives job result }
     { attempt(job, theirs, &rt) };
     match maker.spawn_with(&rt, promise, run) {
         Ok(handle) => Begun::There(Thread {
@@ -169,7 +169,7 @@ pub fn begin<R: Threads + Wait + Copy + Send + 'static, J: Job + Send + 'static>
 where
     J::Gives: Send + 'static,
     requires { J.ready job }
-    ensures { Begins (λ t. t.job) job result }
+    ensures { BeginsJob (λ t. t.job) job result }
 {
     begin_by(Builder::new(), rt, alloc, job)
 }

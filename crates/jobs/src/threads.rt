@@ -2,7 +2,7 @@
 
 ghost use Rattle.std.specs.Prelude.{◌≡◌, Bool, map, IfOk, IsTrue};
 ghost use Rattle.jobs.specs.Meets.{Meet};
-ghost use Rattle.jobs.specs.Threads.{Begins};
+ghost use Rattle.jobs.specs.Threads.{BeginsJob};
 
 use crate::job::Job;
 use crate::spawner::{Spawner, Started};
@@ -124,7 +124,7 @@ impl<R: Threads + Wait + Drop, J: Job, H: Handle<J>, F: Fn(J) -> Begun<J, H> + D
     for ThreadSpawner<R, H, F> {
     ghost use Rattle.jobs.specs.declared.threads.Begun.{Begun};
 
-    ghost fit = { λ s. ((j : J) → J.ready j → F.pre s.begin j) × ((j : J) (r : Begun J H) → F.post s.begin j r → Begins H.job j r) };
+    ghost fit = { λ s. ((j : J) → J.ready j → F.pre s.begin j) × ((j : J) (r : Begun J H) → F.post s.begin j r → BeginsJob H.job j r) };
 
     ghost started = { λ s. map H.job s.runs.items };
 

@@ -17,7 +17,7 @@ use Rattle.key_names.specs.Reading.{read_text}
 use Rattle.drawings.specs.declared.refusal.Refusal.TheVariants.{Parse, Params}
 use Rattle.json_ui.specs.declared.request.LineError.{LineError}
 use Rattle.json_ui.specs.declared.request.LineError.TheVariants.{Refused, NoMemory}
-use Rattle.json_ui.specs.Requests.{texts_of, keys_then, keys_of_texts, keys_request, texts_request, texts_in, request_of, request_in, IsLineError}
+use Rattle.json_ui.specs.Requests.{item_texts, keys_then, keys_of_texts, keys_request, texts_request, texts_in, request_of, request_in, IsLineError}
 use Rattle.json_ui.specs.Parameters.{texts_seen, IsParameterError}
 
 abbrev is_string : Value → Bool
@@ -29,28 +29,28 @@ both_some (Some t) None h k = absurd (false≢true k)
 both_some (Some t) (Some ts) h k = refl
 
 -- values that are all strings have texts
-pub texts_of-strings : (vs : List Value) → list_all is_string vs ≡ true → texts_of (items_view vs) ≡ Some (texts_seen vs)
+pub texts_of-strings : (vs : List Value) → list_all is_string vs ≡ true → item_texts (items_view vs) ≡ Some (texts_seen vs)
 texts_of-strings [] h = refl
 texts_of-strings (v ∷ vs) h =
     let parts = and_parts (is_string v) (list_all is_string vs) h in
     let rest = texts_of-strings vs parts.1 in
-    let both = both_some (as_str (view v)) (texts_of (items_view vs)) parts.0 (ap is_some rest) in
+    let both = both_some (as_str (view v)) (item_texts (items_view vs)) parts.0 (ap is_some rest) in
     both ∙ ap (λ o. Some (unwrap_or o [])) (sym both)
 
 -- the text of a value and those of the next ones
 pub texts_seen-first : (v : Value) (vs : List Value) → list_all is_string (v ∷ vs) ≡ true → texts_seen (v ∷ vs) ≡ unwrap_or (as_str (view v)) [] ∷ texts_seen vs
 texts_seen-first v vs h =
     let parts = and_parts (is_string v) (list_all is_string vs) h in
-    ap (λ o. unwrap_or o []) (both_some (as_str (view v)) (texts_of (items_view vs)) parts.0 (ap is_some (texts_of-strings vs parts.1)))
+    ap (λ o. unwrap_or o []) (both_some (as_str (view v)) (item_texts (items_view vs)) parts.0 (ap is_some (texts_of-strings vs parts.1)))
 
 not_all : (one : Option (List ℕ)) (more : Option (List (List ℕ))) (b : Bool) → is_some more ≡ b → is_some (option_and_then (λ text. option_map (λ texts. text ∷ texts) more) one) ≡ (is_some one && b)
 not_all None more b h = refl
 not_all (Some t) None b h = h
 not_all (Some t) (Some ts) b h = h
 
-pub is_some-texts_of : (vs : List Value) → is_some (texts_of (items_view vs)) ≡ list_all is_string vs
+pub is_some-texts_of : (vs : List Value) → is_some (item_texts (items_view vs)) ≡ list_all is_string vs
 is_some-texts_of [] = refl
-is_some-texts_of (v ∷ vs) = not_all (as_str (view v)) (texts_of (items_view vs)) (list_all is_string vs) (is_some-texts_of vs)
+is_some-texts_of (v ∷ vs) = not_all (as_str (view v)) (item_texts (items_view vs)) (list_all is_string vs) (is_some-texts_of vs)
 
 -- keys that were read before a reading
 abbrev pub keys_before : List key.Key → Result (List key.Key) ℕ → Result (List key.Key) ℕ
@@ -124,16 +124,16 @@ no_texts None h = refl
 no_texts (Some ts) h = absurd (both_ways true h refl)
 
 -- where one of the values is no string the parameters don't fit
-pub texts_request-none : (vs : List Value) → list_all is_string vs ≡ false → texts_request (texts_of (items_view vs)) ≡ Err Params
-texts_request-none vs h = ap texts_request (no_texts (texts_of (items_view vs)) (is_some-texts_of vs ∙ h))
+pub texts_request-none : (vs : List Value) → list_all is_string vs ≡ false → texts_request (item_texts (items_view vs)) ≡ Err Params
+texts_request-none vs h = ap texts_request (no_texts (item_texts (items_view vs)) (is_some-texts_of vs ∙ h))
 
 -- else they are those of the texts
-pub texts_request-strings : (vs : List Value) → list_all is_string vs ≡ true → texts_request (texts_of (items_view vs)) ≡ keys_request (keys_of_texts 0 (texts_seen vs))
+pub texts_request-strings : (vs : List Value) → list_all is_string vs ≡ true → texts_request (item_texts (items_view vs)) ≡ keys_request (keys_of_texts 0 (texts_seen vs))
 texts_request-strings vs h = ap texts_request (texts_of-strings vs h)
 
 -- the parameters of an array are its items
-pub texts_in-array : (o : Option Data) (p : Data) (vs : List Value) → o ≡ Some p → as_array p ≡ Some (items_view vs) → texts_in o ≡ texts_of (items_view vs)
-texts_in-array o p vs e h = ap texts_in e ∙ ap (option_and_then texts_of) h
+pub texts_in-array : (o : Option Data) (p : Data) (vs : List Value) → o ≡ Some p → as_array p ≡ Some (items_view vs) → texts_in o ≡ item_texts (items_view vs)
+texts_in-array o p vs e h = ap texts_in e ∙ ap (option_and_then item_texts) h
 
 pub length-items_view : (vs : List Value) → items_len (items_view vs) ≡ length vs
 length-items_view [] = refl

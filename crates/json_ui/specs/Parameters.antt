@@ -9,7 +9,7 @@ use Rattle.json_ui.specs.declared.request.LineError.TheVariants.{Refused, NoMemo
 use Rattle.serde_json.specs.Data.{Data, Items}
 use Rattle.serde_json.specs.Find.{get, as_array}
 use Rattle.serde_json.specs.Events.{items_len}
-use Rattle.json_ui.specs.Requests.{texts_of, request_in}
+use Rattle.json_ui.specs.Requests.{item_texts, request_in}
 
 -- what an error says of the reading of the parameter of this number
 abbrev pub IsParameterError : LineError → ℕ → Result (List key.Key) ℕ → Type 0
@@ -18,7 +18,7 @@ IsParameterError NoMemory number reading = Unit {0}
 
 -- the texts of values, none where one is no string
 abbrev pub texts_seen : List Value → List (List ℕ)
-texts_seen values = unwrap_or (texts_of (items_view values)) []
+texts_seen values = unwrap_or (item_texts (items_view values)) []
 
 -- an array of parameters has so few items that their numbers fit
 abbrev pub HasFewParameters : Data → Type 0

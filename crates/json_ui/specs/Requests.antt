@@ -32,14 +32,14 @@ is_text wanted None = false
 is_text wanted (Some text) = bytes_eq text wanted
 
 -- the texts of items that are all strings
-abbrev pub texts_of : Items → Option (List (List ℕ))
-texts_of no_items = Some []
-texts_of (item value more) = option_and_then (λ text. option_map (λ texts. text ∷ texts) (texts_of more)) (as_str value)
+abbrev pub item_texts : Items → Option (List (List ℕ))
+item_texts no_items = Some []
+item_texts (item value more) = option_and_then (λ text. option_map (λ texts. text ∷ texts) (item_texts more)) (as_str value)
 
 -- the texts of parameters, where they are missing or an array of strings
 abbrev pub texts_in : Option Data → Option (List (List ℕ))
 texts_in None = Some []
-texts_in (Some value) = option_and_then texts_of (as_array value)
+texts_in (Some value) = option_and_then item_texts (as_array value)
 
 -- the keys of a key text before those of others; without a reading its number is told
 abbrev pub keys_then : Result (List key.Key) ℕ → ℕ → Result (List key.Key) ℕ → Result (List key.Key) ℕ

@@ -9,7 +9,7 @@ ghost use Rattle.serde_json.specs.Find.{as_str, get};
 ghost use Rattle.serde_json.specs.Read.{read};
 ghost use Rattle.key_names.specs.Reading.{read_text};
 ghost use Rattle.json_ui.specs.Parameters.{IsParameterError, IsJsonError, HasFewParameters, texts_seen};
-ghost use Rattle.json_ui.specs.Requests.{is_blank, text_at, is_text, texts_of, texts_in, keys_request, keys_of_texts, texts_request, method_request, value_request, read_request, IsLineError};
+ghost use Rattle.json_ui.specs.Requests.{is_blank, text_at, is_text, item_texts, texts_in, keys_request, keys_of_texts, texts_request, method_request, value_request, read_request, IsLineError};
 
 use crate::request::{LineError, Request};
 use drawings::Refusal;
@@ -91,8 +91,8 @@ fn read_items(alloc: Global, items: &[Value]) -> Result<Vec<Key>, LineError>
 // The request of an array of parameters.
 fn read_array(alloc: Global, items: &[Value]) -> Result<Request, LineError>
     requires { length items.now ≤ 2 ^ 32 }
-    ensures request { IfOk result (λ r. texts_request (texts_of (items_view items.now)) ≡ Ok r) }
-    ensures error { IfErr result (λ e. IsLineError e (texts_request (texts_of (items_view items.now)))) }
+    ensures request { IfOk result (λ r. texts_request (item_texts (items_view items.now)) ≡ Ok r) }
+    ensures error { IfErr result (λ e. IsLineError e (texts_request (item_texts (items_view items.now)))) }
 {
     if !are_texts(items) {
         return Err(LineError::Refused(Refusal::Params));

@@ -15,7 +15,7 @@ use Rattle.session_lines.specs.declared.playing.Stop.{Stop}
 use Rattle.session_lines.specs.declared.playing.Stop.TheVariants as stop
 use Rattle.session_replay.specs.declared.ends.ReplayEnd.{ReplayEnd}
 use Rattle.session_replay.specs.declared.ends.ReplayEnd.TheVariants as ending
-use Rattle.session_replay.specs.Replays.{WasReplayed, IsReplayed, Replay, Reports, FaultIs}
+use Rattle.session_replay.specs.Replays.{WasReplayed, IsReplayed, Replay, Reports, ReplayFaultIs}
 use Rattle.session_replay.proofs.AnswerLemmas.{nothing-replayed}
 use Rattle.session_events.specs.Legal.{IsLegal}
 use Rattle.std.specs.declared.option.Option.{Option}
@@ -50,7 +50,7 @@ outside-is (Err stop.WriteFault) was mark h first last none s w = whole h mark f
 
 -- lines were replayed
 pub lines-replayed : (kinds : List Kind) (r : Result ReplayEnd Stop) (limit after : ℕ) (was mark : Option ℕ) (h : List Entry) (a b : Around) → limit ≡ MAX_ENTRIES → was ≡ None → after ≡ limit → IsLegal after h
-    → WasReplayed given_by limit kinds h a.inlet b.inlet a.outlet b.outlet r → FaultIs r a.inlet b.inlet → StaysWhole r was mark → AllAsked h → WasHonest h mark a.outside b.outside → Replayed kinds r a b
+    → WasReplayed given_by limit kinds h a.inlet b.inlet a.outlet b.outlet r → ReplayFaultIs r a.inlet b.inlet → StaysWhole r was mark → AllAsked h → WasHonest h mark a.outside b.outside → Replayed kinds r a b
 lines-replayed kinds r limit after was mark h a b most none same l w f s asked honest = record {
   history = h;
   legal = subst (λ n. IsLegal n h) (same ∙ most) l;

@@ -32,7 +32,7 @@ use Rattle.kak_engine.specs.Honesty.{Outside, IsHonest}
 use Rattle.kak_engine.specs.Seating.{WasHonest}
 use Rattle.kak_engine.proofs.HonestLemmas.{honest-none, stays-still}
 use Rattle.session_events.specs.declared.limits.TheConstants.{MAX_ENTRIES}
-use Rattle.kak_app.specs.Runs.{Around, WasHonestBefore, OutsideIs, Ran, IsFull, ReadsAre, WritesAre}
+use Rattle.kak_app.specs.Runs.{Around, WasHonestBefore, OutsideIs, Ran, IsHistoryFull, ReadsAre, WritesAre}
 
 -- without an entry a history is one that there can be
 pub nothing-legal : (limit : ℕ) → IsLegal limit []
@@ -70,7 +70,7 @@ nothing-ran keys a = record {
 }
 
 -- a full history has its limit of entries, and the leaving
-full-length : (r : Result InputEnd Stop) (z : Seated) (before now : Outlet) → z.limit ≡ MAX_ENTRIES → AreOf 0 z.seen → IsLegal z.limit z.seen → EndCauses r z before now → IsFull r z.seen
+full-length : (r : Result InputEnd Stop) (z : Seated) (before now : Outlet) → z.limit ≡ MAX_ENTRIES → AreOf 0 z.seen → IsLegal z.limit z.seen → EndCauses r z before now → IsHistoryFull r z.seen
 full-length (Ok e) z before now most o l c = tt
 full-length (Err stop.HistoryFull) z before now most o l c = omega (arith, c.0, lone-length 0 z.limit z.seen o l, most)
 full-length (Err (stop.Broken at)) z before now most o l c = tt

@@ -10,7 +10,7 @@ use Rattle.session_lines.specs.declared.playing.Stop.{Stop}
 use Rattle.session_lines.specs.declared.playing.Stop.TheVariants as stop
 use Rattle.session_replay.specs.declared.ends.ReplayEnd.{ReplayEnd}
 use Rattle.session_replay.specs.declared.ends.ReplayEnd.TheVariants as ending
-use Rattle.session_replay.specs.Replays.{WasReplayed, FaultIs}
+use Rattle.session_replay.specs.Replays.{WasReplayed, ReplayFaultIs}
 use Rattle.kak_engine.specs.Honesty.{Outside, IsHonest}
 use Rattle.kak_engine.specs.Steps.{given_by, exchanges, answers_in, AllAsked}
 use Rattle.session_events.specs.declared.limits.TheConstants.{MAX_ENTRIES}
@@ -45,7 +45,7 @@ pub record Replayed (kinds : List Kind) (result : Result ReplayEnd Stop) (old ne
   pub replayed : WasReplayed given_by MAX_ENTRIES kinds history old.inlet new.inlet old.outlet new.outlet result
   pub asked : AllAsked history
   pub honest : ReplayedOutside result history old.outside new.outside
-  pub fault : FaultIs result old.inlet new.inlet
+  pub fault : ReplayFaultIs result old.inlet new.inlet
 
 -- what each status says
 abbrev pub ReplayAnswers : List Kind → Status → Around → Around → Type 0

@@ -17,7 +17,7 @@ use Rattle.session_lines.specs.Serving.{service}
 use Rattle.session_lines.specs.Stops.{NoneFailed}
 use Rattle.session_lines.specs.Connections.{WasServed}
 use Rattle.kak_engine.specs.Steps.{given_by, exchanges, answers_in, AllAsked}
-use Rattle.kak_engine.specs.Honesty.{Outside, outside_of, Stays, IsHonest}
+use Rattle.kak_engine.specs.Honesty.{Outside, outside_of, OutsideStays, IsHonest}
 use Rattle.session_events.specs.declared.limits.TheConstants.{MAX_ENTRIES}
 use Rattle.kak_app.specs.declared.program.Status.{Status}
 use Rattle.kak_app.specs.declared.program.Status.TheVariants.{Done, Usage, ReadFault, WriteFault, NoMemory, HistoryFull, InputFull, BadClient}
@@ -44,14 +44,14 @@ is_call (kind ∷ form ∷ file ∷ []) = is_ui_json kind form && is_file_name (
 is_call _ = false
 
 -- the keys that are struck before the first drawing: those that open the file that is named, if one is
-abbrev pub opens : List (List ℕ) → List Key
-opens (kind ∷ form ∷ file ∷ []) = edit_keys (chars file)
-opens _ = []
+abbrev pub keys_at_start : List (List ℕ) → List Key
+keys_at_start (kind ∷ form ∷ file ∷ []) = edit_keys (chars file)
+keys_at_start _ = []
 
 -- a full history has as many entries as it may have, and the leaving
-abbrev pub IsFull : Result InputEnd Stop → List Entry → Type 0
-IsFull (Err stop.HistoryFull) history = length history ≡ MAX_ENTRIES + 1
-IsFull _ history = ⊤
+abbrev pub IsHistoryFull : Result InputEnd Stop → List Entry → Type 0
+IsHistoryFull (Err stop.HistoryFull) history = length history ≡ MAX_ENTRIES + 1
+IsHistoryFull _ history = ⊤
 
 -- how the count of failed reads stands: it rose where a read fault is told, and stayed elsewhere; behind a loss either
 abbrev pub ReadsAre : Result InputEnd Stop → Inlet → Inlet → Type 0
@@ -72,15 +72,15 @@ pub record Around : Type 0 where
   pub outlet : Outlet
   pub outside : Outside
 
-abbrev pub around : Inlet → Outlet → Shelf → ℕ → Around
-around inlet outlet shelf refusals = record { inlet = inlet; outlet = outlet; outside = outside_of shelf refusals }
+abbrev pub around_run : Inlet → Outlet → Shelf → ℕ → Around
+around_run inlet outlet shelf refusals = record { inlet = inlet; outlet = outlet; outside = outside_of shelf refusals }
 
 -- The outside was honest in a history, as far as to a step that memory was wanting for: that step has no entry, and behind
 -- the last one no count fell, and what the files held when they were made stayed.
 pub record WasHonestBefore (history : List Entry) (first last : Outside) : Type 0 where
   pub behind : Outside
   pub honest : IsHonest (answers_in history) (exchanges history) first behind
-  pub stays : Stays behind last
+  pub stays : OutsideStays behind last
 
 -- how the outside was left: it was honest in the whole history, or where memory was wanting, as far as to that step
 abbrev pub OutsideIs : Result InputEnd Stop → List Entry → Outside → Outside → Type 0
@@ -99,18 +99,18 @@ pub record Ran (keys : List Key) (result : Result InputEnd Stop) (old new : Arou
   pub served : WasServed false (service given_by keys) 0 history old.outlet new.outlet old.inlet new.inlet result
   pub asked : AllAsked history
   pub honest : OutsideIs result history old.outside new.outside
-  pub full : IsFull result history
+  pub full : IsHistoryFull result history
   pub reads : ReadsAre result old.inlet new.inlet
   pub writes : WritesAre result old.outlet new.outlet
 
 -- what each status says of the bytes of the input and of the output, of the files and the maker of patterns, and of the counts
 -- of their faults
-abbrev pub Answers : List Key → Status → Around → Around → Type 0
-Answers keys Done old new = Ran keys (Ok ending.Left) old new ⊎ Ran keys (Ok ending.Ended) old new
-Answers keys Usage old new = new ≡ old
-Answers keys ReadFault old new = Ran keys (Ok ending.ReadFault) old new
-Answers keys WriteFault old new = Ran keys (Err stop.WriteFault) old new
-Answers keys NoMemory old new = Ran keys (Err stop.NoMemory) old new
-Answers keys HistoryFull old new = Ran keys (Err stop.HistoryFull) old new
-Answers keys InputFull old new = Ran keys (Ok ending.Full) old new
-Answers keys BadClient old new = ⊥
+abbrev pub RunAnswers : List Key → Status → Around → Around → Type 0
+RunAnswers keys Done old new = Ran keys (Ok ending.Left) old new ⊎ Ran keys (Ok ending.Ended) old new
+RunAnswers keys Usage old new = new ≡ old
+RunAnswers keys ReadFault old new = Ran keys (Ok ending.ReadFault) old new
+RunAnswers keys WriteFault old new = Ran keys (Err stop.WriteFault) old new
+RunAnswers keys NoMemory old new = Ran keys (Err stop.NoMemory) old new
+RunAnswers keys HistoryFull old new = Ran keys (Err stop.HistoryFull) old new
+RunAnswers keys InputFull old new = Ran keys (Ok ending.Full) old new
+RunAnswers keys BadClient old new = ⊥

@@ -8,7 +8,7 @@ ghost use Rattle.session_lines.specs.Connections.{WasServed, EndCauses};
 ghost use Rattle.session_lines.specs.Reading.{FaultIs};
 ghost use Rattle.session_lines.specs.Serving.{service};
 ghost use Rattle.session_lines.specs.Stops.{StaysWhole};
-ghost use Rattle.kak_app.specs.Runs.{Around, around, Ran, code_of, is_ui_json, is_call, opens, Answers};
+ghost use Rattle.kak_app.specs.Runs.{Around, around_run, Ran, code_of, is_ui_json, is_call, keys_at_start, RunAnswers};
 
 use kak_engine::{EngineSeats, NoEngine};
 use kak_files::Files;
@@ -81,7 +81,7 @@ fn is_call(words: &[String]) -> bool
 
 // The keys that are struck before the first drawing.
 fn opening_keys(alloc: Global, words: &[String]) -> Result<Vec<Key>, AllocError>
-    ensures { IfOk result (λ keys. keys.items ≡ opens (map (λ word. string_bytes word) words.now)) }
+    ensures { IfOk result (λ keys. keys.items ≡ keys_at_start (map (λ word. string_bytes word) words.now)) }
 {
     match words {
         [_kind, _form, file] => edit_keys(alloc, file.as_str()),
@@ -122,7 +122,7 @@ fn serve_client<I: Source, K: Sink, F: Files, M: PatternMaker>(
     patterns: M,
 ) -> (Result<InputEnd, Stop>, F, M)
     requires { IsUntouched (F.shelf files).told }
-    ensures { Ran keys.now result.0 (around (I.inlet input.old) (K.outlet output.old) (F.shelf files) (M.refusals patterns)) (around (I.inlet input.new) (K.outlet output.new) (F.shelf result.1) (M.refusals result.2)) }
+    ensures { Ran keys.now result.0 (around_run (I.inlet input.old) (K.outlet output.old) (F.shelf files) (M.refusals patterns)) (around_run (I.inlet input.new) (K.outlet output.new) (F.shelf result.1) (M.refusals result.2)) }
 {
     match EngineSeats::new(alloc, files, patterns, MAX_ENTRIES, 0) {
         Ok(mut seats) => {
@@ -136,7 +136,7 @@ fn serve_client<I: Source, K: Sink, F: Files, M: PatternMaker>(
 
 // The status of a run, by how its client was served.
 fn status_of(ended: Result<InputEnd, Stop>) -> Status
-    ensures answers { (keys : List Key) (old new : Around) → Ran keys ended old new → Answers keys result old new }
+    ensures answers { (keys : List Key) (old new : Around) → Ran keys ended old new → RunAnswers keys result old new }
     ensures used { result ≡ Status.Usage → ⊥ }
 {
     match ended {
@@ -166,7 +166,7 @@ pub fn run<I: Source, K: Sink, F: Files, M: PatternMaker>(
     requires { IsUntouched (F.shelf files).told }
     ensures refused { is_call (map (λ word. string_bytes word) words.now) ≡ false → result.0 ≡ Status.Usage }
     ensures taken { is_call (map (λ word. string_bytes word) words.now) ≡ true → result.0 ≡ Status.Usage → ⊥ }
-    ensures answers { Answers (opens (map (λ word. string_bytes word) words.now)) result.0 (around (I.inlet input.old) (K.outlet output.old) (F.shelf files) (M.refusals patterns)) (around (I.inlet input.new) (K.outlet output.new) (F.shelf result.1) (M.refusals result.2)) }
+    ensures answers { RunAnswers (keys_at_start (map (λ word. string_bytes word) words.now)) result.0 (around_run (I.inlet input.old) (K.outlet output.old) (F.shelf files) (M.refusals patterns)) (around_run (I.inlet input.new) (K.outlet output.new) (F.shelf result.1) (M.refusals result.2)) }
 {
     if !is_call(words) {
         return (Status::Usage, files, patterns);

@@ -5,7 +5,7 @@ ghost use Rattle.std.specs.List.{list_all};
 ghost use Rattle.ui_board.specs.Told.{Kind};
 ghost use Rattle.session_replay.specs.Players.{kinds_of, told_by_all};
 ghost use Rattle.kak_engine.specs.Honesty.{IsUntouched};
-ghost use Rattle.kak_app.specs.Runs.{Around, around};
+ghost use Rattle.kak_app.specs.Runs.{Around, around_run};
 ghost use Rattle.kak_app.specs.Replays.{is_kind, is_ui_count, is_replay_call, Replayed, ReplayAnswers};
 
 use crate::program::Status;
@@ -111,7 +111,7 @@ pub fn replay<I: Source, K: Sink, F: Files, M: PatternMaker>(
     ensures refused { is_replay_call (map (λ word. string_bytes word) words.now) (length uis.items) ≡ false → result.0 ≡ Status.Usage }
     ensures used { told_by_all ⟦<Box<dyn Ui> as Ui>⟧.shown uis.items ≢ [] → result.0 ≡ Status.Usage }
     ensures taken { is_replay_call (map (λ word. string_bytes word) words.now) (length uis.items) ≡ true → told_by_all ⟦<Box<dyn Ui> as Ui>⟧.shown uis.items ≡ [] → result.0 ≡ Status.Usage → ⊥ }
-    ensures answers { ReplayAnswers (kinds_of ⟦<Box<dyn Ui> as Ui>⟧.shown uis.items) result.0 (around (I.inlet input.old) (K.outlet output.old) (F.shelf files) (M.refusals patterns)) (around (I.inlet input.new) (K.outlet output.new) (F.shelf result.1) (M.refusals result.2)) }
+    ensures answers { ReplayAnswers (kinds_of ⟦<Box<dyn Ui> as Ui>⟧.shown uis.items) result.0 (around_run (I.inlet input.old) (K.outlet output.old) (F.shelf files) (M.refusals patterns)) (around_run (I.inlet input.new) (K.outlet output.new) (F.shelf result.1) (M.refusals result.2)) }
 {
     if !is_replay_call(words, uis.len()) {
         return (Status::Usage, files, patterns);

@@ -14,13 +14,13 @@ use Rattle.kak_world.specs.declared.ask.Saving.{Saving}
 use Rattle.kak_world.specs.declared.purpose.Use.{Use}
 use Rattle.kak_world.specs.Flat.{Flat, units_of, with_units}
 use Rattle.kak_world.specs.Rows.{Row, Asks, Fails, GivesUp, RowEnd}
-use Rattle.command_set.specs.Reading.{commands_of}
+use Rattle.command_set.specs.Reading.{commands_told}
 use Rattle.command_set.specs.Rows.{row_command}
 use Rattle.command_set.specs.Files.{row_read, row_saved}
 use Rattle.command_set.specs.Finishing.{row_finish}
 use Rattle.session_events.specs.declared.event.Answered.{Answered}
 use Rattle.kak_engine.specs.Answering.{as_read, as_put}
-use Rattle.kak_engine.specs.Doing.{End, Fine, Failed, GivenUp, Moment, Outcome, Part, Place, Go, in_world, after, and_then, each, unit_of, with_unit, go_on, run_command, run_read, taken_as, next_as, exchanging, go_back, by_making, by_reading, by_writing, granted, do_ask, body, depth_of, do_within, Do}
+use Rattle.kak_engine.specs.Doing.{DoingEnd, Fine, Failed, GivenUp, Moment, Outcome, Part, DoingPlace, Go, in_world, next_after, and_then, each, unit_of, with_unit, go_on, run_command, run_read, taken_as, next_as, exchanging, go_back, by_making, by_reading, by_writing, granted, do_ask, row_body, depth_of, do_within, Do}
 
 -- A relation of worlds before and after that holds of every row which may come in a step behind that of its key.
 pub record IsCarried (who : ℕ) (R : Flat → Flat → Type 0) : Type 0 where
@@ -39,9 +39,9 @@ Keeps R part = (m : Moment) → R m.world (part m).moment.world
 
 -- a way to do rows over which it holds
 abbrev pub KeepsAll : (Flat → Flat → Type 0) → Go → Type 0
-KeepsAll R go = (p : Place) (row : Row) → Keeps R (go p row)
+KeepsAll R go = (p : DoingPlace) (row : Row) → Keeps R (go p row)
 
-keeps-behind : (who : ℕ) (R : Flat → Flat → Type 0) → IsCarried who R → (e : End) (next : Part) → Keeps R next → Keeps R (λ m. after e next m)
+keeps-behind : (who : ℕ) (R : Flat → Flat → Type 0) → IsCarried who R → (e : DoingEnd) (next : Part) → Keeps R next → Keeps R (λ m. next_after e next m)
 keeps-behind who R c Fine next k m = k m
 keeps-behind who R c (Failed text) next k m = c.same m.world
 keeps-behind who R c (GivenUp text) next k m = c.same m.world
@@ -56,18 +56,18 @@ keeps-units who R c (suc left) part k m e = c.behind m.world (with_units left m.
 pub keeps-unit : (who : ℕ) (R : Flat → Flat → Type 0) → IsCarried who R → (part : Part) → Keeps R part → Keeps R (with_unit part)
 keeps-unit who R c part k m = keeps-units who R c (units_of m.world) part k m refl
 
-pub keeps-row : (who : ℕ) (R : Flat → Flat → Type 0) → IsCarried who R → (go : Go) (p : Place) (end : RowEnd) (m : Moment) → KeepsAll R go → R m.world end.world → R m.world (go_on go p end m).moment.world
+pub keeps-row : (who : ℕ) (R : Flat → Flat → Type 0) → IsCarried who R → (go : Go) (p : DoingPlace) (end : RowEnd) (m : Moment) → KeepsAll R go → R m.world end.world → R m.world (go_on go p end m).moment.world
 keeps-row who R c go p end m all k = c.behind m.world end.world (go_on go p end m).moment.world k (all p end.row (in_world end.world m))
 
-pub keeps-command : (who : ℕ) (R : Flat → Flat → Type 0) → IsCarried who R → (go : Go) (p : Place) (command : Command) → KeepsAll R go → Keeps R (run_command go who p command)
+pub keeps-command : (who : ℕ) (R : Flat → Flat → Type 0) → IsCarried who R → (go : Go) (p : DoingPlace) (command : Command) → KeepsAll R go → Keeps R (run_command go who p command)
 keeps-command who R c go p command all m =
     keeps-unit who R c (λ n. go_on go p (row_command command who n.world) n) (λ n. keeps-row who R c go p (row_command command who n.world) n all (c.commands command n.world)) m
 
-pub keeps-commands : (who : ℕ) (R : Flat → Flat → Type 0) → IsCarried who R → (go : Go) (p : Place) (commands : List Command) → KeepsAll R go → Keeps R (each (run_command go who p) commands)
+pub keeps-commands : (who : ℕ) (R : Flat → Flat → Type 0) → IsCarried who R → (go : Go) (p : DoingPlace) (commands : List Command) → KeepsAll R go → Keeps R (each (run_command go who p) commands)
 keeps-commands who R c go p [] all m = c.same m.world
 keeps-commands who R c go p (x ∷ xs) all m = keeps-then who R c m.world (run_command go who p x m) (each (run_command go who p) xs) (keeps-command who R c go p x all m) (keeps-commands who R c go p xs all)
 
-keeps-read : (who : ℕ) (R : Flat → Flat → Type 0) → IsCarried who R → (go : Go) (p : Place) (read : Result (List Command) EditError) → KeepsAll R go → Keeps R (run_read go who p read)
+keeps-read : (who : ℕ) (R : Flat → Flat → Type 0) → IsCarried who R → (go : Go) (p : DoingPlace) (read : Result (List Command) EditError) → KeepsAll R go → Keeps R (run_read go who p read)
 keeps-read who R c go p (Ok commands) all m = keeps-commands who R c go p commands all m
 keeps-read who R c go p (Err error) all m = c.same m.world
 
@@ -79,13 +79,13 @@ keeps-next : (who : ℕ) (R : Flat → Flat → Type 0) → IsCarried who R → 
 keeps-next who R c kind part [] k m = c.same m.world
 keeps-next who R c kind part (answer ∷ later) k m = keeps-taken who R c (kind answer) part later k m
 
-keeps-back : (who : ℕ) (R : Flat → Flat → Type 0) → IsCarried who R → {A : Type 0} (go : Go) (p : Place) (exchange : A → Flat → List Exchange) (row : A → Flat → RowEnd) → KeepsAll R go → ((x : A) (flat : Flat) → R flat (row x flat).world)
+keeps-back : (who : ℕ) (R : Flat → Flat → Type 0) → IsCarried who R → {A : Type 0} (go : Go) (p : DoingPlace) (exchange : A → Flat → List Exchange) (row : A → Flat → RowEnd) → KeepsAll R go → ((x : A) (flat : Flat) → R flat (row x flat).world)
     → (x : A) → Keeps R (go_back go p exchange row x)
 keeps-back who R c go p exchange row all k x m = keeps-row who R c go p (row x m.world) (exchanging (exchange x m.world) m) all (k x m.world)
 
-keeps-ask : (who : ℕ) (R : Flat → Flat → Type 0) → IsCarried who R → (go : Go) (p : Place) (ask : Ask) → KeepsAll R go → Keeps R (do_ask go who p ask)
+keeps-ask : (who : ℕ) (R : Flat → Flat → Type 0) → IsCarried who R → (go : Go) (p : DoingPlace) (ask : Ask) → KeepsAll R go → Keeps R (do_ask go who p ask)
 keeps-ask who R c go p Nothing all m = c.same m.world
-keeps-ask who R c go p (Commands text) all m = keeps-read who R c go p (commands_of text) all m
+keeps-ask who R c go p (Commands text) all m = keeps-read who R c go p (commands_told text) all m
 keeps-ask who R c go p (Make wanted) all m =
     keeps-next who R c _ (go_back go p by_making (λ made flat. row_finish wanted.then made who flat)) m.answers (keeps-back who R c go p by_making (λ made flat. row_finish wanted.then made who flat) all (λ made flat. c.finishes wanted.then made flat)) m
 keeps-ask who R c go p (Read name) all m =
@@ -94,7 +94,7 @@ keeps-ask who R c go p (Write saving) all m =
     keeps-next who R c as_put (go_back go p (by_writing saving) (λ put flat. row_saved saving put who flat)) m.answers (keeps-back who R c go p (by_writing saving) (λ put flat. row_saved saving put who flat) all (λ put flat. c.saves saving put flat)) m
 keeps-ask who R c go p Leave all m = c.leave m.world
 
-keeps-body : (who : ℕ) (R : Flat → Flat → Type 0) → IsCarried who R → (go : Go) (p : Place) (row : Row) → KeepsAll R go → Keeps R (body go who p row)
+keeps-body : (who : ℕ) (R : Flat → Flat → Type 0) → IsCarried who R → (go : Go) (p : DoingPlace) (row : Row) → KeepsAll R go → Keeps R (row_body go who p row)
 keeps-body who R c go p (Asks ask) all m = keeps-ask who R c go p ask all m
 keeps-body who R c go p (Fails text) all m = c.same m.world
 keeps-body who R c go p GivesUp all m = c.same m.world

@@ -13,7 +13,7 @@ use Rattle.kak_ports.specs.declared.sink.Put.TheVariants as put
 use Rattle.regex_ports.specs.declared.maker.Made.{Made}
 use Rattle.regex_ports.specs.declared.maker.Made.TheVariants as maker
 use Rattle.regex_ports.specs.Making.{IfBuilt}
-use Rattle.command_set.specs.Files.{row_read, bytes_of, row_saved}
+use Rattle.command_set.specs.Files.{row_read, saved_bytes, row_saved}
 use Rattle.command_set.specs.Finishing.{row_finish, source_of}
 use Rattle.kak_world.specs.declared.ask.Ask.TheVariants.{Make, Read, Write}
 use Rattle.kak_world.specs.declared.ask.Saving.{Saving}
@@ -24,25 +24,25 @@ use Rattle.kak_world.specs.declared.ask.EditError.{EditError}
 use Rattle.kak_world.specs.declared.ask.EditError.TheVariants.{TextFull, UndoFull, NothingToUndo, NothingToRedo, NoSuchNode, NoSuchRegister, ReadOnlyRegister, RegisterFull, SharedLine, Command as OfCommand, BadPattern, NothingSelected, TooManySelections, BudgetSpent, NoMemory}
 use Rattle.kak_world.specs.Dropping.{KeepsJoined}
 use Rattle.kak_world.specs.Flat.{Flat, is_joined, units_of, with_units}
-use Rattle.kak_world.specs.Rows.{Row, Asks, Fails, GivesUp, RowEnd, Gives, error_text, row_of}
+use Rattle.kak_world.specs.Rows.{Row, Asks, Fails, GivesUp, RowEnd, GivesRow, error_text, row_of}
 use Rattle.kak_world.proofs.WorldLaws.{joined_units}
 use Rattle.session_events.specs.declared.event.Answered.{Answered}
 use Rattle.kak_engine.specs.declared.doing.Ending.{Ending}
 use Rattle.kak_engine.specs.Answering.{as_made, as_read, as_put, made_told, read_told, put_told}
-use Rattle.kak_engine.specs.Doing.{End, Failed, GivenUp, Moment, Outcome, Part, Go, end_of, each, unit_of, with_unit, go_on, run_command, run_read, taken_as, next_as, go_back, by_making, by_reading, by_writing, Do, top, budget_spent}
+use Rattle.kak_engine.specs.Doing.{DoingEnd, Failed, GivenUp, Moment, Outcome, Part, Go, end_by_error, each, unit_of, with_unit, go_on, run_command, run_read, taken_as, next_as, go_back, by_making, by_reading, by_writing, Do, top, budget_spent}
 use Rattle.kak_engine.specs.Honesty.{Outside, IsHonest}
-use Rattle.kak_engine.specs.Seen.{Does, Ends, end_seen, moment_of, UnderWay, under_way}
+use Rattle.kak_engine.specs.Seen.{Does, PartEnds, end_seen, moment_of, UnderWay, under_way}
 use Rattle.kak_engine.proofs.CarryingLaws.{Keeps}
 use Rattle.kak_engine.proofs.DoingLemmas.{Do-body}
 use Rattle.kak_engine.proofs.HonestLemmas.{honest-none, honest-behind, honest-stays, stays-still, stays-behind}
 
 -- a part that is another one
-pub ends-by : (r : Result Ending AllocError) (f g : Part) (old new : UnderWay) → ((m : Moment) → f m ≡ g m) → Ends r g old new → Ends r f old new
+pub ends-by : (r : Result Ending AllocError) (f g : Part) (old new : UnderWay) → ((m : Moment) → f m ≡ g m) → PartEnds r g old new → PartEnds r f old new
 ends-by (Err e) f g old new h d = d
 ends-by (Ok e) f g old new h d = record { used = d.used; exchanged = d.exchanged; kept = d.kept; leads = λ before later. h (moment_of before (d.used ++ later) old.world) ∙ d.leads before later; honest = d.honest }
 
 -- a part that asks the outside for nothing
-pub does-alone : (part : Part) (old now : Flat) (had : List Answered) (o : Outside) (end : End)
+pub does-alone : (part : Part) (old now : Flat) (had : List Answered) (o : Outside) (end : DoingEnd)
     → ((exchanges : List Exchange) (answers : List Answered) → part (moment_of exchanges answers old) ≡ record { moment = moment_of exchanges answers now; end = end })
     → Does part (under_way old had o) (under_way now had o) end
 does-alone part old now had o end h = record {
@@ -55,13 +55,13 @@ does-alone part old now had o end h = record {
 
 pub ends-alone : (r : Result Ending AllocError) (part : Part) (old now : Flat) (had : List Answered) (o : Outside)
     → IfOk r (λ e. (exchanges : List Exchange) (answers : List Answered) → part (moment_of exchanges answers old) ≡ record { moment = moment_of exchanges answers now; end = end_seen e })
-    → Ends r part (under_way old had o) (under_way now had o)
+    → PartEnds r part (under_way old had o) (under_way now had o)
 ends-alone (Err e) part old now had o h = stays-still o
 ends-alone (Ok e) part old now had o h = does-alone part old now had o (end_seen e) h
 
 -- what is asked for is done behind a row that asks for it
-pub row-asks : (who : ℕ) (ask : Ask) (r : Result Ending AllocError) (now : Flat) (had : List Answered) (o : Outside) (new : UnderWay) → Ends r (λ m. Do who top (Asks ask) m) (under_way now had o) new
-    → (before : Flat) (end : RowEnd) → Gives (Ok ask) now end → Ends r (λ m. go_on (Do who) top end m) (under_way before had o) new
+pub row-asks : (who : ℕ) (ask : Ask) (r : Result Ending AllocError) (now : Flat) (had : List Answered) (o : Outside) (new : UnderWay) → PartEnds r (λ m. Do who top (Asks ask) m) (under_way now had o) new
+    → (before : Flat) (end : RowEnd) → GivesRow (Ok ask) now end → PartEnds r (λ m. go_on (Do who) top end m) (under_way before had o) new
 row-asks who ask (Err e) now had o new d before end g = d
 row-asks who ask (Ok e) now had o new d before end g = record {
   used = d.used;
@@ -72,20 +72,20 @@ row-asks who ask (Ok e) now had o new d before end g = record {
 }
 
 -- how a row ends that gives a refusal's text, or gives up
-row-ends : (who : ℕ) (row : Row) (end : End) (e : Ending) (now before : Flat) (given : RowEnd) → given ≡ record { world = now; row = row } → ((m : Moment) → Do who top row m ≡ record { moment = m; end = end }) → end_seen e ≡ end
+row-ends : (who : ℕ) (row : Row) (end : DoingEnd) (e : Ending) (now before : Flat) (given : RowEnd) → given ≡ record { world = now; row = row } → ((m : Moment) → Do who top row m ≡ record { moment = m; end = end }) → end_seen e ≡ end
     → (exchanges : List Exchange) (answers : List Answered) → go_on (Do who) top given (moment_of exchanges answers before) ≡ record { moment = moment_of exchanges answers now; end = end_seen e }
 row-ends who row end e now before given g does f exchanges answers =
     ap (λ (x : RowEnd). go_on (Do who) top x (moment_of exchanges answers before)) g
     ∙ does (moment_of exchanges answers now)
-    ∙ ap (λ (x : End). let o : Outcome = record { moment = moment_of exchanges answers now; end = x } in o) (sym f)
+    ∙ ap (λ (x : DoingEnd). let o : Outcome = record { moment = moment_of exchanges answers now; end = x } in o) (sym f)
 
 failed-row : (who : ℕ) (text : List ℕ) (e : Ending) (now before : Flat) (end : RowEnd) → end ≡ record { world = now; row = Fails text } → end_seen e ≡ Failed text
     → (exchanges : List Exchange) (answers : List Answered) → go_on (Do who) top end (moment_of exchanges answers before) ≡ record { moment = moment_of exchanges answers now; end = end_seen e }
 failed-row who text e now before end g f = row-ends who (Fails text) (Failed text) e now before end g (λ m. Do-body who top (Fails text) m) f
 
 -- a row that fails ends the part as its refusal does
-refused-row : (who : ℕ) (error : EditError) (e : Ending) (now : Flat) → end_seen e ≡ end_of error → (error ≡ NoMemory → IsErr {T = Ending} {E = AllocError} (Ok e))
-    → (before : Flat) (end : RowEnd) → Gives (Err error) now end
+refused-row : (who : ℕ) (error : EditError) (e : Ending) (now : Flat) → end_seen e ≡ end_by_error error → (error ≡ NoMemory → IsErr {T = Ending} {E = AllocError} (Ok e))
+    → (before : Flat) (end : RowEnd) → GivesRow (Err error) now end
     → (exchanges : List Exchange) (answers : List Answered) → go_on (Do who) top end (moment_of exchanges answers before) ≡ record { moment = moment_of exchanges answers now; end = end_seen e }
 refused-row who TextFull e now f n before end g = failed-row who (error_text TextFull) e now before end g f
 refused-row who UndoFull e now f n before end g = failed-row who (error_text UndoFull) e now before end g f
@@ -103,8 +103,8 @@ refused-row who TooManySelections e now f n before end g = failed-row who (error
 refused-row who BudgetSpent e now f n before end g = row-ends who GivesUp (GivenUp budget_spent) e now before end g (λ m. Do-body who top GivesUp m) f
 refused-row who NoMemory e now f n before end g = absurd (let x : IsErr {T = Ending} {E = AllocError} (Ok e) = n refl in cc)
 
-pub row-fails : (who : ℕ) (error : EditError) (r : Result Ending AllocError) (now : Flat) (had : List Answered) (o : Outside) → IfOk r (λ e. end_seen e ≡ end_of error) → (error ≡ NoMemory → IsErr r)
-    → (before : Flat) (end : RowEnd) → Gives (Err error) now end → Ends r (λ m. go_on (Do who) top end m) (under_way before had o) (under_way now had o)
+pub row-fails : (who : ℕ) (error : EditError) (r : Result Ending AllocError) (now : Flat) (had : List Answered) (o : Outside) → IfOk r (λ e. end_seen e ≡ end_by_error error) → (error ≡ NoMemory → IsErr r)
+    → (before : Flat) (end : RowEnd) → GivesRow (Err error) now end → PartEnds r (λ m. go_on (Do who) top end m) (under_way before had o) (under_way now had o)
 row-fails who error (Err e) now had o f n before end g = stays-still o
 row-fails who error (Ok e) now had o f n before end g = does-alone (λ m. go_on (Do who) top end m) before now had o (end_seen e) (refused-row who error e now f n before end g)
 
@@ -127,18 +127,18 @@ is-read BudgetSpent r n w = w
 is-read NoMemory r n w = absurd (n refl)
 
 pub unread : (go : Go) (who : ℕ) (read : Result (List Command) EditError) (error : EditError) (r : Result Ending AllocError) (now : Flat) (had : List Answered) (o : Outside)
-    → IfSome (row_of error) (λ row. read ≡ Err error) → IfOk r (λ e. end_seen e ≡ end_of error) → (error ≡ NoMemory → IsErr r) → Ends r (λ m. run_read go who top read m) (under_way now had o) (under_way now had o)
+    → IfSome (row_of error) (λ row. read ≡ Err error) → IfOk r (λ e. end_seen e ≡ end_by_error error) → (error ≡ NoMemory → IsErr r) → PartEnds r (λ m. run_read go who top read m) (under_way now had o) (under_way now had o)
 unread go who read error (Err e) now had o w f n = stays-still o
 unread go who read error (Ok e) now had o w f n =
     let none : error ≡ NoMemory → ⊥ = (λ is. let x : IsErr {T = Ending} {E = AllocError} (Ok e) = n is in cc) in
     let same : read ≡ Err error = is-read error read none w in
     does-alone (λ m. run_read go who top read m) now now had o (end_seen e) (λ exchanges answers.
     ap (λ (x : Result (List Command) EditError). run_read go who top x (moment_of exchanges answers now)) same
-    ∙ ap (λ (x : End). let q : Outcome = record { moment = moment_of exchanges answers now; end = x } in q) (sym f))
+    ∙ ap (λ (x : DoingEnd). let q : Outcome = record { moment = moment_of exchanges answers now; end = x } in q) (sym f))
 
 -- a text that was read as commands
 pub all-read : (go : Go) (who : ℕ) (read : Result (List Command) EditError) (commands : List Command) (r : Result Ending AllocError) (old new : UnderWay) → read ≡ Ok commands
-    → Ends r (λ m. each (run_command go who top) commands m) old new → Ends r (λ m. run_read go who top read m) old new
+    → PartEnds r (λ m. each (run_command go who top) commands m) old new → PartEnds r (λ m. run_read go who top read m) old new
 all-read go who read commands r old new e d = ends-by r (λ m. run_read go who top read m) (λ m. each (run_command go who top) commands m) old new (λ m. ap (λ (x : Result (List Command) EditError). run_read go who top x m) e) d
 
 -- a part that is handed the next answer, which is of the kind that was asked for
@@ -147,7 +147,7 @@ next-is : {A : Type 0} (kind : Answered → Option A) (part : A → Part) (answe
 next-is kind part answer x exchanges later world k = ap (λ (o : Option _). taken_as o part later (moment_of exchanges (answer ∷ later) world)) k
 
 -- a row that goes on with an answer of the outside
-back-does : {A : Type 0} (who : ℕ) (kind : Answered → Option A) (exchange : A → Flat → List Exchange) (row : A → Flat → RowEnd) (answer : Answered) (x : A) (end : End) (old : Flat) (had mid : List Answered) (o p : Outside) (new : UnderWay)
+back-does : {A : Type 0} (who : ℕ) (kind : Answered → Option A) (exchange : A → Flat → List Exchange) (row : A → Flat → RowEnd) (answer : Answered) (x : A) (end : DoingEnd) (old : Flat) (had mid : List Answered) (o p : Outside) (new : UnderWay)
     → kind answer ≡ Some x → mid ≡ had ++ answer ∷ [] → IsHonest (answer ∷ []) (exchange x old) o p
     → Does (λ m. go_on (Do who) top (row x old) m) (under_way old mid p) new end
     → Does (λ m. next_as kind (go_back (Do who) top exchange row) m.answers m) (under_way old had o) new end
@@ -164,8 +164,8 @@ back-does who kind exchange row answer x end old had mid o p new k h honest d = 
 
 pub back-ends : {A : Type 0} (who : ℕ) (kind : Answered → Option A) (exchange : A → Flat → List Exchange) (row : A → Flat → RowEnd) (answer : Answered) (x : A) (r : Result Ending AllocError) (old : Flat) (had mid : List Answered) (o p : Outside) (new : UnderWay)
     → kind answer ≡ Some x → mid ≡ had ++ answer ∷ [] → IsHonest (answer ∷ []) (exchange x old) o p
-    → Ends r (λ m. go_on (Do who) top (row x old) m) (under_way old mid p) new
-    → Ends r (λ m. next_as kind (go_back (Do who) top exchange row) m.answers m) (under_way old had o) new
+    → PartEnds r (λ m. go_on (Do who) top (row x old) m) (under_way old mid p) new
+    → PartEnds r (λ m. next_as kind (go_back (Do who) top exchange row) m.answers m) (under_way old had o) new
 back-ends who kind exchange row answer x (Err e) old had mid o p new k h honest d = stays-behind o p new.outside (honest-stays (answer ∷ []) (exchange x old) o p honest) d
 back-ends who kind exchange row answer x (Ok e) old had mid o p new k h honest d = back-does who kind exchange row answer x (end_seen e) old had mid o p new k h honest d
 
@@ -176,8 +176,8 @@ made-as source maker.Refused text b = refl
 
 pub made-ends : {P : Type 0} (who : ℕ) (wanted : PatternUse) (source : P → List ℕ) (made : Made P) (r : Result Ending AllocError) (old : Flat) (had mid : List Answered) (o p : Outside) (new : UnderWay)
     → IfBuilt made (λ p. source p ≡ encode_utf8_all wanted.pattern) → IsHonest (made_told made ∷ []) [] o p → mid ≡ had ++ made_told made ∷ []
-    → Ends r (λ m. go_on (Do who) top (row_finish wanted.then (source_of source made) who old) m) (under_way old mid p) new
-    → Ends r (λ m. Do who top (Asks (Make wanted)) m) (under_way old had o) new
+    → PartEnds r (λ m. go_on (Do who) top (row_finish wanted.then (source_of source made) who old) m) (under_way old mid p) new
+    → PartEnds r (λ m. Do who top (Asks (Make wanted)) m) (under_way old had o) new
 made-ends who wanted source made r old had mid o p new b h k d =
     ends-by r _ _ _ new (λ m. Do-body who top (Asks (Make wanted)) m)
     (back-ends who (as_made (encode_utf8_all wanted.pattern)) by_making (λ made flat. row_finish wanted.then made who flat) (made_told made) (source_of source made) r old had mid o p new (made-as source made _ b) k h d)
@@ -191,8 +191,8 @@ read-as file.Failed = refl
 
 pub read-ends : (who : ℕ) (name said : List ℕ) (read : FileRead) (told : Answered) (r : Result Ending AllocError) (old : Flat) (had mid : List Answered) (o p : Outside) (new : UnderWay) → said ≡ name → told ≡ read_told read
     → IsHonest (read_told read ∷ []) (WasRead said read ∷ []) o p → mid ≡ had ++ told ∷ []
-    → Ends r (λ m. go_on (Do who) top (row_read name read who old) m) (under_way old mid p) new
-    → Ends r (λ m. Do who top (Asks (Read name)) m) (under_way old had o) new
+    → PartEnds r (λ m. go_on (Do who) top (row_read name read who old) m) (under_way old mid p) new
+    → PartEnds r (λ m. Do who top (Asks (Read name)) m) (under_way old had o) new
 read-ends who name said read told r old had mid o p new same is h k d =
     ends-by r _ _ _ new (λ m. Do-body who top (Asks (Read name)) m)
     (back-ends who as_read (by_reading name) (λ read flat. row_read name read who flat) (read_told read) read r old had mid o p new (read-as read) (k ∙ ap (λ (a : Answered). had ++ a ∷ []) is) (subst (λ n. IsHonest (read_told read ∷ []) (WasRead n read ∷ []) o p) same h) d)
@@ -203,16 +203,16 @@ put-as put.Done = refl
 put-as put.Failed = refl
 
 pub write-ends : (who : ℕ) (saving : Saving) (put : Put) (r : Result Ending AllocError) (old : Flat) (had mid : List Answered) (o p : Outside) (new : UnderWay)
-    → IsHonest (put_told put ∷ []) (Written saving.file (bytes_of saving old) put ∷ []) o p → mid ≡ had ++ put_told put ∷ []
-    → Ends r (λ m. go_on (Do who) top (row_saved saving put who old) m) (under_way old mid p) new
-    → Ends r (λ m. Do who top (Asks (Write saving)) m) (under_way old had o) new
+    → IsHonest (put_told put ∷ []) (Written saving.file (saved_bytes saving old) put ∷ []) o p → mid ≡ had ++ put_told put ∷ []
+    → PartEnds r (λ m. go_on (Do who) top (row_saved saving put who old) m) (under_way old mid p) new
+    → PartEnds r (λ m. Do who top (Asks (Write saving)) m) (under_way old had o) new
 write-ends who saving put r old had mid o p new h k d =
     ends-by r _ _ _ new (λ m. Do-body who top (Asks (Write saving)) m)
     (back-ends who as_put (by_writing saving) (λ put flat. row_saved saving put who flat) (put_told put) put r old had mid o p new (put-as put) k h d)
 
 -- a part behind a unit that was taken, and one without a unit
 pub unit-taken : (r : Result Ending AllocError) (part : Part) (old now : Flat) (had : List Answered) (o : Outside) (new : UnderWay) → units_of old ≡ suc (units_of now) → now ≡ with_units (units_of now) old
-    → Ends r part (under_way now had o) new → Ends r (λ m. with_unit part m) (under_way old had o) new
+    → PartEnds r part (under_way now had o) new → PartEnds r (λ m. with_unit part m) (under_way old had o) new
 unit-taken (Err e) part old now had o new u w d = d
 unit-taken (Ok e) part old now had o new u w d = record {
   used = d.used;
@@ -232,8 +232,8 @@ unit-wanting part old now exchanges answers u w =
     ∙ ap (λ (x : Flat). let o : Outcome = record { moment = moment_of exchanges answers x; end = GivenUp budget_spent } in o) (sym w)
 
 -- a part whose row is that of the world where it begins
-pub ends-there : (r : Result Ending AllocError) (who : ℕ) (row : Flat → RowEnd) (old : Flat) (had : List Answered) (o : Outside) (new : UnderWay) → Ends r (λ m. go_on (Do who) top (row old) m) (under_way old had o) new
-    → Ends r (λ m. go_on (Do who) top (row m.world) m) (under_way old had o) new
+pub ends-there : (r : Result Ending AllocError) (who : ℕ) (row : Flat → RowEnd) (old : Flat) (had : List Answered) (o : Outside) (new : UnderWay) → PartEnds r (λ m. go_on (Do who) top (row old) m) (under_way old had o) new
+    → PartEnds r (λ m. go_on (Do who) top (row m.world) m) (under_way old had o) new
 ends-there (Err e) who row old had o new d = d
 ends-there (Ok e) who row old had o new d = record { used = d.used; exchanged = d.exchanged; kept = d.kept; leads = d.leads; honest = d.honest }
 
@@ -242,15 +242,15 @@ pub unit-joined : (who : ℕ) (old now : Flat) → now ≡ with_units (units_of 
 unit-joined who old now w j = ap (is_joined who) w ∙ joined_units who (units_of now) old ∙ j
 
 -- behind a row that isn't wanting in memory, its client has joined still
-pub joined-row : (who : ℕ) (r : Result Ask EditError) (old new : Flat) (end : RowEnd) → Gives r new end → KeepsJoined old end.world → is_joined who old ≡ true → OnOk r (is_joined who new ≡ true)
+pub joined-row : (who : ℕ) (r : Result Ask EditError) (old new : Flat) (end : RowEnd) → GivesRow r new end → KeepsJoined old end.world → is_joined who old ≡ true → OnOk r (is_joined who new ≡ true)
 joined-row who (Ok ask) old new end g k j = ap (λ (x : RowEnd). is_joined who x.world) (sym g) ∙ k.joined who j
 joined-row who (Err e) old new end g k j = tt
 
 -- what is so behind a part by its definition, is so where the part was done
-pub does-keeps : (R : Flat → Flat → Type 0) (part : Part) (end : End) (old new : UnderWay) → Does part old new end → Keeps R part → R old.world new.world
+pub does-keeps : (R : Flat → Flat → Type 0) (part : Part) (end : DoingEnd) (old new : UnderWay) → Does part old new end → Keeps R part → R old.world new.world
 does-keeps R part end old new d k = subst (λ (o : Outcome). R old.world o.moment.world) (d.leads [] []) (k (moment_of [] (d.used ++ []) old.world))
 
 -- and behind a part a client has joined still
-pub joined-part : (who : ℕ) (r : Result Ending AllocError) (part : Part) (old new : UnderWay) → Ends r part old new → Keeps KeepsJoined part → is_joined who old.world ≡ true → OnOk r (is_joined who new.world ≡ true)
+pub joined-part : (who : ℕ) (r : Result Ending AllocError) (part : Part) (old new : UnderWay) → PartEnds r part old new → Keeps KeepsJoined part → is_joined who old.world ≡ true → OnOk r (is_joined who new.world ≡ true)
 joined-part who (Ok e) part old new d k j = (does-keeps KeepsJoined part (end_seen e) old new d k).joined who j
 joined-part who (Err e) part old new d k j = tt

@@ -4,9 +4,9 @@ use Rattle.std.specs.Prelude.{if◌then◌else◌}
 use Rattle.key_names.specs.declared.key.Key.{Key}
 use Rattle.kak_world.specs.declared.own.Mode.{Mode}
 use Rattle.kak_world.specs.declared.own.Mode.TheVariants.{Normal, Insert, Prompt}
-use Rattle.kak_world.specs.declared.own.Status.TheVariants.{Quiet, Refused}
+use Rattle.kak_world.specs.declared.own.StatusText.TheVariants.{Quiet, Refused}
 use Rattle.kak_world.specs.Dropping.{KeepsJoined}
-use Rattle.kak_world.specs.Flat.{Flat, is_joined, is_leaving, mode_of, units_of, with_own, with_units}
+use Rattle.kak_world.specs.Flat.{Flat, is_joined, is_client_leaving, mode_of, units_of, with_own, with_units}
 use Rattle.kak_world.specs.Keeping.{KeepsClients}
 use Rattle.kak_world.proofs.KeepingLaws.{keeps_same, keeps_after, keeps_own, keeps_units, keeps_view, keeps_commits}
 use Rattle.kak_world.proofs.WorldLaws.{units_own, units_units}
@@ -17,8 +17,8 @@ use Rattle.command_set.proofs.FileLaws.{read_falls, keeps_read, saved_falls, kee
 use Rattle.command_set.proofs.FinishLaws.{finish_falls, keeps_finish}
 use Rattle.draw_model.specs.Drawings.{after_following}
 use Rattle.session_events.specs.declared.event.Answered.{Answered}
-use Rattle.kak_engine.specs.Doing.{End, Fine, Failed, GivenUp, Outcome, Place, go_on, Do, row_in, row_key, top, strike}
-use Rattle.kak_engine.specs.Steps.{told, begun, first_moment, ends_group, group_ended, ended, struck, after_key, noted_drawn}
+use Rattle.kak_engine.specs.Doing.{DoingEnd, Fine, Failed, GivenUp, Outcome, DoingPlace, go_on, Do, row_in, row_key, top, strike}
+use Rattle.kak_engine.specs.Steps.{told, begun, first_moment, ends_group, group_ended, key_ended, struck, after_key, noted_drawn}
 use Rattle.kak_engine.proofs.CarryingLaws.{IsCarried, Keeps, keeps-unit, keeps-row, carried-do}
 
 -- a change that keeps the clients keeps who has joined
@@ -82,12 +82,12 @@ keeps-row_in Prompt key who flat = keeps_prompt key who flat
 pub keeps_row : (key : Key) (who : ℕ) (flat : Flat) → KeepsJoined flat (row_key key who flat).world
 keeps_row key who flat = clients-joined flat _ (keeps-row_in (mode_of who flat) key who flat)
 
-pub keeps_strike : (who : ℕ) (p : Place) (key : Key) → Keeps KeepsJoined (strike who p key)
+pub keeps_strike : (who : ℕ) (p : DoingPlace) (key : Key) → Keeps KeepsJoined (strike who p key)
 keeps_strike who p key m =
     keeps-unit who KeepsJoined (joined-carried who) (λ n. go_on (Do who) p (row_key key who n.world) n)
     (λ n. keeps-row who KeepsJoined (joined-carried who) (Do who) p (row_key key who n.world) n (carried-do who KeepsJoined (joined-carried who)) (keeps_row key who n.world)) m
 
-keeps-told : (who : ℕ) (e : End) (flat : Flat) → KeepsClients flat (told who e flat)
+keeps-told : (who : ℕ) (e : DoingEnd) (flat : Flat) → KeepsClients flat (told who e flat)
 keeps-told who Fine flat = keeps_same flat
 keeps-told who (Failed text) flat = keeps_own who (λ o. record o { status = Refused text }) flat
 keeps-told who (GivenUp text) flat = keeps_own who (λ o. record o { status = Refused text }) flat
@@ -103,12 +103,12 @@ keeps-group Normal who flat = keeps_commits who flat
 keeps-group Prompt who flat = keeps_commits who flat
 
 -- what comes behind a key that was run
-keeps-ended : (who : ℕ) (o : Outcome) → KeepsClients o.moment.world (ended who o)
+keeps-ended : (who : ℕ) (o : Outcome) → KeepsClients o.moment.world (key_ended who o)
 keeps-ended who o =
     let flat : Flat = o.moment.world in
     let said : Flat = told who o.end flat in
     let settled : Flat = group_ended who said in
-    keeps_after flat settled (ended who o) (keeps_after flat said settled (keeps-told who o.end flat) (keeps-group (mode_of who said) who said)) (keeps_units 0 settled)
+    keeps_after flat settled (key_ended who o) (keeps_after flat said settled (keeps-told who o.end flat) (keeps-group (mode_of who said) who said)) (keeps_units 0 settled)
 
 keeps-chosen : (t : Bool) (old a b : Flat) → KeepsJoined old a → KeepsJoined old b → KeepsJoined old (if t then a else b)
 keeps-chosen true old a b f g = f
@@ -119,9 +119,9 @@ pub keeps_key : (who : ℕ) (key : Key) (answers : List Answered) (flat : Flat) 
 unfolding after_key
 keeps_key who key answers flat =
     let o : Outcome = struck who key answers flat in
-    keeps-chosen (is_leaving who flat) flat flat (ended who o) (joined-still flat)
-    (joined-behind flat (begun who flat) (ended who o) (clients-joined flat (begun who flat) (keeps-begun who flat))
-    (joined-behind (begun who flat) o.moment.world (ended who o) (keeps_strike who top key (first_moment who flat answers)) (clients-joined o.moment.world (ended who o) (keeps-ended who o))))
+    keeps-chosen (is_client_leaving who flat) flat flat (key_ended who o) (joined-still flat)
+    (joined-behind flat (begun who flat) (key_ended who o) (clients-joined flat (begun who flat) (keeps-begun who flat))
+    (joined-behind (begun who flat) o.moment.world (key_ended who o) (keeps_strike who top key (first_moment who flat answers)) (clients-joined o.moment.world (key_ended who o) (keeps-ended who o))))
 
 -- a refresh
 pub keeps_refresh : (who : ℕ) (flat : Flat) → KeepsClients flat (noted_drawn who (after_following who flat))

@@ -12,9 +12,9 @@ use Rattle.session_events.specs.declared.event.Answered.{Answered}
 use Rattle.session_events.specs.declared.event.Entry.{Entry}
 use Rattle.session_events.specs.declared.fault.StepFault.{StepFault}
 use Rattle.session_events.specs.Entries.{is_join, is_leave, entry_with, has_joined}
-use Rattle.session_events.specs.Legal.{Presence, Away, Here, Gone, is_here, moved_by, may_make, presence_from, may_make_all, IsLegal, KeepsLimit, AreLeavings}
+use Rattle.session_events.specs.Legal.{Presence, Away, Here, Gone, is_here, presence_after, may_make, presence_from, may_make_all, IsLegal, KeepsLimit, AreLeavings}
 use Rattle.session_events.proofs.LegalLemmas.{presence-append, may-append}
-use Rattle.kak_engine.specs.Steps.{run, is_full}
+use Rattle.kak_engine.specs.Steps.{run, is_session_full}
 use Rattle.kak_engine.specs.Held.{CanRun, refused_by}
 
 -- the first of two choices gave nothing, and so did the second
@@ -54,16 +54,16 @@ allowed history limit who event e =
       joined = both-not (is_join event) (is_here (presence_from who Away history)) (chosen-none _ _ _ e);
       fresh = second-false (is_join event) (has_joined who history) (chosen-none _ _ _ second);
       room = not-second (is_leave event) (nat_le limit (length history)) (chosen-none _ _ _ third);
-      seat = λ j. leb-false MAX_CLIENTS (length (run history).clients) (second-false (is_join event) (is_full (run history)) (chosen-none _ _ _ (rest-none _ _ _ third)) j);
+      seat = λ j. leb-false MAX_CLIENTS (length (run history).clients) (second-false (is_join event) (is_session_full (run history)) (chosen-none _ _ _ (rest-none _ _ _ third)) j);
     }
 
 -- a client that never joined hasn't come
 never-step : (k : ℕ) (e : Event) (h : List Entry) (t b : Bool) → is_join e ≡ b → (may_make_all k Away h ≡ true → has_joined k h ≡ false → presence_from k Away h ≡ Away)
-    → (if t then is_join e && may_make_all k (moved_by e Away) h else may_make_all k Away h) ≡ true
+    → (if t then is_join e && may_make_all k (presence_after e Away) h else may_make_all k Away h) ≡ true
     → ((t && is_join e) || has_joined k h) ≡ false
-    → presence_from k (if t then moved_by e Away else Away) h ≡ Away
+    → presence_from k (if t then presence_after e Away else Away) h ≡ Away
 never-step k e h true true i next l j = let no : (true || has_joined k h) ≡ false = subst (λ q. (q || has_joined k h) ≡ false) i j in cc
-never-step k e h true false i next l j = let no : (false && may_make_all k (moved_by e Away) h) ≡ true = subst (λ q. (q && may_make_all k (moved_by e Away) h) ≡ true) i l in cc
+never-step k e h true false i next l j = let no : (false && may_make_all k (presence_after e Away) h) ≡ true = subst (λ q. (q && may_make_all k (presence_after e Away) h) ≡ true) i l in cc
 never-step k e h false b i next l j = next l j
 
 pub never-came : (k : ℕ) (h : List Entry) → may_make_all k Away h ≡ true → has_joined k h ≡ false → presence_from k Away h ≡ Away
@@ -119,7 +119,7 @@ within-more h limit who event answers w a = by (nat_le limit (length h)) (is_lea
         short lt = omega (arith, lt, length-append h (entry_with who event answers ∷ []))
 
 -- where a client is behind one entry more
-pub presence-more : (k who : ℕ) (h : List Entry) (event : Event) (answers : List Answered) → presence_from k Away (h ++ entry_with who event answers ∷ []) ≡ (if who == k then moved_by event (presence_from k Away h) else presence_from k Away h)
+pub presence-more : (k who : ℕ) (h : List Entry) (event : Event) (answers : List Answered) → presence_from k Away (h ++ entry_with who event answers ∷ []) ≡ (if who == k then presence_after event (presence_from k Away h) else presence_from k Away h)
 presence-more k who h event answers = presence-append k Away h (entry_with who event answers ∷ [])
 
 -- an event that isn't refused can be run
@@ -141,12 +141,12 @@ pub in-behind : (history new : List Entry) (limit who : ℕ) (event : Event) (an
 in-behind history new limit who event answers e k stays =
     ap (λ h. is_here (presence_from who Away h)) k ∙ ap is_here (presence-more who who history event answers) ∙ own (who == who) (eq-eqb who who refl)
   where
-    by : (event : Event) → is_leave event ≡ false → IsAllowed history limit who event → is_here (moved_by event (presence_from who Away history)) ≡ true
+    by : (event : Event) → is_leave event ≡ false → IsAllowed history limit who event → is_here (presence_after event (presence_from who Away history)) ≡ true
     by Join stays a = refl
     by (Struck key) stays a = a.joined refl
     by (Refresh asked) stays a = a.joined refl
     by Leave stays a = cc
 
-    own : (t : Bool) → t ≡ true → is_here (if t then moved_by event (presence_from who Away history) else presence_from who Away history) ≡ true
+    own : (t : Bool) → t ≡ true → is_here (if t then presence_after event (presence_from who Away history) else presence_from who Away history) ≡ true
     own true f = by event stays (allowed history limit who event e)
     own false f = cc

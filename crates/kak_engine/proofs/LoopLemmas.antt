@@ -8,8 +8,8 @@ use Rattle.kak_world.specs.Flat.{is_joined, units_of}
 use Rattle.session_events.specs.declared.event.Answered.{Answered}
 use Rattle.kak_engine.specs.declared.doing.Ending.{Ending}
 use Rattle.kak_engine.specs.declared.doing.Ending.TheVariants as code
-use Rattle.kak_engine.specs.Doing.{End, Fine, Failed, GivenUp, Outcome, Part, and_then, each, run_command, Do, top, budget_spent}
-use Rattle.kak_engine.specs.Honesty.{Stays}
+use Rattle.kak_engine.specs.Doing.{DoingEnd, Fine, Failed, GivenUp, Outcome, Part, and_then, each, run_command, Do, top, budget_spent}
+use Rattle.kak_engine.specs.Honesty.{OutsideStays}
 use Rattle.kak_engine.specs.Seen.{Does, end_seen, moment_of, UnderWay}
 use Rattle.kak_engine.proofs.CarryingLaws.{keeps-command, carried-do}
 use Rattle.kak_engine.proofs.EndLemmas.{does-alone, does-keeps}
@@ -18,14 +18,14 @@ use Rattle.kak_engine.proofs.KeepingLaws.{TakesUnits, units-carried, joined-carr
 
 -- A part is under way: where the rest of it is done from here on, the whole was done from the start.
 pub record LeadsOn (rest whole : Part) (start now : UnderWay) : Type 0 where
-  pub on : (new : UnderWay) (end : End) → Does rest now new end → Does whole start new end
-  pub stays : Stays start.outside now.outside
+  pub on : (new : UnderWay) (end : DoingEnd) → Does rest now new end → Does whole start new end
+  pub stays : OutsideStays start.outside now.outside
 
 pub leads-first : (whole : Part) (start : UnderWay) → LeadsOn whole whole start start
 leads-first whole start = record { on = λ new end d. d; stays = stays-still start.outside }
 
 -- one part that ended well, and one behind it
-then-does : (first next : Part) (old mid new : UnderWay) (end : End) → Does first old mid Fine → Does next mid new end → Does (λ m. and_then (first m) next) old new end
+then-does : (first next : Part) (old mid new : UnderWay) (end : DoingEnd) → Does first old mid Fine → Does next mid new end → Does (λ m. and_then (first m) next) old new end
 then-does first next old mid new end d e = record {
   used = d.used ++ e.used;
   exchanged = d.exchanged ++ e.exchanged;
@@ -39,7 +39,7 @@ then-does first next old mid new end d e = record {
 }
 
 -- one that didn't, behind which nothing comes
-stopped : (first next : Part) (old new : UnderWay) (end : End) → ((m : Outcome) → m.end ≡ end → and_then m next ≡ m) → Does first old new end → Does (λ m. and_then (first m) next) old new end
+stopped : (first next : Part) (old new : UnderWay) (end : DoingEnd) → ((m : Outcome) → m.end ≡ end → and_then m next ≡ m) → Does first old new end → Does (λ m. and_then (first m) next) old new end
 stopped first next old new end h d = record {
   used = d.used;
   exchanged = d.exchanged;

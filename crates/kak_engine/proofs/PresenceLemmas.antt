@@ -7,14 +7,14 @@ use Rattle.std.proofs.lemmas.Bool.{eqb-true, ne_eqb}
 use Rattle.kak_world.specs.declared.world.TheConstants.{MAX_CLIENTS}
 use Rattle.kak_world.specs.declared.clients.Client.{Client}
 use Rattle.kak_world.specs.Dropping.{KeepsJoined}
-use Rattle.kak_world.specs.Flat.{Flat, is_here as is_among, is_joined, left_by, joined_by}
+use Rattle.kak_world.specs.Flat.{Flat, is_here as is_among, is_joined, left_by_client, joined_by}
 use Rattle.kak_world.specs.Keeping.{whos_of}
 use Rattle.kak_world.proofs.KeepingLaws.{here_kept, count_kept, here_come, count_come, joined_others_come, here_goes, here_others_go, count_goes, joined_goes, joined_others_go, here_joined}
 use Rattle.session_events.specs.declared.event.Event.{Event}
 use Rattle.session_events.specs.declared.event.Event.TheVariants.{Join, Key as Struck, Refresh, Leave}
 use Rattle.session_events.specs.declared.event.Answered.{Answered}
 use Rattle.session_events.specs.Entries.{is_join, is_leave}
-use Rattle.session_events.specs.Legal.{Presence, is_here, moved_by}
+use Rattle.session_events.specs.Legal.{Presence, is_here, presence_after}
 use Rattle.kak_engine.specs.Steps.{after_event}
 use Rattle.kak_engine.specs.Held.{CanRun}
 use Rattle.kak_engine.specs.Laws.{StaysThere}
@@ -26,7 +26,7 @@ there_after Join true before = true
 there_after Leave true before = false
 there_after _ _ before = before
 
-pub presence-after : (event : Event) (t : Bool) (p : Presence) → is_here (if t then moved_by event p else p) ≡ there_after event t (is_here p)
+pub presence-after : (event : Event) (t : Bool) (p : Presence) → is_here (if t then presence_after event p else p) ≡ there_after event t (is_here p)
 presence-after Join true p = refl
 presence-after Join false p = refl
 presence-after (Struck key) true p = refl
@@ -75,8 +75,8 @@ here-after k who (Struck key) answers flat = here-same k flat _ (keeps_key who k
 here-after k who (Refresh asked) answers flat = here_kept k flat _ (keeps_refresh who flat) ∙ unchanged (Refresh asked) (who == k) (is_among k flat.clients) refl refl
 here-after k who Leave answers flat = by (who == k) refl
   where
-    by : (t : Bool) → (who == k) ≡ t → is_among k (left_by who flat).clients ≡ there_after Leave t (is_among k flat.clients)
-    by true e = subst (λ n. is_among n (left_by who flat).clients ≡ false) (eqb-true who k e) (here_goes who flat)
+    by : (t : Bool) → (who == k) ≡ t → is_among k (left_by_client who flat).clients ≡ there_after Leave t (is_among k flat.clients)
+    by true e = subst (λ n. is_among n (left_by_client who flat).clients ≡ false) (eqb-true who k e) (here_goes who flat)
     by false e = here_others_go k who flat e
 
 -- who has joined, where one that came has, and those who are here have
@@ -91,8 +91,8 @@ joined-after k who (Struck key) answers flat same came = joined-same k flat _ (k
 joined-after k who (Refresh asked) answers flat same came = (keeps_refresh who flat).joined k ∙ unchanged (Refresh asked) (who == k) (is_joined k flat) refl refl
 joined-after k who Leave answers flat same came = by (who == k) refl
   where
-    by : (t : Bool) → (who == k) ≡ t → is_joined k (left_by who flat) ≡ there_after Leave t (is_joined k flat)
-    by true e = subst (λ n. is_joined n (left_by who flat) ≡ false) (eqb-true who k e) (joined_goes who flat)
+    by : (t : Bool) → (who == k) ≡ t → is_joined k (left_by_client who flat) ≡ there_after Leave t (is_joined k flat)
+    by true e = subst (λ n. is_joined n (left_by_client who flat) ≡ false) (eqb-true who k e) (joined_goes who flat)
     by false e = joined_others_go k who flat e
 
 -- how many are there

@@ -14,7 +14,7 @@ use Rattle.session_events.specs.declared.event.Entry.{Entry}
 use Rattle.session_events.specs.Entries.{is_join, is_leave, entry_of, entry_with}
 use Rattle.session_events.specs.Legal.{Away, is_here, presence_from, AreLeavings, IsLegal}
 use Rattle.kak_engine.specs.Steps.{after_entry, after_event, exchanged, exchanges_from, exchanges, run_from, run, AreAskedFor, AllAskedFrom, AllAsked}
-use Rattle.kak_engine.specs.Held.{Stands, CanRun, refused_at, refused_by}
+use Rattle.kak_engine.specs.Held.{EngineStands, CanRun, refused_at, refused_by}
 use Rattle.kak_engine.specs.Honesty.{Outside, IsUntouched, IsHonest, IsKept}
 use Rattle.kak_engine.proofs.HonestLemmas.{honest-none, kept-first, kept-more}
 use Rattle.kak_engine.proofs.LegalLemmas.{allowed, can-run, lives-more, within-more, presence-more, in-behind}
@@ -42,7 +42,7 @@ refused-none None history limit who event e = e
 refused-none (Some at) history limit who event e = cc
 
 -- an event that such an engine doesn't refuse can be run
-pub can-step : (flat : Flat) (history : List Entry) (mark : Option ℕ) (limit : ℕ) (shelf : Shelf) (who : ℕ) (event : Event) → Stands flat history mark limit shelf → refused_at mark history limit who event ≡ None → CanRun event who flat
+pub can-step : (flat : Flat) (history : List Entry) (mark : Option ℕ) (limit : ℕ) (shelf : Shelf) (who : ℕ) (event : Event) → EngineStands flat history mark limit shelf → refused_at mark history limit who event ≡ None → CanRun event who flat
 can-step flat history mark limit shelf who event s r =
     let free : mark ≡ None = mark-none mark history limit who event r in
     can-run history limit who event flat (s.world free) (s.known free) (s.here free) s.legal (refused-none mark history limit who event r)
@@ -64,7 +64,7 @@ exchanges-more flat (e ∷ history) who event answers =
     ∙ sym (append_assoc (exchanged e.who e.event e.answers flat) (exchanges_from (after_entry e flat) history) (exchanged who event answers (run_from (after_entry e flat) history)))
 
 -- an engine to which nothing happened stands
-pub stands-first : (flat : Flat) (history : List Entry) (limit : ℕ) (shelf : Shelf) → flat ≡ opening → history ≡ [] → IsUntouched shelf.told → Stands flat history None limit shelf
+pub stands-first : (flat : Flat) (history : List Entry) (limit : ℕ) (shelf : Shelf) → flat ≡ opening → history ≡ [] → IsUntouched shelf.told → EngineStands flat history None limit shelf
 stands-first flat history limit shelf e k fresh = record {
   world = λ m. e ∙ ap run (sym k);
   known = λ m q. ap (is_joined q) e ∙ nobody-joined q ∙ ap (λ h. is_here (presence_from q Away h)) (sym k);
@@ -76,9 +76,9 @@ stands-first flat history limit shelf e k fresh = record {
 }
 
 -- an engine goes on to stand
-pub stands-more : (before now : Flat) (history new : List Entry) (mark : Option ℕ) (limit : ℕ) (x y : Outside) (who : ℕ) (event : Event) (answers : List Answered) → Stands before history mark limit x.shelf → refused_at mark history limit who event ≡ None
+pub stands-more : (before now : Flat) (history new : List Entry) (mark : Option ℕ) (limit : ℕ) (x y : Outside) (who : ℕ) (event : Event) (answers : List Answered) → EngineStands before history mark limit x.shelf → refused_at mark history limit who event ≡ None
     → (is_join event ≡ true → is_joined who now ≡ true) → now ≡ after_event who event answers before → AreAskedFor who event answers before → IsHonest answers (exchanged who event answers before) x y → new ≡ history ++ entry_with who event answers ∷ []
-    → Stands now new mark limit y.shelf
+    → EngineStands now new mark limit y.shelf
 stands-more before now history new mark limit x y who event answers s r came n asks honest k =
     let free : mark ≡ None = mark-none mark history limit who event r in
     let a = allowed history limit who event (refused-none mark history limit who event r) in
@@ -104,8 +104,8 @@ stands-more before now history new mark limit x y who event answers s r came n a
     all same = ap (λ f. exchanges history ++ exchanged who event answers f) same ∙ sym (exchanges-more opening history who event answers) ∙ ap exchanges (sym k)
 
 -- behind a going
-pub left-stands : (before now : Flat) (history new : List Entry) (mark : Option ℕ) (limit : ℕ) (shelf : Shelf) (who : ℕ) (event : Event) → Stands before history mark limit shelf → refused_at mark history limit who event ≡ None
-    → is_leave event ≡ true → now ≡ after_event who Leave [] before → new ≡ history ++ entry_of who Leave ∷ [] → Stands now new mark limit shelf
+pub left-stands : (before now : Flat) (history new : List Entry) (mark : Option ℕ) (limit : ℕ) (shelf : Shelf) (who : ℕ) (event : Event) → EngineStands before history mark limit shelf → refused_at mark history limit who event ≡ None
+    → is_leave event ≡ true → now ≡ after_event who Leave [] before → new ≡ history ++ entry_of who Leave ∷ [] → EngineStands now new mark limit shelf
 left-stands before now history new mark limit shelf who Leave s r goes n k =
     let o : Outside = record { shelf = shelf; refusals = 0 } in
     stands-more before now history new mark limit o o who Leave [] s r (λ j. let no : false ≡ true = j in cc) n refl (honest-none o) k
@@ -121,7 +121,7 @@ leaver-joined who (Struck key) flat goes can = cc
 leaver-joined who (Refresh asked) flat goes can = cc
 
 -- an engine that broke
-pub stands-broken : (flat now : Flat) (history new : List Entry) (mark : Option ℕ) (limit at : ℕ) (x y : Shelf) → Stands flat history mark limit x → new ≡ history → Stands now new (Some at) limit y
+pub stands-broken : (flat now : Flat) (history new : List Entry) (mark : Option ℕ) (limit at : ℕ) (x y : Shelf) → EngineStands flat history mark limit x → new ≡ history → EngineStands now new (Some at) limit y
 stands-broken flat now history new mark limit at x y s e = record { world = λ m. cc; known = λ m. cc; here = λ m. cc; few = λ m. cc; kept = λ m. cc; legal = subst (IsLegal limit) (sym e) s.legal; asked = subst AllAsked (sym e) s.asked }
 
 -- a client that made an event, and didn't leave by it, is here behind the longer history

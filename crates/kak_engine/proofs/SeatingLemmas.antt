@@ -14,10 +14,10 @@ use Rattle.session_events.specs.declared.event.Output.{Output}
 use Rattle.session_events.specs.declared.fault.StepFault.{StepFault}
 use Rattle.session_events.specs.declared.fault.StepFault.TheVariants.{Broken, NoClient, Joined, HistoryFull, Full, NoMemory}
 use Rattle.session_events.specs.Entries.{is_leave, entry_with, others_of}
-use Rattle.session_events.specs.Seats.{Steps, IsWhole}
+use Rattle.session_events.specs.Seats.{Steps, StaysUnbroken}
 use Rattle.kak_engine.specs.Steps.{output_of, exchanged, exchanges, answers_in, run, given_by}
-use Rattle.kak_engine.specs.Honesty.{Outside, Stays, IsHonest}
-use Rattle.kak_engine.specs.Held.{Held, Takes, refused_at, refusal_of, marked_by, marked_after}
+use Rattle.kak_engine.specs.Honesty.{Outside, OutsideStays, IsHonest}
+use Rattle.kak_engine.specs.Held.{HeldEngine, TakesEvent, refused_at, event_refusal, marked_by, marked_after}
 use Rattle.kak_engine.specs.Seating.{seat_of, WasHonest}
 use Rattle.kak_engine.proofs.HonestLemmas.{honest-none, honest-behind, stays-still, stays-behind}
 use Rattle.kak_engine.proofs.RunLemmas.{exchanges-more, mark-none}
@@ -41,14 +41,14 @@ others-own who (x ∷ h) event answers = by (x.who == who) (others-own who h eve
     by true same = same
     by false same = ap (λ r. x ∷ r) same
 
-module _ (who : ℕ) (event : Event) (x y : Held) where
+module _ (who : ℕ) (event : Event) (x y : HeldEngine) where
   -- no entry of another came
-  pub others-same : (r : Result Output StepFault) → IfOk r (λ o. Takes who event x y o) → OnErr r ((y.history ≡ x.history) × Stays x.outside y.outside) → Some (others_of who y.history) ≡ Some (others_of who x.history)
+  pub others-same : (r : Result Output StepFault) → IfOk r (λ o. TakesEvent who event x y o) → OnErr r ((y.history ≡ x.history) × OutsideStays x.outside y.outside) → Some (others_of who y.history) ≡ Some (others_of who x.history)
   others-same (Ok o) t e = ap (λ h. Some (others_of who h)) t.keeps ∙ ap Some (others-own who x.history event t.answers)
   others-same (Err f) t e = ap (λ h. Some (others_of who h)) e.0
 
   -- the client's step, as a seat tells it
-  pub alone-steps : (r : Result Output StepFault) (first : Outside) → IfOk r (λ o. Takes who event x y o)
+  pub alone-steps : (r : Result Output StepFault) (first : Outside) → IfOk r (λ o. TakesEvent who event x y o)
       → IfOk r (λ o. Steps given_by (seat_of (record { engine = x; who = who; first = first })) (seat_of (record { engine = y; who = who; first = first })) event o)
   alone-steps (Ok o) first t = record {
     between = [];
@@ -64,7 +64,7 @@ module _ (who : ℕ) (event : Event) (x y : Held) where
   whole-mark None r refused whole = refl
   whole-mark (Some at) r refused whole = absurd (whole at refused.0)
 
-  pub alone-whole : (r : Result Output StepFault) (first : Outside) → IfSome (refusal_of x who event) (λ fault. (r ≡ Err fault) × (y.outside ≡ x.outside)) → y.mark ≡ marked_after r x → IsWhole r (seat_of (record { engine = y; who = who; first = first }))
+  pub alone-whole : (r : Result Output StepFault) (first : Outside) → IfSome (event_refusal x who event) (λ fault. (r ≡ Err fault) × (y.outside ≡ x.outside)) → y.mark ≡ marked_after r x → StaysUnbroken r (seat_of (record { engine = y; who = who; first = first }))
   alone-whole (Ok o) first refused m = m ∙ whole-mark x.mark (taken o) refused (λ at e. let no : taken o ≡ faulty (Broken at) = e in cc)
   alone-whole (Err NoMemory) first refused m = tt
   alone-whole (Err (Broken at)) first refused m = tt
@@ -82,9 +82,9 @@ answers-more (x ∷ h) who event answers = ap (λ (r : List Answered). x.answers
 pub honest-first : (outside : Outside) → WasHonest [] None outside outside
 honest-first outside = record { behind = outside; honest = honest-none outside; alone = λ m. refl; stays = stays-still outside }
 
-module _ (first : Outside) (who : ℕ) (event : Event) (x y : Held) (was : WasHonest x.history x.mark first x.outside) where
+module _ (first : Outside) (who : ℕ) (event : Event) (x y : HeldEngine) (was : WasHonest x.history x.mark first x.outside) where
   -- the outside was honest in one entry more
-  takes-honest : (o : Output) → x.mark ≡ None → Takes who event x y o → WasHonest y.history y.mark first y.outside
+  takes-honest : (o : Output) → x.mark ≡ None → TakesEvent who event x y o → WasHonest y.history y.mark first y.outside
   takes-honest o free t = record {
     behind = y.outside;
     honest = subst (λ h. IsHonest (answers_in h) (exchanges h) first y.outside) (sym t.keeps) (
@@ -123,12 +123,12 @@ module _ (first : Outside) (who : ℕ) (event : Event) (x y : Held) (was : WasHo
   granted-none o (Some fault) refused = let no : taken o ≡ Err fault = refused.0 in cc
 
   -- the outside was honest still behind a step
-  pub step-honest : (r : Result Output StepFault) → IfSome (refusal_of x who event) (λ fault. (r ≡ Err fault) × (y.outside ≡ x.outside)) → (refusal_of x who event ≡ None → IfErr r (λ fault. (fault ≡ NoMemory) × (is_leave event ≡ false)))
-      → IfOk r (λ o. Takes who event x y o) → OnErr r ((y.history ≡ x.history) × Stays x.outside y.outside) → y.mark ≡ marked_after r x → WasHonest y.history y.mark first y.outside
-  step-honest (Ok o) refused answered t e m = takes-honest o (mark-none x.mark x.history x.limit who event (granted-none o (refusal_of x who event) refused)) t
+  pub step-honest : (r : Result Output StepFault) → IfSome (event_refusal x who event) (λ fault. (r ≡ Err fault) × (y.outside ≡ x.outside)) → (event_refusal x who event ≡ None → IfErr r (λ fault. (fault ≡ NoMemory) × (is_leave event ≡ false)))
+      → IfOk r (λ o. TakesEvent who event x y o) → OnErr r ((y.history ≡ x.history) × OutsideStays x.outside y.outside) → y.mark ≡ marked_after r x → WasHonest y.history y.mark first y.outside
+  step-honest (Ok o) refused answered t e m = takes-honest o (mark-none x.mark x.history x.limit who event (granted-none o (event_refusal x who event) refused)) t
   step-honest (Err f) refused answered t e m = record {
     behind = was.behind;
     honest = subst (λ h. IsHonest (answers_in h) (exchanges h) first was.behind) (sym e.0) was.honest;
-    alone = λ free. alone-still f (refusal_of x who event) refused (λ n. (answered n).0) (sym m ∙ free);
+    alone = λ free. alone-still f (event_refusal x who event) refused (λ n. (answered n).0) (sym m ∙ free);
     stays = stays-behind was.behind x.outside y.outside was.stays e.1;
   }

@@ -18,18 +18,18 @@ use Rattle.kak_world.specs.Flat.{Flat, mode_of, units_of, with_own, with_units}
 use Rattle.kak_world.specs.Rows.{Row, Asks, Fails, GivesUp, RowEnd, error_text, stages_of}
 use Rattle.normal_keys.specs.Rows.{row_normal}
 use Rattle.insert_prompt.specs.Rows.{row_insert, row_prompt}
-use Rattle.command_set.specs.Reading.{commands_of}
+use Rattle.command_set.specs.Reading.{commands_told}
 use Rattle.command_set.specs.Rows.{row_command}
-use Rattle.command_set.specs.Files.{row_read, bytes_of, row_saved}
+use Rattle.command_set.specs.Files.{row_read, saved_bytes, row_saved}
 use Rattle.command_set.specs.Finishing.{row_finish}
 use Rattle.session_events.specs.declared.event.Answered.{Answered}
 use Rattle.kak_engine.specs.Answering.{as_made, as_read, as_put}
 
 -- How doing something ended: well, with an error, or given up. Errors and giving up have a status text.
-pub data End : Type 0 where
-  Fine : End
-  Failed : List ℕ → End
-  GivenUp : List ℕ → End
+pub data DoingEnd : Type 0 where
+  Fine : DoingEnd
+  Failed : List ℕ → DoingEnd
+  GivenUp : List ℕ → DoingEnd
 
 -- a moment of a step: the world, the outside's answers that are still to come, whether each so far was of the kind that
 -- was asked for, and what was exchanged with the files so far, in order
@@ -42,83 +42,83 @@ pub record Moment : Type 0 where
 -- the moment after something, and how it ended
 pub record Outcome : Type 0 where
   pub moment : Moment
-  pub end : End
+  pub end : DoingEnd
 
 -- a part of a step, and how rows are done; a place has the depth of nesting
 abbrev pub Part : Type 0
 Part = Moment → Outcome
 
-pub record Place : Type 0 where
+pub record DoingPlace : Type 0 where
   pub depth : ℕ
 
 -- the place where a step begins
-abbrev pub top : Place
+abbrev pub top : DoingPlace
 top = record { depth = 0 }
 
 abbrev pub Go : Type 0
-Go = Place → Row → Part
+Go = DoingPlace → Row → Part
 
 -- the text of a step that had no unit left
 abbrev pub budget_spent : List ℕ
 budget_spent = error_text BudgetSpent
 
-abbrev pub ends : End → Part
-ends end m = record { moment = m; end = end }
+abbrev pub done_as : DoingEnd → Part
+done_as end m = record { moment = m; end = end }
 
 -- how something ends that was refused: given up where its units were spent, else with the text of the refusal
-abbrev pub end_of : EditError → End
-end_of BudgetSpent = GivenUp budget_spent
-end_of error = Failed (error_text error)
+abbrev pub end_by_error : EditError → DoingEnd
+end_by_error BudgetSpent = GivenUp budget_spent
+end_by_error error = Failed (error_text error)
 
 abbrev pub in_world : Flat → Moment → Moment
 in_world world m = record m { world = world }
 
 -- one part after another, up to the first that doesn't end well
-abbrev pub after : End → Part → Part
-after Fine next m = next m
-after (Failed text) next m = ends (Failed text) m
-after (GivenUp text) next m = ends (GivenUp text) m
+abbrev pub next_after : DoingEnd → Part → Part
+next_after Fine next m = next m
+next_after (Failed text) next m = done_as (Failed text) m
+next_after (GivenUp text) next m = done_as (GivenUp text) m
 
 abbrev pub and_then : Outcome → Part → Outcome
-and_then o next = after o.end next o.moment
+and_then o next = next_after o.end next o.moment
 
 abbrev pub each : {A : Type 0} → (A → Part) → List A → Part
-each f [] m = ends Fine m
+each f [] m = done_as Fine m
 each f (x ∷ xs) m = and_then (f x m) (each f xs)
 
 -- a part that takes a unit first; without one the step is given up
 abbrev pub unit_of : ℕ → Part → Part
-unit_of zero part m = ends (GivenUp budget_spent) m
+unit_of zero part m = done_as (GivenUp budget_spent) m
 unit_of (suc left) part m = part (in_world (with_units left m.world) m)
 
 abbrev pub with_unit : Part → Part
 with_unit part m = unit_of (units_of m.world) part m
 
 -- a row, and what it asks for
-abbrev pub go_on : Go → Place → RowEnd → Part
+abbrev pub go_on : Go → DoingPlace → RowEnd → Part
 go_on go p end m = go p end.row (in_world end.world m)
 
 -- one command, which takes a unit
-abbrev pub run_command : Go → ℕ → Place → Command → Part
+abbrev pub run_command : Go → ℕ → DoingPlace → Command → Part
 run_command go who p command m = with_unit (λ n. go_on go p (row_command command who n.world) n) m
 
 -- the commands of a text, one after another up to the first error; or why the text has none
-abbrev pub run_read : Go → ℕ → Place → Result (List Command) EditError → Part
+abbrev pub run_read : Go → ℕ → DoingPlace → Result (List Command) EditError → Part
 run_read go who p (Ok commands) m = each (run_command go who p) commands m
-run_read go who p (Err error) m = ends (end_of error) m
+run_read go who p (Err error) m = done_as (end_by_error error) m
 
 -- a text as commands: it is read whole before the first one is run
-abbrev pub run_text : Go → ℕ → Place → List ℕ → Part
-run_text go who p text m = run_read go who p (commands_of text) m
+abbrev pub run_text : Go → ℕ → DoingPlace → List ℕ → Part
+run_text go who p text m = run_read go who p (commands_told text) m
 
 -- a part that is handed an answer, where that is of the kind that was asked for; else the answers don't fit
 abbrev pub taken_as : {A : Type 0} → Option A → (A → Part) → List Answered → Part
 taken_as (Some x) part later m = part x (record m { answers = later })
-taken_as None part later m = ends Fine (record m { fit = false })
+taken_as None part later m = done_as Fine (record m { fit = false })
 
 -- a part that is handed the next answer of the outside; with none left they don't fit either
 abbrev pub next_as : {A : Type 0} → (Answered → Option A) → (A → Part) → List Answered → Part
-next_as kind part [] m = ends Fine (record m { fit = false })
+next_as kind part [] m = done_as Fine (record m { fit = false })
 next_as kind part (answer ∷ later) m = taken_as (kind answer) part later m
 
 -- a moment behind more exchanges with the files
@@ -126,7 +126,7 @@ abbrev pub exchanging : List Exchange → Moment → Moment
 exchanging exchanges m = record m { exchanges = m.exchanges ++ exchanges }
 
 -- the row that goes on with an answer, behind what was exchanged with the files by it
-abbrev pub go_back : {A : Type 0} → Go → Place → (A → Flat → List Exchange) → (A → Flat → RowEnd) → A → Part
+abbrev pub go_back : {A : Type 0} → Go → DoingPlace → (A → Flat → List Exchange) → (A → Flat → RowEnd) → A → Part
 go_back go p exchange row answer m = go_on go p (row answer m.world) (exchanging (exchange answer m.world) m)
 
 -- what is exchanged with the files where a pattern is made, a file is read, and one is written
@@ -137,31 +137,31 @@ abbrev pub by_reading : List ℕ → FileRead → Flat → List Exchange
 by_reading name read flat = WasRead name read ∷ []
 
 abbrev pub by_writing : Saving → Put → Flat → List Exchange
-by_writing saving put flat = Written saving.file (bytes_of saving flat) put ∷ []
+by_writing saving put flat = Written saving.file (saved_bytes saving flat) put ∷ []
 
 -- the client is granted to leave
 abbrev pub granted : ℕ → Flat → Flat
 granted who flat = with_own who (λ o. record o { leaving = true }) flat
 
 -- what an ask leads to
-abbrev pub do_ask : Go → ℕ → Place → Ask → Part
-do_ask go who p Nothing m = ends Fine m
+abbrev pub do_ask : Go → ℕ → DoingPlace → Ask → Part
+do_ask go who p Nothing m = done_as Fine m
 do_ask go who p (Commands text) m = run_text go who p text m
 do_ask go who p (Make wanted) m = next_as (as_made (encode_utf8_all wanted.pattern)) (go_back go p by_making (λ made flat. row_finish wanted.then made who flat)) m.answers m
 do_ask go who p (Read name) m = next_as as_read (go_back go p (by_reading name) (λ read flat. row_read name read who flat)) m.answers m
 do_ask go who p (Write saving) m = next_as as_put (go_back go p (by_writing saving) (λ put flat. row_saved saving put who flat)) m.answers m
-do_ask go who p Leave m = ends Fine (in_world (granted who m.world) m)
+do_ask go who p Leave m = done_as Fine (in_world (granted who m.world) m)
 
 -- what comes after a row
-abbrev pub body : Go → ℕ → Place → Row → Part
-body go who p (Asks ask) m = do_ask go who p ask m
-body go who p (Fails text) m = ends (Failed text) m
-body go who p GivesUp m = ends (GivenUp budget_spent) m
+abbrev pub row_body : Go → ℕ → DoingPlace → Row → Part
+row_body go who p (Asks ask) m = do_ask go who p ask m
+row_body go who p (Fails text) m = done_as (Failed text) m
+row_body go who p GivesUp m = done_as (GivenUp budget_spent) m
 
 -- the same, nested at most so deep
 unfoldable pub do_within : ℕ → ℕ → Go
-do_within zero who p row m = ends (GivenUp budget_spent) m
-do_within (suc n) who p row m = body (do_within n who) who p row m
+do_within zero who p row m = done_as (GivenUp budget_spent) m
+do_within (suc n) who p row m = row_body (do_within n who) who p row m
 
 -- how deep a row may nest: each nesting has taken a unit, or is a later stage of its row
 abbrev pub depth_of : Row → Flat → ℕ
@@ -181,5 +181,5 @@ abbrev pub row_key : Key → ℕ → Flat → RowEnd
 row_key key who flat = row_in (mode_of who flat) key who flat
 
 -- the run of a key, which takes a unit
-abbrev pub strike : ℕ → Place → Key → Part
+abbrev pub strike : ℕ → DoingPlace → Key → Part
 strike who p key m = with_unit (λ n. go_on (Do who) p (row_key key who n.world) n) m

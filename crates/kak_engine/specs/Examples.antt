@@ -8,11 +8,11 @@ use Rattle.kak_world.specs.declared.ask.Saving.{Saving}
 use Rattle.kak_world.specs.declared.purpose.PatternUse.{PatternUse}
 use Rattle.kak_world.specs.Flat.{Flat}
 use Rattle.kak_world.specs.Rows.{Asks}
-use Rattle.command_set.specs.Files.{row_read, bytes_of, row_saved}
+use Rattle.command_set.specs.Files.{row_read, saved_bytes, row_saved}
 use Rattle.command_set.specs.Finishing.{row_finish}
 use Rattle.session_events.specs.declared.event.Answered.{Answered}
 use Rattle.session_events.specs.declared.event.Answered.TheVariants.{Read, NotThere, Wrote, WriteFailed, Built, Refused}
-use Rattle.kak_engine.specs.Doing.{Fine, ends, go_on, Do, top}
+use Rattle.kak_engine.specs.Doing.{Fine, done_as, go_on, Do, top}
 use Rattle.kak_engine.specs.Seen.{moment_of}
 
 pub record Examples : Type 0 where
@@ -26,9 +26,9 @@ pub record Examples : Type 0 where
       ≡ go_on (Do who) top (row_finish wanted.then None who flat) (moment_of [] later flat)
   -- with no answer, or one of another kind, the answers don't fit what was asked for
   pub wanting : (who : ℕ) (wanted : PatternUse) (flat : Flat)
-      → Do who top (Asks (Make wanted)) (moment_of [] [] flat) ≡ ends Fine (record { world = flat; answers = []; fit = false; exchanges = [] })
+      → Do who top (Asks (Make wanted)) (moment_of [] [] flat) ≡ done_as Fine (record { world = flat; answers = []; fit = false; exchanges = [] })
   pub another : (who : ℕ) (wanted : PatternUse) (flat : Flat) (later : List Answered)
-      → Do who top (Asks (Make wanted)) (moment_of [] (Wrote ∷ later) flat) ≡ ends Fine (record { world = flat; answers = Wrote ∷ later; fit = false; exchanges = [] })
+      → Do who top (Asks (Make wanted)) (moment_of [] (Wrote ∷ later) flat) ≡ done_as Fine (record { world = flat; answers = Wrote ∷ later; fit = false; exchanges = [] })
   -- a row that asks for a file goes on with what it was read as, which stands among what was exchanged with the files
   pub read : (who : ℕ) (name bytes : List ℕ) (flat : Flat) (later : List Answered)
       → Do who top (Asks (ToRead name)) (moment_of [] (Read bytes ∷ later) flat)
@@ -36,7 +36,7 @@ pub record Examples : Type 0 where
   -- and one that has a file written goes on with whether it was
   pub unwritten : (who : ℕ) (saving : Saving) (flat : Flat) (later : List Answered)
       → Do who top (Asks (Write saving)) (moment_of [] (WriteFailed ∷ later) flat)
-      ≡ go_on (Do who) top (row_saved saving put.Failed who flat) (moment_of (Written saving.file (bytes_of saving flat) put.Failed ∷ []) later flat)
+      ≡ go_on (Do who) top (row_saved saving put.Failed who flat) (moment_of (Written saving.file (saved_bytes saving flat) put.Failed ∷ []) later flat)
   -- what is answered where a file is read says nothing of one that is written
   pub not_written : (who : ℕ) (saving : Saving) (flat : Flat) (later : List Answered)
-      → Do who top (Asks (Write saving)) (moment_of [] (NotThere ∷ later) flat) ≡ ends Fine (record { world = flat; answers = NotThere ∷ later; fit = false; exchanges = [] })
+      → Do who top (Asks (Write saving)) (moment_of [] (NotThere ∷ later) flat) ≡ done_as Fine (record { world = flat; answers = NotThere ∷ later; fit = false; exchanges = [] })

@@ -14,11 +14,11 @@ use Rattle.session_events.specs.Legal.{Away, presence_from, is_here, IsLegal}
 use Rattle.kak_files.specs.Files.{Shelf}
 use Rattle.kak_world.specs.declared.world.TheConstants.{MAX_CLIENTS}
 use Rattle.kak_world.specs.Flat.{Flat, is_here as is_among, is_joined}
-use Rattle.kak_engine.specs.Steps.{run, output_of, exchanged, exchanges, is_full, AreAskedFor, AllAsked}
+use Rattle.kak_engine.specs.Steps.{run, output_of, exchanged, exchanges, is_session_full, AreAskedFor, AllAsked}
 use Rattle.kak_engine.specs.Honesty.{Outside, IsHonest, IsKept}
 
 -- an engine: its history, the number of entries that stood when it broke, if it did, how many it may have, and its outside
-pub record Held : Type 0 where
+pub record HeldEngine : Type 0 where
   pub history : List Entry
   pub mark : Option ℕ
   pub limit : ℕ
@@ -27,7 +27,7 @@ pub record Held : Type 0 where
 -- An engine that isn't broken has the world that its history leads to, in which those clients are, and have joined, that
 -- have come and not gone, and no more than there may be. What was exchanged with its files in its history is what led to
 -- what they hold. Its history is one that there can be.
-pub record Stands (flat : Flat) (history : List Entry) (mark : Option ℕ) (limit : ℕ) (shelf : Shelf) : Type 0 where
+pub record EngineStands (flat : Flat) (history : List Entry) (mark : Option ℕ) (limit : ℕ) (shelf : Shelf) : Type 0 where
   pub world : mark ≡ None → flat ≡ run history
   pub known : mark ≡ None → (who : ℕ) → is_joined who flat ≡ is_here (presence_from who Away history)
   pub here : mark ≡ None → (who : ℕ) → is_among who flat.clients ≡ is_here (presence_from who Away history)
@@ -47,7 +47,7 @@ refused_by history limit who event =
     if not (is_join event) && not (is_here (presence_from who Away history)) then Some (NoClient who)
     else (if is_join event && has_joined who history then Some (Joined who)
     else (if not (is_leave event) && nat_le limit (length history) then Some HistoryFull
-    else (if is_join event && is_full (run history) then Some Full
+    else (if is_join event && is_session_full (run history) then Some Full
     else None)))
 
 -- why an event of a client is refused, if it is; a broken engine refuses all
@@ -55,15 +55,15 @@ abbrev pub refused_at : Option ℕ → List Entry → ℕ → ℕ → Event → 
 refused_at (Some at) history limit who event = Some (Broken at)
 refused_at None history limit who event = refused_by history limit who event
 
-abbrev pub refusal_of : Held → ℕ → Event → Option StepFault
-refusal_of held who event = refused_at held.mark held.history held.limit who event
+abbrev pub event_refusal : HeldEngine → ℕ → Event → Option StepFault
+event_refusal held who event = refused_at held.mark held.history held.limit who event
 
 -- the mark after a step: want of memory sets one that isn't set
 abbrev pub marked_by : Option ℕ → ℕ → Option ℕ
 marked_by None count = Some count
 marked_by (Some at) count = Some at
 
-abbrev pub marked_after : Result Output StepFault → Held → Option ℕ
+abbrev pub marked_after : Result Output StepFault → HeldEngine → Option ℕ
 marked_after (Err NoMemory) held = marked_by held.mark (length held.history)
 marked_after _ held = held.mark
 
@@ -79,7 +79,7 @@ CanRun _ who flat = is_joined who flat ≡ true
 
 -- An event of a client was taken: its entry was added with what the outside answered, which is what was asked for, and the
 -- output is what it gives on the world that the history led to. The outside was honest in it.
-pub record Takes (who : ℕ) (event : Event) (old new : Held) (output : Output) : Type 0 where
+pub record TakesEvent (who : ℕ) (event : Event) (old new : HeldEngine) (output : Output) : Type 0 where
   pub answers : List Answered
   pub keeps : new.history ≡ old.history ++ entry_with who event answers ∷ []
   pub gives : output ≡ output_of who event answers (run old.history)

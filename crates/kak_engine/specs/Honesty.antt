@@ -2,7 +2,7 @@
 use Rattle.std.specs.Prelude.{◌≡◌, ◌≤◌, ◌-◌, ◌^◌, ℕ, Bool, true, false, List, min, Some, None}
 use Rattle.std.specs.declared.option.Option.{Option}
 use Rattle.std.specs.List.{list_any}
-use Rattle.kak_files.specs.Files.{Shelf, Told}
+use Rattle.kak_files.specs.Files.{Shelf, ToldFiles}
 use Rattle.kak_files.specs.Exchanges.{Exchange, Leads, Passed}
 use Rattle.regex_ports.specs.Making.{Rose}
 use Rattle.session_events.specs.declared.event.Answered.{Answered}
@@ -19,12 +19,12 @@ abbrev pub outside_of : Shelf → ℕ → Outside
 outside_of shelf refusals = record { shelf = shelf; refusals = refusals }
 
 -- what files held when they were made, as what they hold
-abbrev pub at_opening : Option Told → Option Told
+abbrev pub at_opening : Option ToldFiles → Option ToldFiles
 at_opening None = None
 at_opening (Some told) = Some (record told { held = told.opening })
 
 -- the files hold what they held when they were made, where that is told
-abbrev pub IsUntouched : Option Told → Type 0
+abbrev pub IsUntouched : Option ToldFiles → Type 0
 IsUntouched told = told ≡ at_opening told
 
 -- an answer is that a pattern was refused
@@ -37,9 +37,9 @@ abbrev pub Stood : ℕ → ℕ → Type 0
 Stood before now = min before (2 ^ 64 - 1) ≤ now
 
 -- the count of refusals, by whether a pattern was refused: it rose where one was, and fell nowhere
-abbrev pub Counts : Bool → ℕ → ℕ → Type 0
-Counts true before now = Rose before now
-Counts false before now = Stood before now
+abbrev pub CountsRefusal : Bool → ℕ → ℕ → Type 0
+CountsRefusal true before now = Rose before now
+CountsRefusal false before now = Stood before now
 
 -- some exchanges were all that passed between two moments of files; which they were isn't told
 abbrev pub SomePassed : Shelf → Shelf → Type 0
@@ -47,7 +47,7 @@ SomePassed before now = (exchanges : List Exchange) × Passed exchanges before n
 
 -- The outside is the same still: the maker's count has not fallen, and the files are as some exchanges left them, which
 -- leave what they held when they were made.
-pub record Stays (before now : Outside) : Type 0 where
+pub record OutsideStays (before now : Outside) : Type 0 where
   pub refusals : Stood before.refusals now.refusals
   pub files : SomePassed before.shelf now.shelf
 
@@ -55,7 +55,7 @@ pub record Stays (before now : Outside) : Type 0 where
 -- is all that passed there: they were read and written so, and in that order, and their count rose once for each call that
 -- failed.
 pub record IsHonest (answers : List Answered) (exchanges : List Exchange) (before now : Outside) : Type 0 where
-  pub refusals : Counts (list_any is_refused answers) before.refusals now.refusals
+  pub refusals : CountsRefusal (list_any is_refused answers) before.refusals now.refusals
   pub files : Passed exchanges before.shelf now.shelf
 
 -- Some exchanges led from what the files held when they were made to what they hold, where that is told: each read was

@@ -6,12 +6,12 @@ use Rattle.kak_world.specs.Flat.{Flat, is_here, is_joined}
 use Rattle.kak_world.specs.Rows.{Row}
 use Rattle.session_events.specs.declared.event.Event.{Event}
 use Rattle.session_events.specs.declared.event.Answered.{Answered}
-use Rattle.kak_engine.specs.Doing.{Moment, Place, depth_of, do_within, Do}
+use Rattle.kak_engine.specs.Doing.{Moment, DoingPlace, depth_of, do_within, Do}
 use Rattle.kak_engine.specs.Steps.{after_event, after_key}
 
 -- with a bound above how deep it may nest, a row is done as deep as it goes: only want of units gives a step up
 abbrev pub BoundEndsNoStep : Type 0
-BoundEndsNoStep = (n who : ℕ) (p : Place) (row : Row) (m : Moment) → depth_of row m.world < n → do_within n who p row m ≡ Do who p row m
+BoundEndsNoStep = (n who : ℕ) (p : DoingPlace) (row : Row) (m : Moment) → depth_of row m.world < n → do_within n who p row m ≡ Do who p row m
 
 -- no key makes a client come or go, its own or another one, and each that had joined has joined still
 abbrev pub KeysKeepClients : Type 0
@@ -23,5 +23,5 @@ pub record StaysThere (k : ℕ) (old new : Flat) : Type 0 where
   pub joined : is_joined k old ≡ true → is_joined k new ≡ true
 
 -- no event of a client makes another one come or go
-abbrev pub OthersStay : Type 0
-OthersStay = (who k : ℕ) (event : Event) (answers : List Answered) (flat : Flat) → who ≢ k → StaysThere k flat (after_event who event answers flat)
+abbrev pub OtherClientsStay : Type 0
+OtherClientsStay = (who k : ℕ) (event : Event) (answers : List Answered) (flat : Flat) → who ≢ k → StaysThere k flat (after_event who event answers flat)

@@ -5,13 +5,13 @@ use Rattle.session_events.specs.declared.event.Entry.{Entry}
 use Rattle.session_events.specs.Entries.{others_of}
 use Rattle.session_events.specs.Seats.{Seated}
 use Rattle.kak_engine.specs.Steps.{exchanges, answers_in}
-use Rattle.kak_engine.specs.Honesty.{Outside, Stays, IsHonest}
-use Rattle.kak_engine.specs.Held.{Held}
+use Rattle.kak_engine.specs.Honesty.{Outside, OutsideStays, IsHonest}
+use Rattle.kak_engine.specs.Held.{HeldEngine}
 
 -- The seats of an engine.
 pub record EngineSeated : Type 0 where
   -- what the engine holds
-  pub engine : Held
+  pub engine : HeldEngine
   -- the client that they are turned to
   pub who : ℕ
   -- the outside as it was when they were made
@@ -42,4 +42,4 @@ pub record WasHonest (history : List Entry) (mark : Option ℕ) (first now : Out
   pub behind : Outside
   pub honest : IsHonest (answers_in history) (exchanges history) first behind
   pub alone : mark ≡ None → now ≡ behind
-  pub stays : Stays behind now
+  pub stays : OutsideStays behind now

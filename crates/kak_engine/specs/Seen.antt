@@ -7,11 +7,11 @@ use Rattle.kak_world.specs.Flat.{Flat}
 use Rattle.session_events.specs.declared.event.Answered.{Answered}
 use Rattle.kak_engine.specs.declared.doing.Ending.{Ending}
 use Rattle.kak_engine.specs.declared.doing.Ending.TheVariants as code
-use Rattle.kak_engine.specs.Doing.{End, Fine, Failed, GivenUp, Moment, Part, budget_spent}
-use Rattle.kak_engine.specs.Honesty.{Outside, Stays, IsHonest}
+use Rattle.kak_engine.specs.Doing.{DoingEnd, Fine, Failed, GivenUp, Moment, Part, budget_spent}
+use Rattle.kak_engine.specs.Honesty.{Outside, OutsideStays, IsHonest}
 
 -- how something ended
-abbrev pub end_seen : Ending → End
+abbrev pub end_seen : Ending → DoingEnd
 end_seen code.Fine = Fine
 end_seen (code.Failed text) = Failed text
 end_seen code.GivenUp = GivenUp budget_spent
@@ -31,7 +31,7 @@ under_way world had outside = record { world = world; had = had; outside = outsi
 
 -- A part was done: the outside answered what it was asked for and nothing else, whatever answers are still to come, and
 -- was honest in it.
-pub record Does (part : Part) (old new : UnderWay) (end : End) : Type 0 where
+pub record Does (part : Part) (old new : UnderWay) (end : DoingEnd) : Type 0 where
   pub used : List Answered
   pub exchanged : List Exchange
   pub kept : new.had ≡ old.had ++ used
@@ -39,6 +39,6 @@ pub record Does (part : Part) (old new : UnderWay) (end : End) : Type 0 where
   pub honest : IsHonest used exchanged old.outside new.outside
 
 -- unless memory was wanting, the part was done and ended as was answered; the outside is the same still
-abbrev pub Ends : Result Ending AllocError → Part → UnderWay → UnderWay → Type 0
-Ends (Err e) part old new = Stays old.outside new.outside
-Ends (Ok ending) part old new = Does part old new (end_seen ending)
+abbrev pub PartEnds : Result Ending AllocError → Part → UnderWay → UnderWay → Type 0
+PartEnds (Err e) part old new = OutsideStays old.outside new.outside
+PartEnds (Ok ending) part old new = Does part old new (end_seen ending)

@@ -4,9 +4,9 @@ use Rattle.kak_files.specs.Exchanges.{Exchange}
 use Rattle.key_names.specs.declared.key.Key.{Key}
 use Rattle.kak_world.specs.declared.own.Mode.{Mode}
 use Rattle.kak_world.specs.declared.own.Mode.TheVariants.{Normal, Insert, Prompt}
-use Rattle.kak_world.specs.declared.own.Status.TheVariants.{Quiet, Refused}
+use Rattle.kak_world.specs.declared.own.StatusText.TheVariants.{Quiet, Refused}
 use Rattle.kak_world.specs.declared.world.TheConstants.{MAX_CLIENTS}
-use Rattle.kak_world.specs.Flat.{Flat, opening, joined_by, left_by, mode_of, is_leaving, with_own, with_units}
+use Rattle.kak_world.specs.Flat.{Flat, opening, joined_by, left_by_client, mode_of, is_client_leaving, with_own, with_units}
 use Rattle.kak_world.specs.Changing.{commits}
 use Rattle.draw_model.specs.Drawings.{drawing_of, after_following}
 use Rattle.session_events.specs.declared.event.Event.{Event}
@@ -14,14 +14,14 @@ use Rattle.session_events.specs.declared.event.Event.TheVariants.{Join, Key as S
 use Rattle.session_events.specs.declared.event.Answered.{Answered}
 use Rattle.session_events.specs.declared.event.Entry.{Entry}
 use Rattle.session_events.specs.declared.event.Output.{Output}
-use Rattle.kak_engine.specs.Doing.{End, Fine, Failed, GivenUp, Moment, Outcome, strike, top}
+use Rattle.kak_engine.specs.Doing.{DoingEnd, Fine, Failed, GivenUp, Moment, Outcome, strike, top}
 
 -- a client is told why its key was refused
 abbrev pub refused : ℕ → List ℕ → Flat → Flat
 refused who text flat = with_own who (λ o. record o { status = Refused text }) flat
 
 -- a client's status after its key: what went wrong, if anything did
-abbrev pub told : ℕ → End → Flat → Flat
+abbrev pub told : ℕ → DoingEnd → Flat → Flat
 told who Fine flat = flat
 told who (Failed text) flat = refused who text flat
 told who (GivenUp text) flat = refused who text flat
@@ -44,8 +44,8 @@ abbrev pub group_ended : ℕ → Flat → Flat
 group_ended who flat = ends_group (mode_of who flat) who flat
 
 -- the world when a key ends, with no units left between steps
-abbrev pub ended : ℕ → Outcome → Flat
-ended who o = with_units 0 (group_ended who (told who o.end o.moment.world))
+abbrev pub key_ended : ℕ → Outcome → Flat
+key_ended who o = with_units 0 (group_ended who (told who o.end o.moment.world))
 
 -- the run of a key that its client's step began
 abbrev pub struck : ℕ → Key → List Answered → Flat → Outcome
@@ -54,12 +54,12 @@ struck who key answers flat = strike who top key (first_moment who flat answers)
 -- the world after a key; once a client was granted to leave, its keys do nothing
 unfoldable pub after_key : ℕ → Key → List Answered → Flat → Flat
 after_key who key answers flat =
-    if is_leaving who flat then flat else ended who (struck who key answers flat)
+    if is_client_leaving who flat then flat else key_ended who (struck who key answers flat)
 
 -- what is exchanged with the files by a key, in order
 unfoldable pub exchanged_by_key : ℕ → Key → List Answered → Flat → List Exchange
 exchanged_by_key who key answers flat =
-    if is_leaving who flat then [] else (struck who key answers flat).moment.exchanges
+    if is_client_leaving who flat then [] else (struck who key answers flat).moment.exchanges
 
 -- what is exchanged with the files by an event; only a key has them read or written
 abbrev pub exchanged : ℕ → Event → List Answered → Flat → List Exchange
@@ -75,12 +75,12 @@ abbrev pub after_event : ℕ → Event → List Answered → Flat → Flat
 after_event who Join answers flat = joined_by who flat
 after_event who (Struck key) answers flat = after_key who key answers flat
 after_event who (Refresh asked) answers flat = noted_drawn who (after_following who flat)
-after_event who Leave answers flat = left_by who flat
+after_event who Leave answers flat = left_by_client who flat
 
 -- what an event gives its client: a drawing where it is a refresh, and whether the client may leave from now on
 abbrev pub output_of : ℕ → Event → List Answered → Flat → Output
 output_of who Join answers flat = record { drawing = None; leaving = false }
-output_of who (Struck key) answers flat = record { drawing = None; leaving = is_leaving who (after_key who key answers flat) && not (is_leaving who flat) }
+output_of who (Struck key) answers flat = record { drawing = None; leaving = is_client_leaving who (after_key who key answers flat) && not (is_client_leaving who flat) }
 output_of who (Refresh asked) answers flat = record { drawing = Some (drawing_of who (after_following who flat)); leaving = false }
 output_of who Leave answers flat = record { drawing = None; leaving = false }
 
@@ -109,8 +109,8 @@ answers_in [] = []
 answers_in (entry ∷ entries) = entry.answers ++ answers_in entries
 
 -- whether no further client may join
-abbrev pub is_full : Flat → Bool
-is_full flat = nat_le MAX_CLIENTS (length flat.clients)
+abbrev pub is_session_full : Flat → Bool
+is_session_full flat = nat_le MAX_CLIENTS (length flat.clients)
 
 -- What the outside answered is what it was asked for: no answer is left, and each was of the kind that was asked for.
 pub record AreUsed (m : Moment) : Type 0 where
@@ -124,7 +124,7 @@ AreAskedByKey false who key answers flat = AreUsed (struck who key answers flat)
 
 -- the same of an event; nothing but a key asks the outside for anything
 abbrev pub AreAskedFor : ℕ → Event → List Answered → Flat → Type 0
-AreAskedFor who (Struck key) answers flat = AreAskedByKey (is_leaving who flat) who key answers flat
+AreAskedFor who (Struck key) answers flat = AreAskedByKey (is_client_leaving who flat) who key answers flat
 AreAskedFor who _ answers flat = answers ≡ []
 
 -- the same of each entry of a history, on the world that the entries before it lead to
@@ -141,4 +141,4 @@ given_by before entry = output_of entry.who entry.event entry.answers (run befor
 
 -- whether no further client may come, behind some entries
 abbrev pub crowded_by : List Entry → Bool
-crowded_by history = is_full (run history)
+crowded_by history = is_session_full (run history)

@@ -4,9 +4,9 @@
 ghost use Rattle.std.specs.Prelude.{◌≡◌, ◌∷◌, ◌++◌, [], encode_utf8_all, IfOk, OnErr};
 ghost use Rattle.kak_files.specs.Exchanges.{Written};
 ghost use Rattle.regex_ports.specs.Making.{IfBuilt};
-ghost use Rattle.command_set.specs.Files.{bytes_of};
+ghost use Rattle.command_set.specs.Files.{saved_bytes};
 ghost use Rattle.kak_engine.specs.Answering.{made_told, read_told, put_told};
-ghost use Rattle.kak_engine.specs.Honesty.{Stays, IsHonest};
+ghost use Rattle.kak_engine.specs.Honesty.{OutsideStays, IsHonest};
 
 use crate::outside::Outside;
 use command_set::bytes_saved;
@@ -60,7 +60,7 @@ pub(crate) fn make<F: Files, M: PatternMaker>(
     ensures built { IfOk result (λ made. IfBuilt made (λ p. M.P.source p ≡ encode_utf8_all pattern.now)) }
     ensures honest { IfOk result (λ made. IsHonest (made_told made ∷ []) [] outside.old outside.new) }
     ensures kept { IfOk result (λ made. answers.new ≡ answers.old ++ made_told made ∷ []) }
-    ensures err { OnErr result (Stays outside.old outside.new) }
+    ensures err { OnErr result (OutsideStays outside.old outside.new) }
 {
     let text = string_of(alloc, pattern)?;
     let made = outside.make(alloc, text.as_str())?;
@@ -76,9 +76,9 @@ pub(crate) fn write<F: Files, M: PatternMaker>(
     answers: &mut Answers,
     saving: &Saving,
 ) -> Result<Put, AllocError>
-    ensures honest { IfOk result (λ put. IsHonest (put_told put ∷ []) (Written saving.now.file (bytes_of saving.now world.now.flat) put ∷ []) outside.old outside.new) }
+    ensures honest { IfOk result (λ put. IsHonest (put_told put ∷ []) (Written saving.now.file (saved_bytes saving.now world.now.flat) put ∷ []) outside.old outside.new) }
     ensures kept { IfOk result (λ put. answers.new ≡ answers.old ++ put_told put ∷ []) }
-    ensures err { OnErr result (Stays outside.old outside.new) }
+    ensures err { OnErr result (OutsideStays outside.old outside.new) }
 {
     let bytes = bytes_saved(alloc, world, saving)?;
     let put = outside.write(saving.file.as_str(), bytes.as_slice());

@@ -3,10 +3,10 @@
 
 ghost use Rattle.std.specs.Prelude.{◌≡◌, true, IfOk, IsErr, OnOk};
 ghost use Rattle.kak_world.specs.Flat.{Flat, is_joined};
-ghost use Rattle.kak_world.specs.Rows.{Gives, RowEnd, Asks};
+ghost use Rattle.kak_world.specs.Rows.{GivesRow, RowEnd, Asks};
 ghost use Rattle.kak_world.specs.declared.ask.Ask.TheVariants.{Make, Read, Write};
-ghost use Rattle.kak_engine.specs.Doing.{Do, each, strike as strike_part, granted, row_key, run_text, run_command as one, go_on as rest_of, end_of, top};
-ghost use Rattle.kak_engine.specs.Seen.{Ends, end_seen, under_way};
+ghost use Rattle.kak_engine.specs.Doing.{Do, each, strike as strike_part, granted, row_key, run_text, run_command as one, go_on as rest_of, end_by_error, top};
+ghost use Rattle.kak_engine.specs.Seen.{PartEnds, end_seen, under_way};
 
 use crate::asking::{make, read_told, write};
 use crate::outside::Outside;
@@ -37,7 +37,7 @@ pub enum Ending {
 // The row of a key, by the mode of its client.
 fn run_row(alloc: Global, world: &mut World, who: u32, key: Key) -> Result<Ask, EditError>
     requires { is_joined who world.old.flat ≡ true }
-    ensures row { Gives result world.new.flat (row_key key who world.old.flat) }
+    ensures row { GivesRow result world.new.flat (row_key key who world.old.flat) }
 {
     let mode = world.own(who).mode;
     match mode {
@@ -49,7 +49,7 @@ fn run_row(alloc: Global, world: &mut World, who: u32, key: Key) -> Result<Ask, 
 
 // How something ends that was refused.
 fn ending_of(alloc: Global, error: EditError) -> Result<Ending, AllocError>
-    ensures ends { IfOk result (λ ending. end_seen ending ≡ end_of error) }
+    ensures ends { IfOk result (λ ending. end_seen ending ≡ end_by_error error) }
     ensures memory { error ≡ EditError.NoMemory → IsErr result }
 {
     match error {
@@ -77,7 +77,7 @@ fn go_on<F: Files, M: PatternMaker>(
     row: Result<Ask, EditError>,
 ) -> Result<Ending, AllocError>
     requires { OnOk row (is_joined who world.old.flat ≡ true) }
-    ensures does { (before : Flat) (end : RowEnd) → Gives row world.old.flat end → Ends result (λ m. rest_of (Do who) top end m) (under_way before answers.old outside.old) (under_way world.new.flat answers.new outside.new) }
+    ensures does { (before : Flat) (end : RowEnd) → GivesRow row world.old.flat end → PartEnds result (λ m. rest_of (Do who) top end m) (under_way before answers.old outside.old) (under_way world.new.flat answers.new outside.new) }
 {
     match row {
         Ok(ask) => do_ask(alloc, world, outside, answers, who, ask),
@@ -96,7 +96,7 @@ fn do_ask<F: Files, M: PatternMaker>(
     ask: Ask,
 ) -> Result<Ending, AllocError>
     requires { is_joined who world.old.flat ≡ true }
-    ensures does { Ends result (λ m. Do who top (Asks ask) m) (under_way world.old.flat answers.old outside.old) (under_way world.new.flat answers.new outside.new) }
+    ensures does { PartEnds result (λ m. Do who top (Asks ask) m) (under_way world.old.flat answers.old outside.old) (under_way world.new.flat answers.new outside.new) }
 {
     match ask {
         Ask::Nothing => Ok(Ending::Fine),
@@ -122,7 +122,7 @@ fn make_and_use<F: Files, M: PatternMaker>(
     wanted: PatternUse,
 ) -> Result<Ending, AllocError>
     requires { is_joined who world.old.flat ≡ true }
-    ensures does { Ends result (λ m. Do who top (Asks (Make wanted)) m) (under_way world.old.flat answers.old outside.old) (under_way world.new.flat answers.new outside.new) }
+    ensures does { PartEnds result (λ m. Do who top (Asks (Make wanted)) m) (under_way world.old.flat answers.old outside.old) (under_way world.new.flat answers.new outside.new) }
 {
     let made = make(alloc, outside, answers, wanted.pattern.as_slice())?;
     let row = finish(alloc, world, who, wanted.then, made);
@@ -140,7 +140,7 @@ fn read_and_show<F: Files, M: PatternMaker>(
     name: Utf8Text,
 ) -> Result<Ending, AllocError>
     requires { is_joined who world.old.flat ≡ true }
-    ensures does { Ends result (λ m. Do who top (Asks (Read name)) m) (under_way world.old.flat answers.old outside.old) (under_way world.new.flat answers.new outside.new) }
+    ensures does { PartEnds result (λ m. Do who top (Asks (Read name)) m) (under_way world.old.flat answers.old outside.old) (under_way world.new.flat answers.new outside.new) }
 {
     let read = outside.read(alloc, name.as_str())?;
     let row = open_read(alloc, world, who, name, &read);
@@ -159,7 +159,7 @@ fn write_and_note<F: Files, M: PatternMaker>(
     saving: Saving,
 ) -> Result<Ending, AllocError>
     requires { is_joined who world.old.flat ≡ true }
-    ensures does { Ends result (λ m. Do who top (Asks (Write saving)) m) (under_way world.old.flat answers.old outside.old) (under_way world.new.flat answers.new outside.new) }
+    ensures does { PartEnds result (λ m. Do who top (Asks (Write saving)) m) (under_way world.old.flat answers.old outside.old) (under_way world.new.flat answers.new outside.new) }
 {
     let put = write(alloc, world, outside, answers, &saving)?;
     let row = note_saved(alloc, world, who, saving, put);
@@ -177,7 +177,7 @@ fn run_one<F: Files, M: PatternMaker>(
     command: &Command,
 ) -> Result<Ending, AllocError>
     requires { is_joined who world.old.flat ≡ true }
-    ensures does { Ends result (λ m. one (Do who) who top command.now m) (under_way world.old.flat answers.old outside.old) (under_way world.new.flat answers.new outside.new) }
+    ensures does { PartEnds result (λ m. one (Do who) who top command.now m) (under_way world.old.flat answers.old outside.old) (under_way world.new.flat answers.new outside.new) }
 {
     if !world.take_unit() {
         return Ok(Ending::GivenUp);
@@ -197,7 +197,7 @@ fn run_each<F: Files, M: PatternMaker>(
     commands: &[Command],
 ) -> Result<Ending, AllocError>
     requires { is_joined who world.old.flat ≡ true }
-    ensures does { Ends result (λ m. each (one (Do who) who top) commands.now m) (under_way world.old.flat answers.old outside.old) (under_way world.new.flat answers.new outside.new) }
+    ensures does { PartEnds result (λ m. each (one (Do who) who top) commands.now m) (under_way world.old.flat answers.old outside.old) (under_way world.new.flat answers.new outside.new) }
 {
     for command in commands {
         match run_one(alloc, world, outside, answers, who, command)? {
@@ -220,7 +220,7 @@ fn run_text<F: Files, M: PatternMaker>(
     text: &[char],
 ) -> Result<Ending, AllocError>
     requires { is_joined who world.old.flat ≡ true }
-    ensures does { Ends result (λ m. run_text (Do who) who top text.now m) (under_way world.old.flat answers.old outside.old) (under_way world.new.flat answers.new outside.new) }
+    ensures does { PartEnds result (λ m. run_text (Do who) who top text.now m) (under_way world.old.flat answers.old outside.old) (under_way world.new.flat answers.new outside.new) }
 {
     match read(alloc, text) {
         Ok(commands) => run_each(alloc, world, outside, answers, who, commands.as_slice()),
@@ -239,7 +239,7 @@ pub fn strike<F: Files, M: PatternMaker>(
     key: Key,
 ) -> Result<Ending, AllocError>
     requires { is_joined who world.old.flat ≡ true }
-    ensures does { Ends result (λ m. strike_part who top key m) (under_way world.old.flat answers.old outside.old) (under_way world.new.flat answers.new outside.new) }
+    ensures does { PartEnds result (λ m. strike_part who top key m) (under_way world.old.flat answers.old outside.old) (under_way world.new.flat answers.new outside.new) }
     ensures joined { OnOk result (is_joined who world.new.flat ≡ true) }
 {
     if !world.take_unit() {

@@ -2,13 +2,13 @@
 #![tactic(auto, using(kak_world::proofs::WorldLaws::world_laws, crate::proofs::KeepingLaws::joined_key))]
 
 ghost use Rattle.std.specs.Prelude.{◌≡◌, ◌<◌, ◌≤◌, ◌^◌, [], ◌∷◌, ◌++◌, length, true, None, Some, Err, IfOk, IfErr, IfSome, OnErr, OnOk, IsOk, false, ◌&&◌, ◌+◌, not, vec_len, vec_capacity};
-ghost use Rattle.kak_world.specs.Flat.{is_here, is_joined, is_leaving};
+ghost use Rattle.kak_world.specs.Flat.{is_here, is_joined, is_client_leaving};
 ghost use Rattle.kak_world.specs.Settled.{AllListsSettled};
 ghost use Rattle.kak_world.specs.declared.world.TheConstants.{MAX_CLIENTS};
 ghost use Rattle.kak_engine.specs.Steps.{after_key, after_event, output_of, exchanged, exchanges, run, begun, told, refused, group_ended, noted_drawn, AreAskedFor, AllAsked};
 ghost use Rattle.kak_engine.specs.Seen.{end_seen};
-ghost use Rattle.kak_engine.specs.Honesty.{outside_of, IsUntouched, Stays, IsHonest, IsKept};
-ghost use Rattle.kak_engine.specs.Held.{refusal_of, refused_by, marked_after, marked_by, CanRun, Takes};
+ghost use Rattle.kak_engine.specs.Honesty.{outside_of, IsUntouched, OutsideStays, IsHonest, IsKept};
+ghost use Rattle.kak_engine.specs.Held.{event_refusal, refused_by, marked_after, marked_by, CanRun, TakesEvent};
 ghost use Rattle.session_events.specs.declared.event.Event.TheVariants.{Leave, Key as Struck};
 ghost use Rattle.session_events.specs.declared.fault.StepFault.TheVariants.{NoMemory};
 ghost use Rattle.session_events.specs.Entries.{entry_of, is_join, is_leave, has_joined};
@@ -21,7 +21,7 @@ use draw_model::{draw, follow_cursor};
 use drawings::Drawing;
 use kak_files::Files;
 use kak_text::Chars;
-use kak_world::{BUDGET_SPENT, MAX_CLIENTS, Mode, Status, World};
+use kak_world::{BUDGET_SPENT, MAX_CLIENTS, Mode, StatusText, World};
 use key_names::Key;
 use regex_ports::PatternMaker;
 use session_events::{Answers, Entry, Event, Output, StepFault, is_join, is_leave};
@@ -48,13 +48,13 @@ pub struct Engine<F: Files, M: PatternMaker> {
 
 impl<F: Files, M: PatternMaker> Model for Engine<F, M> {
     ghost use Rattle.std.specs.Prelude.{vec_len, vec_capacity};
-    ghost use Rattle.kak_engine.specs.Held.{Held, Stands, KeepsPlaces};
+    ghost use Rattle.kak_engine.specs.Held.{HeldEngine, EngineStands, KeepsPlaces};
 
-    ghost Value = { Held };
+    ghost Value = { HeldEngine };
 
     ghost view = { λ e. record { history = e.history.items; mark = e.mark; limit = e.limit; outside = e.outside } };
 
-    ghost invariant = { λ e. Stands e.world.flat e.history.items e.mark e.limit e.outside.shelf × KeepsPlaces e.mark e.world.flat (vec_len e.history) (vec_capacity e.history) };
+    ghost invariant = { λ e. EngineStands e.world.flat e.history.items e.mark e.limit e.outside.shelf × KeepsPlaces e.mark e.world.flat (vec_len e.history) (vec_capacity e.history) };
 }
 
 // Tells a client why its key was refused.
@@ -62,7 +62,7 @@ fn refuse(world: &mut World, who: u32, text: Chars)
     requires { is_joined who world.old.flat ≡ true }
     ensures { world.new.flat ≡ refused who text world.old.flat }
 {
-    world.own_mut(who).status = Status::Refused(text);
+    world.own_mut(who).status = StatusText::Refused(text);
 }
 
 // Tells a client what went wrong with its key, if anything did.
@@ -99,7 +99,7 @@ fn begin(world: &mut World, who: u32)
     requires { is_joined who world.old.flat ≡ true }
     ensures { world.new.flat ≡ begun who world.old.flat }
 {
-    world.own_mut(who).status = Status::Quiet;
+    world.own_mut(who).status = StatusText::Quiet;
     world.set_units(4096);
 }
 
@@ -113,12 +113,12 @@ fn run_struck<F: Files, M: PatternMaker>(
     key: Key,
 ) -> Result<(), AllocError>
     requires joined { is_joined who world.old.flat ≡ true }
-    requires stays { is_leaving who world.old.flat ≡ false }
+    requires stays { is_client_leaving who world.old.flat ≡ false }
     requires fresh { answers.old ≡ [] }
     ensures leads { OnOk result (world.new.flat ≡ after_key who key answers.new world.old.flat) }
     ensures asked { OnOk result (AreAskedFor who (Struck key) answers.new world.old.flat) }
     ensures honest { OnOk result (IsHonest answers.new (exchanged who (Struck key) answers.new world.old.flat) outside.old outside.new) }
-    ensures err { OnErr result (Stays outside.old outside.new) }
+    ensures err { OnErr result (OutsideStays outside.old outside.new) }
 {
     begin(world, who);
     let ending = strike(alloc, world, outside, answers, who, key)?;
@@ -140,10 +140,10 @@ fn run_key<F: Files, M: PatternMaker>(
     requires joined { is_joined who world.old.flat ≡ true }
     requires fresh { answers.old ≡ [] }
     ensures leads { OnOk result (world.new.flat ≡ after_key who key answers.new world.old.flat) }
-    ensures leaving { IfOk result (λ leaving. leaving ≡ (is_leaving who (after_key who key answers.new world.old.flat) && not (is_leaving who world.old.flat))) }
+    ensures leaving { IfOk result (λ leaving. leaving ≡ (is_client_leaving who (after_key who key answers.new world.old.flat) && not (is_client_leaving who world.old.flat))) }
     ensures asked { OnOk result (AreAskedFor who (Struck key) answers.new world.old.flat) }
     ensures honest { OnOk result (IsHonest answers.new (exchanged who (Struck key) answers.new world.old.flat) outside.old outside.new) }
-    ensures err { OnErr result (Stays outside.old outside.new) }
+    ensures err { OnErr result (OutsideStays outside.old outside.new) }
 {
     let own = world.own(who);
     if own.leaving {
@@ -182,7 +182,7 @@ fn run_event<F: Files, M: PatternMaker>(
     ensures asked { OnOk result (AreAskedFor who event answers.new world.old.flat) }
     ensures honest { OnOk result (IsHonest answers.new (exchanged who event answers.new world.old.flat) outside.old outside.new) }
     ensures joined { OnOk result (is_join event ≡ true → is_joined who world.new.flat ≡ true) }
-    ensures err { OnErr result (Stays outside.old outside.new) }
+    ensures err { OnErr result (OutsideStays outside.old outside.new) }
 {
     match event {
         Event::Join => {
@@ -277,7 +277,7 @@ fn run_with_places<F: Files, M: PatternMaker>(
     ensures joined { OnOk result (is_join event ≡ true → is_joined who world.new.flat ≡ true) }
     ensures places { OnOk result (vec_len history.new + 1 + length world.new.flat.clients ≤ vec_capacity history.new) }
     ensures same { history.new.items ≡ history.old.items }
-    ensures err { OnErr result (Stays outside.old outside.new) }
+    ensures err { OnErr result (OutsideStays outside.old outside.new) }
 {
     let output = run_event(alloc, world, outside, answers, who, event)?;
     history.reserve(1 + world.client_count())?;
@@ -364,7 +364,7 @@ impl<F: Files, M: PatternMaker> Engine<F, M> {
 
     // Why an event of a client is refused, if it is.
     fn refusal(&self, who: u32, event: Event) -> Option<StepFault>
-        ensures refused { result ≡ refusal_of self.now who event }
+        ensures refused { result ≡ event_refusal self.now who event }
         ensures legal { IsLegal self.now.limit self.now.history }
     {
         if let Some(at) = self.mark {
@@ -375,11 +375,11 @@ impl<F: Files, M: PatternMaker> Engine<F, M> {
 
     // Runs an event that is not refused, and keeps its entry. It can't fail where a client leaves.
     fn run_and_keep(&mut self, alloc: Global, who: u32, event: Event) -> Result<Output, AllocError>
-        requires allowed { refusal_of self.old who event ≡ None }
-        ensures takes { IfOk result (λ output. Takes who event self.old self.new output) }
+        requires allowed { event_refusal self.old who event ≡ None }
+        ensures takes { IfOk result (λ output. TakesEvent who event self.old self.new output) }
         ensures marked { OnOk result (self.new.mark ≡ self.old.mark) }
         ensures joined { OnOk result (is_leave event ≡ false → is_in (presence_from who Away self.new.history) ≡ true) }
-        ensures err { OnErr result ((self.new.history ≡ self.old.history) × Stays self.old.outside self.new.outside) }
+        ensures err { OnErr result ((self.new.history ≡ self.old.history) × OutsideStays self.old.outside self.new.outside) }
         ensures breaks { OnErr result (self.new.mark ≡ marked_by self.old.mark (length self.old.history)) }
         ensures leaves { is_leave event ≡ true → IsOk result }
         ensures limit { self.new.limit ≡ self.old.limit }
@@ -419,11 +419,11 @@ impl<F: Files, M: PatternMaker> Engine<F, M> {
     /// in the order `Broken`, `NoClient`, `Joined`, `HistoryFull`, `Full`; they change nothing. `NoMemory` adds no entry, and
     /// breaks the engine; a client's going never wants memory.
     pub fn step(&mut self, alloc: Global, who: u32, event: Event) -> Result<Output, StepFault>
-        ensures refused { IfSome (refusal_of self.old who event) (λ fault. (result ≡ Err fault) × (self.new.outside ≡ self.old.outside)) }
-        ensures answered { refusal_of self.old who event ≡ None → IfErr result (λ fault. (fault ≡ NoMemory) × (is_leave event ≡ false)) }
-        ensures takes { IfOk result (λ output. Takes who event self.old self.new output) }
+        ensures refused { IfSome (event_refusal self.old who event) (λ fault. (result ≡ Err fault) × (self.new.outside ≡ self.old.outside)) }
+        ensures answered { event_refusal self.old who event ≡ None → IfErr result (λ fault. (fault ≡ NoMemory) × (is_leave event ≡ false)) }
+        ensures takes { IfOk result (λ output. TakesEvent who event self.old self.new output) }
         ensures joined { OnOk result (is_leave event ≡ false → is_in (presence_from who Away self.new.history) ≡ true) }
-        ensures err { OnErr result ((self.new.history ≡ self.old.history) × Stays self.old.outside self.new.outside) }
+        ensures err { OnErr result ((self.new.history ≡ self.old.history) × OutsideStays self.old.outside self.new.outside) }
         ensures mark { self.new.mark ≡ marked_after result self.old }
         ensures limit { self.new.limit ≡ self.old.limit }
         ensures legal { IsLegal self.new.limit self.new.history }

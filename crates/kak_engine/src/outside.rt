@@ -5,7 +5,7 @@ ghost use Rattle.std.specs.Prelude.{◌≡◌, ◌∷◌, [], IfOk, OnErr};
 ghost use Rattle.kak_files.specs.Exchanges.{Read as WasRead, Written};
 ghost use Rattle.regex_ports.specs.Making.{IfBuilt};
 ghost use Rattle.kak_engine.specs.Answering.{made_told, read_told, put_told};
-ghost use Rattle.kak_engine.specs.Honesty.{outside_of, Stays, IsHonest};
+ghost use Rattle.kak_engine.specs.Honesty.{outside_of, OutsideStays, IsHonest};
 
 use kak_files::{FileRead, Files, MAX_FILE};
 use kak_ports::Put;
@@ -50,7 +50,7 @@ impl<F: Files, M: PatternMaker> Outside<F, M> {
     pub fn make(&mut self, alloc: Global, pattern: &str) -> Result<Made<M::P>, AllocError>
         ensures built { IfOk result (λ made. IfBuilt made (λ p. M.P.source p ≡ pattern.now)) }
         ensures honest { IfOk result (λ made. IsHonest (made_told made ∷ []) [] self.old self.new) }
-        ensures err { OnErr result (Stays self.old self.new) }
+        ensures err { OnErr result (OutsideStays self.old self.new) }
     {
         self.patterns.make(alloc, pattern)
     }
@@ -58,7 +58,7 @@ impl<F: Files, M: PatternMaker> Outside<F, M> {
     /// Has a file read.
     pub fn read(&mut self, alloc: Global, name: &str) -> Result<FileRead, AllocError>
         ensures honest { IfOk result (λ read. IsHonest (read_told read ∷ []) (WasRead name.now read ∷ []) self.old self.new) }
-        ensures err { OnErr result (Stays self.old self.new) }
+        ensures err { OnErr result (OutsideStays self.old self.new) }
     {
         self.files.read(alloc, name, MAX_FILE)
     }

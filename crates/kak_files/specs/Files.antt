@@ -24,7 +24,7 @@ content_of name [] = Missing
 content_of name (row ∷ rows) = if bytes_eq row.name name then row.content else content_of name rows
 
 -- What files tell that tell what they hold.
-pub record Told : Type 0 where
+pub record ToldFiles : Type 0 where
   -- what they held when they were made
   pub opening : List FileRow
   -- what they hold
@@ -35,7 +35,7 @@ pub record Told : Type 0 where
 -- What files are seen as.
 pub record Shelf : Type 0 where
   -- what they hold, where they tell it
-  pub told : Option Told
+  pub told : Option ToldFiles
   -- how often a read or a write failed
   pub faults : ℕ
 
@@ -52,7 +52,7 @@ IsAnswer TooBig max (Holds held) = max < length held
 IsAnswer TooBig max Missing = ⊥
 
 -- a read answers what the name stands for, where that is told
-abbrev pub Reads : FileRead → List ℕ → ℕ → Option Told → Type 0
+abbrev pub Reads : FileRead → List ℕ → ℕ → Option ToldFiles → Type 0
 Reads answer name max None = Unit {0}
 Reads answer name max (Some told) = IsAnswer answer max (content_of name told.held)
 
@@ -76,26 +76,26 @@ ReadIsCounted ReadFailed before now = now ≡ one_more before
 ReadIsCounted answer before now = now ≡ before
 
 -- what stands under a name after a failed write, by whether it spares what stood there
-abbrev pub left_behind : Bool → Content → Content
-left_behind true before = before
-left_behind false before = Lost
+abbrev pub content_left : Bool → Content → Content
+content_left true before = before
+content_left false before = Lost
 
 -- what stands under a name after a write of some bytes
-abbrev pub left_by : Put → List ℕ → Bool → Content → Content
-left_by Done bytes spare before = Holds bytes
-left_by PutFailed bytes spare before = left_behind spare before
+abbrev pub content_left_by : Put → List ℕ → Bool → Content → Content
+content_left_by Done bytes spare before = Holds bytes
+content_left_by PutFailed bytes spare before = content_left spare before
 
 -- One name stands for this content, and each other name for what it stood for. All else stays.
-pub record ChangesOnly (name : List ℕ) (content : Content) (old new : Told) : Type 0 where
+pub record ChangesOnly (name : List ℕ) (content : Content) (old new : ToldFiles) : Type 0 where
   pub this : content_of name new.held ≡ content
   pub others : (other : List ℕ) → other ≢ name → content_of other new.held ≡ content_of other old.held
   pub opening : new.opening ≡ old.opening
   pub spare : new.spare ≡ old.spare
 
 -- a write leaves its bytes under its name, or fails, and all else is as it was, where what is held is told
-abbrev pub Writes : Put → List ℕ → List ℕ → Option Told → Option Told → Type 0
+abbrev pub Writes : Put → List ℕ → List ℕ → Option ToldFiles → Option ToldFiles → Type 0
 Writes answer name bytes None None = Unit {0}
-Writes answer name bytes (Some old) (Some new) = ChangesOnly name (left_by answer bytes old.spare (content_of name old.held)) old new
+Writes answer name bytes (Some old) (Some new) = ChangesOnly name (content_left_by answer bytes old.spare (content_of name old.held)) old new
 Writes answer name bytes old new = ⊥
 
 -- the count of faults rises by one where a write fails, and only there

@@ -7,7 +7,7 @@ use Rattle.kak_files.specs.declared.files.FileRead.{FileRead}
 use Rattle.kak_files.specs.declared.files.FileRead.TheVariants.{Failed as ReadFailed}
 use Rattle.kak_files.specs.declared.kept.MemFiles.{MemFiles}
 use Rattle.kak_files.specs.Files.{FileRow, Shelf}
-use Rattle.kak_files.specs.Memory.{opening_row, held_rows, taken_by}
+use Rattle.kak_files.specs.Memory.{opening_row, held_rows, room_taken}
 
 -- what they held when they were made
 abbrev pub opening_of : MemFiles → List FileRow
@@ -23,7 +23,7 @@ shelf_of files = record { told = Some (record { opening = opening_of files; held
 
 -- whether a write of a name and bytes of these lengths has room
 abbrev pub has_room : MemFiles → ℕ → ℕ → Bool
-has_room files name count = nat_le (taken_by (name + count) 1) (files.room - taken_by (length files.bytes.items) (length files.pieces.items))
+has_room files name count = nat_le (room_taken (name + count) 1) (files.room - room_taken (length files.bytes.items) (length files.pieces.items))
 
 -- what a write of a name and bytes of these lengths answers: it fails where it is planned to or has no room
 abbrev pub written_to : MemFiles → ℕ → ℕ → Put

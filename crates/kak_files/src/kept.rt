@@ -1,7 +1,7 @@
 //! What files in memory keep.
 
 ghost use Rattle.std.specs.Prelude.{◌≡◌, ◌+◌, ◌<◌, ◌≤◌, length, IsTrue, string_bytes, vec_capacity};
-ghost use Rattle.kak_files.specs.Memory.{are_within, taken_by};
+ghost use Rattle.kak_files.specs.Memory.{are_within, room_taken};
 
 use byte_texts::{Octets, Utf8Text};
 use kak_ports::FailingCalls;
@@ -27,7 +27,7 @@ impl MemFile {
 
 // A write: where its name begins among all bytes that were written, how long that is, and how many bytes follow it.
 #[derive(Clone, Copy, Debug)]
-pub(crate) struct Piece {
+pub(crate) struct WritePiece {
     pub(crate) at: usize,
     pub(crate) name: usize,
     pub(crate) count: usize,
@@ -38,13 +38,13 @@ pub(crate) struct Piece {
 pub struct MemFiles {
     pub(crate) opening: Vec<MemFile>,
     pub(crate) bytes: Vec<u8>,
-    pub(crate) pieces: Vec<Piece>,
+    pub(crate) pieces: Vec<WritePiece>,
     pub(crate) room: usize,
     pub(crate) reads: FailingCalls,
     pub(crate) writes: FailingCalls,
     pub(crate) faults: u64,
     ghost within: { IsTrue (are_within (length bytes.items) pieces.items) },
-    ghost fits: { taken_by (length bytes.items) (length pieces.items) ≤ room },
+    ghost fits: { room_taken (length bytes.items) (length pieces.items) ≤ room },
     ghost bytes_room: { room ≤ vec_capacity bytes },
-    ghost pieces_room: { room < taken_by 0 (vec_capacity pieces + 1) },
+    ghost pieces_room: { room < room_taken 0 (vec_capacity pieces + 1) },
 }

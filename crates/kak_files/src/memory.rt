@@ -3,11 +3,11 @@
 ghost use Rattle.std.specs.Prelude.{◌≡◌, ◌+◌, ◌<◌, ◌≤◌, ◌++◌, ◌∷◌, [], length, map, vec_capacity, IfOk, OnErr, IfSome, IfNone, IsTrue};
 ghost use Rattle.kak_ports.specs.Plans.{is_planned, after_call};
 ghost use Rattle.kak_files.specs.Files.{content_of, Missing, Holds, one_more, Reads, IsWithin, ReadIsCounted, Writes, WriteIsCounted};
-ghost use Rattle.kak_files.specs.Memory.{opening_row, written_row, is_within};
+ghost use Rattle.kak_files.specs.Memory.{opening_row, written_row, is_piece_within};
 ghost use Rattle.kak_files.specs.MemoryShelf.{opening_of, held_by, shelf_of, has_room, written_to, ReadIsPlanned};
 
 use crate::files::{FileRead, Files};
-use crate::kept::{MemFile, MemFiles, Piece};
+use crate::kept::{MemFile, MemFiles, WritePiece};
 use byte_texts::Octets;
 use kak_ports::{FailingCalls, Put};
 use std::alloc::{AllocError, Global};
@@ -16,16 +16,16 @@ use std::alloc::{AllocError, Global};
 const PIECE_BYTES: usize = 24;
 
 // The name that was written.
-fn piece_name(bytes: &[u8], piece: Piece) -> &[u8]
-    requires { IsTrue (is_within (length bytes.now) piece) }
+fn piece_name(bytes: &[u8], piece: WritePiece) -> &[u8]
+    requires { IsTrue (is_piece_within (length bytes.now) piece) }
     ensures { result.now ≡ (written_row bytes.now piece).name }
 {
     &bytes[piece.at..][..piece.name]
 }
 
 // What was written under it.
-fn piece_bytes(bytes: &[u8], piece: Piece) -> &[u8]
-    requires { IsTrue (is_within (length bytes.now) piece) }
+fn piece_bytes(bytes: &[u8], piece: WritePiece) -> &[u8]
+    requires { IsTrue (is_piece_within (length bytes.now) piece) }
     ensures { Holds result.now ≡ (written_row bytes.now piece).content }
 {
     &bytes[piece.at + piece.name..][..piece.count]
@@ -111,7 +111,7 @@ fn add_both(bytes: &mut Vec<u8>, name: &str, held: &[u8])
 }
 
 // Puts a piece before all others, for which there is room.
-fn add_piece(pieces: &mut Vec<Piece>, piece: Piece)
+fn add_piece(pieces: &mut Vec<WritePiece>, piece: WritePiece)
     requires { length pieces.old.items < vec_capacity pieces.old }
     ensures added { pieces.new.items ≡ piece ∷ pieces.old.items }
     ensures capacity { vec_capacity pieces.old ≤ vec_capacity pieces.new }
@@ -145,7 +145,7 @@ impl MemFiles {
         ensures writes { self.new.writes ≡ self.old.writes }
         ensures faults { self.new.faults ≡ self.old.faults }
     {
-        let piece = Piece {
+        let piece = WritePiece {
             at: self.bytes.len(),
             name: name.len(),
             count: bytes.len(),

@@ -29,7 +29,7 @@ Rose before now = min (before + 1) (2 ^ 64 - 1) ≤ now
 
 -- A take gave the next bytes of what was left: at least one, at most as many as there was room for, and at most the
 -- most that one take gives.
-pub record Gives (count : ℕ) (old new : Inlet) (into : List ℕ) : Type 0 where
+pub record GivesBytes (count : ℕ) (old new : Inlet) (into : List ℕ) : Type 0 where
   pub some : 0 < count
   pub room : count ≤ length into
   pub most : count ≤ old.most
@@ -37,7 +37,7 @@ pub record Gives (count : ℕ) (old new : Inlet) (into : List ℕ) : Type 0 wher
 
 -- a take gave the next bytes of what was left, or nothing was left, or it failed and took nothing
 abbrev pub Takes : Took → Inlet → Inlet → List ℕ → Type 0
-Takes (Got count) old new into = Gives count old new into
+Takes (Got count) old new into = GivesBytes count old new into
 Takes End old new into = IsAtEnd old.left × Keeps old.left new.left
 Takes TakeFailed old new into = Keeps old.left new.left
 

@@ -4,12 +4,12 @@ use Rattle.kak_registers.specs.declared.row.Register.{Register}
 use Rattle.kak_registers.specs.declared.row.TheConstants.{MAX_REGISTER_CHARS}
 use Rattle.kak_registers.specs.declared.names.RegisterError.TheVariants.{NoRegister, ReadOnly}
 use Rattle.kak_registers.specs.Names.{is_settable, named}
-use Rattle.kak_registers.specs.Contents.{strings_of, set_in, nth_of, char_count, row_of}
-use Rattle.kak_registers.specs.Refusals.{refusal_of}
+use Rattle.kak_registers.specs.Contents.{strings_of, set_in, nth_of, char_count, row_of_register}
+use Rattle.kak_registers.specs.Refusals.{register_refusal}
 
 -- register a holds two strings, and " one
-abbrev pub given : List Register
-given = row_of 97 (codes "one" ∷ codes "two" ∷ []) ∷ row_of 34 (codes "x" ∷ []) ∷ []
+abbrev pub given_registers : List Register
+given_registers = row_of_register 97 (codes "one" ∷ codes "two" ∷ []) ∷ row_of_register 34 (codes "x" ∷ []) ∷ []
 
 -- the table of examples
 pub record WorkedExamples : Type 0 where
@@ -26,12 +26,12 @@ pub record WorkedExamples : Type 0 where
   pub two_letters : named (codes "ab") ≡ None
   pub no_word : named [] ≡ None
   -- contents
-  pub held : strings_of 97 given ≡ codes "one" ∷ codes "two" ∷ []
-  pub never_set : strings_of 98 given ≡ []
-  pub set_again : strings_of 97 (set_in 97 (codes "new" ∷ []) given) ≡ codes "new" ∷ []
-  pub other_stays : strings_of 34 (set_in 97 [] given) ≡ codes "x" ∷ []
-  pub set_first : set_in 98 [] given ≡ row_of 97 (codes "one" ∷ codes "two" ∷ []) ∷ row_of 34 (codes "x" ∷ []) ∷ row_of 98 [] ∷ []
-  pub underscore_stays_empty : set_in 95 (codes "x" ∷ []) given ≡ given
+  pub held : strings_of 97 given_registers ≡ codes "one" ∷ codes "two" ∷ []
+  pub never_set : strings_of 98 given_registers ≡ []
+  pub set_again : strings_of 97 (set_in 97 (codes "new" ∷ []) given_registers) ≡ codes "new" ∷ []
+  pub other_stays : strings_of 34 (set_in 97 [] given_registers) ≡ codes "x" ∷ []
+  pub set_first : set_in 98 [] given_registers ≡ row_of_register 97 (codes "one" ∷ codes "two" ∷ []) ∷ row_of_register 34 (codes "x" ∷ []) ∷ row_of_register 98 [] ∷ []
+  pub underscore_stays_empty : set_in 95 (codes "x" ∷ []) given_registers ≡ given_registers
   -- the n-th string
   pub first : nth_of 0 (codes "one" ∷ codes "two" ∷ []) ≡ codes "one"
   pub second : nth_of 1 (codes "one" ∷ codes "two" ∷ []) ≡ codes "two"
@@ -40,6 +40,6 @@ pub record WorkedExamples : Type 0 where
   -- characters are counted, not bytes: é is C3 A9
   pub counted : char_count ((195 ∷ 169 ∷ 97 ∷ []) ∷ codes "bc" ∷ []) ≡ 4
   -- refusals
-  pub no_register : refusal_of 51 (codes "x" ∷ []) ≡ Some (NoRegister 51)
-  pub read_only : refusal_of 37 [] ≡ Some (ReadOnly 37)
-  pub granted : refusal_of 95 (codes "x" ∷ []) ≡ None
+  pub no_register : register_refusal 51 (codes "x" ∷ []) ≡ Some (NoRegister 51)
+  pub read_only : register_refusal 37 [] ≡ Some (ReadOnly 37)
+  pub granted : register_refusal 95 (codes "x" ∷ []) ≡ None

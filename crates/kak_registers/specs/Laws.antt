@@ -4,7 +4,7 @@ use Rattle.kak_registers.specs.declared.row.Register.{Register}
 use Rattle.kak_registers.specs.Contents.{strings_of, set_in}
 
 -- the laws of setting
-pub record SettingLaws : Type 0 where
+pub record RegisterLaws : Type 0 where
   -- a register other than `_` holds what it was set to
   pub same : (name : ℕ) (strings : List (List ℕ)) (rows : List Register) → name ≢ 95 → strings_of name (set_in name strings rows) ≡ strings
   -- other registers stay

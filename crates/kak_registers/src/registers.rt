@@ -2,10 +2,10 @@
 
 ghost use Rattle.std.specs.Prelude.{◌≡◌, ◌↔◌, [], false, None, length, IsNone, IfErr, IfSome, OnOk, OnErr, nat_le};
 ghost use Rattle.tables.specs.Tables.{place_where, put_where};
-ghost use Rattle.kak_registers.specs.Contents.{is_of, row_of, strings_of, set_in, nth_of, char_count};
+ghost use Rattle.kak_registers.specs.Contents.{is_register_row, row_of_register, strings_of, set_in, nth_of, char_count};
 ghost use Rattle.std.specs.Str.{chars};
 ghost use Rattle.kak_registers.specs.Names.{is_settable};
-ghost use Rattle.kak_registers.specs.Refusals.{refusal_of, IsDue};
+ghost use Rattle.kak_registers.specs.Refusals.{register_refusal, IsRegisterErrorDue};
 
 use crate::names::{RegisterError, is_read_only, is_settable};
 use crate::row::{MAX_REGISTER_CHARS, Register};
@@ -47,8 +47,8 @@ impl Registers {
     /// `NoRegister`, `ReadOnly` and `RegisterFull`, or, where none does, `NoMemory`. It leaves all as it was.
     pub fn set(&mut self, alloc: Global, name: char, values: &Words) -> Result<(), RegisterError>
         ensures sets { OnOk result (self.new ≡ set_in name values.now self.old) }
-        ensures granted { OnOk result (refusal_of name values.now ≡ None) }
-        ensures refused { IfErr result (λ e. IsDue e (refusal_of name values.now)) }
+        ensures granted { OnOk result (register_refusal name values.now ≡ None) }
+        ensures refused { IfErr result (λ e. IsRegisterErrorDue e (register_refusal name values.now)) }
         ensures err { OnErr result (self.new ≡ self.old) }
     {
         check(name, values)?;
@@ -62,8 +62,8 @@ impl Registers {
     /// The same with strings that are taken over, and not copied.
     pub fn keep(&mut self, name: char, values: Words) -> Result<(), RegisterError>
         ensures sets { OnOk result (self.new ≡ set_in name values self.old) }
-        ensures granted { OnOk result (refusal_of name values ≡ None) }
-        ensures refused { IfErr result (λ e. IsDue e (refusal_of name values)) }
+        ensures granted { OnOk result (register_refusal name values ≡ None) }
+        ensures refused { IfErr result (λ e. IsRegisterErrorDue e (register_refusal name values)) }
         ensures err { OnErr result (self.new ≡ self.old) }
     {
         check(name, &values)?;
@@ -100,7 +100,7 @@ impl Registers {
 impl Registers {
     // Puts a row in place of the one of its name, or at the end. An `Err` leaves all as it was.
     fn put(&mut self, name: char, values: Words) -> Result<(), AllocError>
-        ensures ok { OnOk result (self.new ≡ put_where (is_of name) (row_of name values) self.old) }
+        ensures ok { OnOk result (self.new ≡ put_where (is_register_row name) (row_of_register name values) self.old) }
         ensures err { OnErr result (self.new ≡ self.old) }
     {
         let at = place(self.rows.as_slice(), name);
@@ -130,7 +130,7 @@ impl Registers {
 
 // The place of the row of a name, or how many rows there are where none has it.
 fn place(rows: &[Register], name: char) -> usize
-    ensures { result ≡ place_where (is_of name) rows.now }
+    ensures { result ≡ place_where (is_register_row name) rows.now }
 {
     for (i, row) in rows.iter().enumerate() {
         if row.name == name {
@@ -167,8 +167,8 @@ fn fits(values: &Words) -> bool
 
 // Refuses what can't be set, before any memory is taken.
 fn check(name: char, values: &Words) -> Result<(), RegisterError>
-    ensures granted { OnOk result (refusal_of name values.now ≡ None) }
-    ensures refused { IfErr result (λ e. IsDue e (refusal_of name values.now)) }
+    ensures granted { OnOk result (register_refusal name values.now ≡ None) }
+    ensures refused { IfErr result (λ e. IsRegisterErrorDue e (register_refusal name values.now)) }
 {
     if is_read_only(name) {
         return Err(RegisterError::ReadOnly(name));

@@ -2,7 +2,6 @@
 
 use byte_texts::Words;
 
-
 /// How many characters the strings of a register may have together.
 pub const MAX_REGISTER_CHARS: usize = 16_777_216;
 

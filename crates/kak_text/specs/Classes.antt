@@ -8,16 +8,16 @@ use Rattle.kak_text.specs.declared.classes.Class.{Class}
 use Rattle.kak_text.specs.declared.classes.Class.TheVariants.{Line, Blank, Word, Mark}
 
 -- whether a character has a general category
-abbrev pub is_of : GeneralCategory → ℕ → Bool
-is_of category c = general_category_eq (general_category c) category
+abbrev pub is_category : GeneralCategory → ℕ → Bool
+is_category category c = general_category_eq (general_category c) category
 
 -- the tab (9) and the spaces
 abbrev pub is_blank : ℕ → Bool
-is_blank c = (c == 9) || is_of SpaceSeparator c
+is_blank c = (c == 9) || is_category SpaceSeparator c
 
 -- numbers: decimal digits, letters that are numbers, and others such as fractions
 abbrev pub is_number : ℕ → Bool
-is_number c = is_of DecimalNumber c || (is_of LetterNumber c || is_of OtherNumber c)
+is_number c = is_category DecimalNumber c || (is_category LetterNumber c || is_category OtherNumber c)
 
 -- what words are made of: the low line (95), alphabetic characters and numbers
 abbrev pub is_in_word : ℕ → Bool

@@ -6,7 +6,7 @@ use Rattle.std.specs.List.{join_with_byte}
 use Rattle.kak_words.specs.declared.parts.WordError.{WordError}
 use Rattle.kak_words.specs.declared.parts.WordError.TheVariants.{Unclosed, UnknownExpansion, NoMemory}
 use Rattle.kak_words.specs.Errors.{IsUnknown}
-use Rattle.kak_words.specs.Adding.{Adds}
+use Rattle.kak_words.specs.Adding.{AddsElements}
 
 -- strings behind a first one, each after a space
 abbrev pub joined_behind : List (List ℕ) → List ℕ
@@ -31,7 +31,7 @@ pub still-start : {A E : Type 0} (old now : List A) (all : Result (List A) E) �
 still-start old now all same = record { done = []; after = same ∙ sym (append-nil old); gives = then_as-nil all }
 
 module _ {X A E : Type 0} (f : X → Result (List A) E) (xs : List X) (i : ℕ) (x : X) (old now : List A) (all : Result (List A) E) where
-  pub still-more : (new : List A) → i < length xs → x ≡ get_or xs i x → Adds now new (f x) → StillGives old now (all_of f (drop i xs)) all → StillGives old new (all_of f (drop (i + 1) xs)) all
+  pub still-more : (new : List A) → i < length xs → x ≡ get_or xs i x → AddsElements now new (f x) → StillGives old now (all_of f (drop i xs)) all → StillGives old new (all_of f (drop (i + 1) xs)) all
   still-more new inside here adds still =
       let step = ap (all_of f) (drop_more xs i x inside) ∙ ap (λ y. then_with (λ ys. then_as (λ zs. ys ++ zs) (all_of f (drop (i + 1) xs))) (f y)) (sym here)
       ∙ ap (then_with (λ ys. then_as (λ zs. ys ++ zs) (all_of f (drop (i + 1) xs)))) adds.gives in
@@ -41,7 +41,7 @@ module _ {X A E : Type 0} (f : X → Result (List A) E) (xs : List X) (i : ℕ) 
         gives = still.gives ∙ ap (then_as (λ more. still.done ++ more)) step ∙ then_as-append still.done adds.added (all_of f (drop (i + 1) xs));
       }
 
-  pub still-end : length xs ≤ i → StillGives old now (all_of f (drop i xs)) all → Adds old now all
+  pub still-end : length xs ≤ i → StillGives old now (all_of f (drop i xs)) all → AddsElements old now all
   still-end past still = record {
     added = still.done;
     gives = still.gives ∙ ap (λ ys. then_as (λ more. still.done ++ more) (all_of f ys)) (drop_all i xs past) ∙ ap Ok (append-nil still.done);

@@ -6,18 +6,18 @@ use Rattle.kak_words.specs.declared.placed.Placed.{Placed}
 use Rattle.kak_words.specs.declared.parts.Word.{Word}
 use Rattle.kak_words.specs.declared.parts.Piece.TheVariants.{Plain}
 use Rattle.kak_words.specs.Results.{then_with}
-use Rattle.kak_words.specs.Closing.{Split, after_one, after_one_if, placed_from, text_of, up_to}
+use Rattle.kak_words.specs.Closing.{SplitAtMark, after_one, after_one_if, placed_from, text_of, up_to}
 use Rattle.kak_words.specs.Quoting.{doubled, quoted, quoted_command}
 use Rattle.kak_words.specs.Reading.{WordRead, single_word, command_on, commands_from, commands_of}
 
 -- the text before the closing quote of a quoted word, behind which nothing stands
-pub record Closed (found : Option Split) (cs : List ℕ) : Type 0 where
-  pub split : Split
+pub record Closed (found : Option SplitAtMark) (cs : List ℕ) : Type 0 where
+  pub split : SplitAtMark
   pub is : found ≡ Some split
   pub text : map (λ (p : Placed). p.c) split.inside ≡ cs
   pub nothing : split.rest ≡ []
 
-closed-more : (p : Placed) (found now : Option Split) (c : ℕ) (cs : List ℕ) → now ≡ after_one_if p found → p.c ≡ c → Closed found cs → Closed now (c ∷ cs)
+closed-more : (p : Placed) (found now : Option SplitAtMark) (c : ℕ) (cs : List ℕ) → now ≡ after_one_if p found → p.c ≡ c → Closed found cs → Closed now (c ∷ cs)
 closed-more p found now c cs step same closed = record {
   split = after_one p closed.split;
   is = step ∙ ap (after_one_if p) closed.is;

@@ -13,22 +13,22 @@ abbrev pub text_of : List Placed → List ℕ
 text_of ps = encode_utf8_all (map (λ p. p.c) ps)
 
 -- what stands before a closing mark, and what stands behind it
-pub record Split : Type 0 where
+pub record SplitAtMark : Type 0 where
   pub inside : List Placed
   pub rest : List Placed
 
 -- with one more character before the mark
-abbrev pub after_one : Placed → Split → Split
+abbrev pub after_one : Placed → SplitAtMark → SplitAtMark
 after_one p s = record { inside = p ∷ s.inside; rest = s.rest }
 
 -- the same where there may be no closing mark
-abbrev pub after_one_if : Placed → Option Split → Option Split
+abbrev pub after_one_if : Placed → Option SplitAtMark → Option SplitAtMark
 after_one_if p None = None
 after_one_if p (Some s) = Some (after_one p s)
 
 -- up to a mark that isn't doubled; of a doubled one, one belongs to what stands before. `pending` says that a mark was
 -- read, and not yet whether it is doubled
-abbrev pub up_to : ℕ → Bool → List Placed → Option Split
+abbrev pub up_to : ℕ → Bool → List Placed → Option SplitAtMark
 up_to mark false [] = None
 up_to mark true [] = Some (record { inside = []; rest = [] })
 up_to mark false (p ∷ ps) = if p.c == mark then up_to mark true ps else after_one_if p (up_to mark false ps)
@@ -41,14 +41,14 @@ depth_behind opening closing depth c =
     if c == opening then depth + 1 else (if c == closing then depth - 1 else depth)
 
 -- up to the bracket that closes, where `depth` more are open
-abbrev pub balanced : ℕ → ℕ → ℕ → List Placed → Option Split
+abbrev pub balanced : ℕ → ℕ → ℕ → List Placed → Option SplitAtMark
 balanced opening closing depth [] = None
 balanced opening closing depth (p ∷ ps) =
     if p.c == closing && depth == 0 then Some (record { inside = []; rest = ps })
     else after_one_if p (balanced opening closing (depth_behind opening closing depth p.c) ps)
 
 -- up to what closes an opening mark: the bracket of its pair for { [ ( <, else the same mark
-abbrev pub closed_by : ℕ → List Placed → Option Split
+abbrev pub closed_by : ℕ → List Placed → Option SplitAtMark
 closed_by mark ps =
     if mark == 123 then balanced 123 125 0 ps else (if mark == 91 then balanced 91 93 0 ps else
     (if mark == 40 then balanced 40 41 0 ps else (if mark == 60 then balanced 60 62 0 ps else up_to mark false ps)))
@@ -59,7 +59,7 @@ escapes start [] = false
 escapes start (p ∷ ps) = is_escapable start p.c
 
 -- a plain word: up to a blank, a newline or a semicolon; `literal` says that the next character stands for itself
-abbrev pub plain : Bool → Bool → List Placed → Split
+abbrev pub plain : Bool → Bool → List Placed → SplitAtMark
 plain start literal [] = record { inside = []; rest = [] }
 plain start true (p ∷ ps) = after_one p (plain false false ps)
 plain start false (p ∷ ps) =

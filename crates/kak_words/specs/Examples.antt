@@ -10,8 +10,8 @@ use Rattle.kak_words.specs.Expanding.{Table, expanded}
 use Rattle.kak_words.specs.Quoting.{quoted, quoted_command}
 
 -- a plain word of a text, and a quoted one
-abbrev pub bare : List ℕ → Word
-bare text = record { pieces = Plain text ∷ []; quoted = false }
+abbrev pub bare_word : List ℕ → Word
+bare_word text = record { pieces = Plain text ∷ []; quoted = false }
 
 abbrev pub verbatim : List ℕ → Word
 verbatim text = record { pieces = Plain text ∷ []; quoted = true }
@@ -32,8 +32,8 @@ abbrev pub command : List Word → Command
 command words = record { words = words }
 
 -- `%val{two}` stands for two strings, `%val{none}` for none, and nothing else is in the table
-abbrev pub given : Table
-given kind name =
+abbrev pub given_table : Table
+given_table kind name =
     if bytes_eq kind (codes "val") then (if bytes_eq name (codes "two") then Some (codes "a b" ∷ codes "c" ∷ []) else
     (if bytes_eq name (codes "none") then Some [] else None)) else None
 
@@ -41,31 +41,31 @@ given kind name =
 pub record WorkedExamples : Type 0 where
   -- words and commands
   pub nothing : commands_of [] ≡ Ok []
-  pub quoted_words : commands_of (codes "echo 'it''s' %{a{b}c} \"x\"\"y\"") ≡ Ok (command (bare (codes "echo") ∷ verbatim (codes "it's") ∷ verbatim (codes "a{b}c") ∷ verbatim (codes "x\"y") ∷ []) ∷ [])
-  pub two_commands : commands_of (codes " a\tb;;\n c ;") ≡ Ok (command (bare (codes "a") ∷ bare (codes "b") ∷ []) ∷ command (bare (codes "c") ∷ []) ∷ [])
-  pub comment : commands_of (codes "#'\n # x\na#b #c") ≡ Ok (command (bare (codes "a#b") ∷ bare (codes "#c") ∷ []) ∷ [])
-  pub comment_behind_semicolon : commands_of (codes "a;#b;c") ≡ Ok (command (bare (codes "a") ∷ []) ∷ [])
+  pub quoted_words : commands_of (codes "echo 'it''s' %{a{b}c} \"x\"\"y\"") ≡ Ok (command (bare_word (codes "echo") ∷ verbatim (codes "it's") ∷ verbatim (codes "a{b}c") ∷ verbatim (codes "x\"y") ∷ []) ∷ [])
+  pub two_commands : commands_of (codes " a\tb;;\n c ;") ≡ Ok (command (bare_word (codes "a") ∷ bare_word (codes "b") ∷ []) ∷ command (bare_word (codes "c") ∷ []) ∷ [])
+  pub comment : commands_of (codes "#'\n # x\na#b #c") ≡ Ok (command (bare_word (codes "a#b") ∷ bare_word (codes "#c") ∷ []) ∷ [])
+  pub comment_behind_semicolon : commands_of (codes "a;#b;c") ≡ Ok (command (bare_word (codes "a") ∷ []) ∷ [])
   -- what follows a quoted word begins a new one
-  pub next_word : commands_of (codes "'a'b\"c") ≡ Ok (command (verbatim (codes "a") ∷ bare (codes "b\"c") ∷ []) ∷ [])
-  pub next_word_behind_form : commands_of (codes "%val{client}x") ≡ Ok (command (expansion (codes "val") (codes "client") ∷ bare (codes "x") ∷ []) ∷ [])
+  pub next_word : commands_of (codes "'a'b\"c") ≡ Ok (command (verbatim (codes "a") ∷ bare_word (codes "b\"c") ∷ []) ∷ [])
+  pub next_word_behind_form : commands_of (codes "%val{client}x") ≡ Ok (command (expansion (codes "val") (codes "client") ∷ bare_word (codes "x") ∷ []) ∷ [])
   -- a no-break space is an ordinary character
-  pub no_break_space : commands_of (97 ∷ 160 ∷ 98 ∷ []) ≡ Ok (command (bare (97 ∷ 194 ∷ 160 ∷ 98 ∷ []) ∷ []) ∷ [])
+  pub no_break_space : commands_of (97 ∷ 160 ∷ 98 ∷ []) ≡ Ok (command (bare_word (97 ∷ 194 ∷ 160 ∷ 98 ∷ []) ∷ []) ∷ [])
   -- any mark opens a form, and a doubled one is one
-  pub bar : commands_of (codes "%|a||b| x") ≡ Ok (command (verbatim (codes "a|b") ∷ bare (codes "x") ∷ []) ∷ [])
+  pub bar : commands_of (codes "%|a||b| x") ≡ Ok (command (verbatim (codes "a|b") ∷ bare_word (codes "x") ∷ []) ∷ [])
   pub semicolon_mark : commands_of (codes "%;a;") ≡ Ok (command (verbatim (codes "a") ∷ []) ∷ [])
   pub percent_mark : commands_of (codes "%%a%") ≡ Ok (command (verbatim (codes "a") ∷ []) ∷ [])
   pub expansion_of_bars : commands_of (codes "%val|client|") ≡ Ok (command (expansion (codes "val") (codes "client") ∷ []) ∷ [])
   pub other_brackets : commands_of (codes "%[a[{]b] %(x) %<y>") ≡ Ok (command (verbatim (codes "a[{]b") ∷ verbatim (codes "x") ∷ verbatim (codes "y") ∷ []) ∷ [])
   -- a `%` that begins no form stands for itself
-  pub percent_digit : commands_of (codes "%5;") ≡ Ok (command (bare (codes "%5") ∷ []) ∷ [])
-  pub percent_letters : commands_of (codes "%ab c%{d") ≡ Ok (command (bare (codes "%ab") ∷ bare (codes "c%{d") ∷ []) ∷ [])
-  pub percent_alone : commands_of (codes "% x") ≡ Ok (command (bare (codes "%") ∷ bare (codes "x") ∷ []) ∷ [])
-  pub percent_inside : commands_of (codes "100%sure") ≡ Ok (command (bare (codes "100%sure") ∷ []) ∷ [])
+  pub percent_digit : commands_of (codes "%5;") ≡ Ok (command (bare_word (codes "%5") ∷ []) ∷ [])
+  pub percent_letters : commands_of (codes "%ab c%{d") ≡ Ok (command (bare_word (codes "%ab") ∷ bare_word (codes "c%{d") ∷ []) ∷ [])
+  pub percent_alone : commands_of (codes "% x") ≡ Ok (command (bare_word (codes "%") ∷ bare_word (codes "x") ∷ []) ∷ [])
+  pub percent_inside : commands_of (codes "100%sure") ≡ Ok (command (bare_word (codes "100%sure") ∷ []) ∷ [])
   -- backslashes
-  pub escaped_blank : commands_of (codes "a\\ b\\;c") ≡ Ok (command (bare (codes "a b;c") ∷ []) ∷ [])
-  pub escaped_opening : commands_of (codes "\\%{ \\'a \\\"b \\#c") ≡ Ok (command (bare (codes "%{") ∷ bare (codes "'a") ∷ bare (codes "\"b") ∷ bare (codes "#c") ∷ []) ∷ [])
-  pub escaped_newline : commands_of (codes "a\\\nb") ≡ Ok (command (bare (codes "a\nb") ∷ []) ∷ [])
-  pub other_backslashes : commands_of (codes "a\\\\;b\\%\\") ≡ Ok (command (bare (codes "a\\;b\\%\\") ∷ []) ∷ [])
+  pub escaped_blank : commands_of (codes "a\\ b\\;c") ≡ Ok (command (bare_word (codes "a b;c") ∷ []) ∷ [])
+  pub escaped_opening : commands_of (codes "\\%{ \\'a \\\"b \\#c") ≡ Ok (command (bare_word (codes "%{") ∷ bare_word (codes "'a") ∷ bare_word (codes "\"b") ∷ bare_word (codes "#c") ∷ []) ∷ [])
+  pub escaped_newline : commands_of (codes "a\\\nb") ≡ Ok (command (bare_word (codes "a\nb") ∷ []) ∷ [])
+  pub other_backslashes : commands_of (codes "a\\\\;b\\%\\") ≡ Ok (command (bare_word (codes "a\\;b\\%\\") ∷ []) ∷ [])
   -- double quotes
   pub quoted_expansion : commands_of (codes "\"a%val{two}b\"") ≡ Ok (command (pieced (Plain (codes "a") ∷ named (codes "val") (codes "two") ∷ Plain (codes "b") ∷ []) ∷ []) ∷ [])
   pub quoted_percent : commands_of (codes "\"%%val{two} %5 %\"") ≡ Ok (command (verbatim (codes "%val{two} %5 %") ∷ []) ∷ [])
@@ -84,11 +84,11 @@ pub record WorkedExamples : Type 0 where
   -- places count characters
   pub wide_characters : commands_of (233 ∷ 32 ∷ 39 ∷ []) ≡ Err 2
   -- expanding
-  pub several_words : expanded given (command (bare (codes "x") ∷ expansion (codes "val") (codes "two") ∷ [])) ≡ Ok (codes "x" ∷ codes "a b" ∷ codes "c" ∷ [])
-  pub no_words : expanded given (command (expansion (codes "val") (codes "none") ∷ [])) ≡ Ok []
-  pub one_word : expanded given (command (pieced (Plain (codes "x") ∷ named (codes "val") (codes "two") ∷ []) ∷ [])) ≡ Ok (codes "xa b c" ∷ [])
-  pub empty_word : expanded given (command (pieced [] ∷ pieced (named (codes "val") (codes "none") ∷ []) ∷ [])) ≡ Ok ([] ∷ [] ∷ [])
-  pub unknown_kind : expanded given (command (bare (codes "x") ∷ expansion (codes "sh") (codes "ls") ∷ expansion (codes "val") (codes "no") ∷ [])) ≡ Err (codes "ls")
+  pub several_words : expanded given_table (command (bare_word (codes "x") ∷ expansion (codes "val") (codes "two") ∷ [])) ≡ Ok (codes "x" ∷ codes "a b" ∷ codes "c" ∷ [])
+  pub no_words : expanded given_table (command (expansion (codes "val") (codes "none") ∷ [])) ≡ Ok []
+  pub one_word : expanded given_table (command (pieced (Plain (codes "x") ∷ named (codes "val") (codes "two") ∷ []) ∷ [])) ≡ Ok (codes "xa b c" ∷ [])
+  pub empty_word : expanded given_table (command (pieced [] ∷ pieced (named (codes "val") (codes "none") ∷ []) ∷ [])) ≡ Ok ([] ∷ [] ∷ [])
+  pub unknown_kind : expanded given_table (command (bare_word (codes "x") ∷ expansion (codes "sh") (codes "ls") ∷ expansion (codes "val") (codes "no") ∷ [])) ≡ Err (codes "ls")
   -- quoting
   pub quoted_text : quoted (codes "it's") ≡ codes "'it''s'"
   pub read_back : commands_of (quoted (codes "a';\n#")) ≡ Ok (quoted_command (codes "a';\n#") ∷ [])

@@ -3,12 +3,12 @@ use Rattle.std.specs.Prelude.{ℕ, suc, ◌==◌, ◌&&◌, ◌||◌, not, Bool,
 use Rattle.std.specs.Char.Unicode.Alphabetic.{is_alphabetic}
 use Rattle.kak_words.specs.declared.placed.Placed.{Placed}
 use Rattle.kak_words.specs.Characters.{is_mark}
-use Rattle.kak_words.specs.Closing.{Split, closed_by}
+use Rattle.kak_words.specs.Closing.{SplitAtMark, closed_by}
 
 -- a form: the letters of its kind, its text and what stands behind it
 pub record Form : Type 0 where
   pub kind : List Placed
-  pub split : Split
+  pub split : SplitAtMark
 
 -- how many letters a text begins with
 abbrev pub letter_count : List Placed → ℕ
@@ -25,7 +25,7 @@ abbrev pub opens : Bool → List Placed → ℕ → Bool
 opens quoted kind c = is_mark c && not (quoted && (is_nameless kind || c == 34))
 
 -- a form of a kind, if it is closed; else the place of its `%` is the error
-abbrev pub closed_form : ℕ → List Placed → Option Split → Result (Option Form) ℕ
+abbrev pub closed_form : ℕ → List Placed → Option SplitAtMark → Result (Option Form) ℕ
 closed_form at kind None = Err at
 closed_form at kind (Some split) = Ok (Some (record { kind = kind; split = split }))
 

@@ -6,7 +6,7 @@ use Rattle.kak_words.specs.declared.parts.Word.{Word}
 use Rattle.kak_words.specs.declared.parts.Command.{Command}
 use Rattle.kak_words.specs.Results.{then_with, then_as}
 use Rattle.kak_words.specs.Characters.{is_blank, ends_command}
-use Rattle.kak_words.specs.Closing.{Split, placed_from, text_of, up_to, plain}
+use Rattle.kak_words.specs.Closing.{SplitAtMark, placed_from, text_of, up_to, plain}
 use Rattle.kak_words.specs.Forms.{Form, is_nameless, form_at}
 use Rattle.kak_words.specs.Pieces.{pieces_of, named_by}
 
@@ -16,17 +16,17 @@ pub record WordRead : Type 0 where
   pub rest : List Placed
 
 -- a word of one text
-abbrev pub text_word : Bool → Split → WordRead
+abbrev pub text_word : Bool → SplitAtMark → WordRead
 text_word quoted split =
     record { word = record { pieces = Plain (text_of split.inside) ∷ []; quoted = quoted }; rest = split.rest }
 
 -- a single-quoted word: its text as it is
-abbrev pub single_word : ℕ → Option Split → Result WordRead ℕ
+abbrev pub single_word : ℕ → Option SplitAtMark → Result WordRead ℕ
 single_word at None = Err at
 single_word at (Some split) = Ok (text_word true split)
 
 -- a double-quoted word: its pieces
-abbrev pub double_word : ℕ → Option Split → Result WordRead ℕ
+abbrev pub double_word : ℕ → Option SplitAtMark → Result WordRead ℕ
 double_word at None = Err at
 double_word at (Some split) =
     then_as (λ pieces. record { word = record { pieces = pieces; quoted = true }; rest = split.rest }) (pieces_of split.inside)

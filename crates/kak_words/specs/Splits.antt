@@ -2,16 +2,16 @@
 use Rattle.std.specs.Prelude.{◌≡◌, ℕ, List, Option, Some, Result, Ok}
 use Rattle.kak_words.specs.declared.placed.Placed.{Placed}
 use Rattle.kak_words.specs.declared.parts.Word.{Word}
-use Rattle.kak_words.specs.Closing.{Split}
+use Rattle.kak_words.specs.Closing.{SplitAtMark}
 use Rattle.kak_words.specs.Forms.{Form}
 use Rattle.kak_words.specs.Reading.{WordRead, form_word}
 
 -- these are the two parts of a split
-abbrev pub IsSplit : Split → List Placed → List Placed → Type 0
+abbrev pub IsSplit : SplitAtMark → List Placed → List Placed → Type 0
 IsSplit split inside rest = split ≡ record { inside = inside; rest = rest }
 
 -- there is a split, and these are its parts
-abbrev pub IsSplitIf : Option Split → List Placed → List Placed → Type 0
+abbrev pub IsSplitIf : Option SplitAtMark → List Placed → List Placed → Type 0
 IsSplitIf split inside rest = split ≡ Some (record { inside = inside; rest = rest })
 
 -- there is a form, and these are its kind, its text and what stands behind it

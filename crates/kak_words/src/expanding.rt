@@ -5,7 +5,7 @@ ghost use Rattle.std.specs.List.{join_with_byte};
 ghost use Rattle.kak_words.specs.Results.{all_of};
 ghost use Rattle.kak_words.specs.Expanding.{piece_strings, piece_text, word_strings, expanded};
 ghost use Rattle.kak_words.specs.Errors.{IsUnknown};
-ghost use Rattle.kak_words.specs.Adding.{Adds};
+ghost use Rattle.kak_words.specs.Adding.{AddsElements};
 
 use crate::parts::{Command, Piece, Word, WordError};
 use byte_texts::{Utf8Text, Words};
@@ -27,7 +27,7 @@ fn push_strings<L: Lookup>(
     piece: &Piece,
     out: &mut Words,
 ) -> Result<(), WordError>
-    ensures ok { OnOk result (Adds out.old out.new (piece_strings (L.table table.now) piece.now)) }
+    ensures ok { OnOk result (AddsElements out.old out.new (piece_strings (L.table table.now) piece.now)) }
     ensures unknown { IfErr result (λ e. IsUnknown e (piece_strings (L.table table.now) piece.now)) }
 {
     match piece {
@@ -53,7 +53,7 @@ fn push_text<L: Lookup>(
     piece: &Piece,
     out: &mut String,
 ) -> Result<(), WordError>
-    ensures ok { OnOk result (Adds (string_bytes out.old) (string_bytes out.new) (piece_text (L.table table.now) piece.now)) }
+    ensures ok { OnOk result (AddsElements (string_bytes out.old) (string_bytes out.new) (piece_text (L.table table.now) piece.now)) }
     ensures unknown { IfErr result (λ e. IsUnknown e (piece_text (L.table table.now) piece.now)) }
 {
     let mut strings = Words::new(alloc);
@@ -84,7 +84,7 @@ fn push_word<L: Lookup>(
     word: &Word,
     out: &mut Words,
 ) -> Result<(), WordError>
-    ensures ok { OnOk result (Adds out.old out.new (word_strings (L.table table.now) word.now)) }
+    ensures ok { OnOk result (AddsElements out.old out.new (word_strings (L.table table.now) word.now)) }
     ensures unknown { IfErr result (λ e. IsUnknown e (word_strings (L.table table.now) word.now)) }
 {
     if !word.quoted {
@@ -101,7 +101,7 @@ fn push_pieces<L: Lookup>(
     pieces: &[Piece],
     out: &mut Words,
 ) -> Result<(), WordError>
-    ensures ok { OnOk result (Adds out.old out.new (all_of (piece_strings (L.table table.now)) pieces.now)) }
+    ensures ok { OnOk result (AddsElements out.old out.new (all_of (piece_strings (L.table table.now)) pieces.now)) }
     ensures unknown { IfErr result (λ e. IsUnknown e (all_of (piece_strings (L.table table.now)) pieces.now)) }
 {
     for piece in pieces {

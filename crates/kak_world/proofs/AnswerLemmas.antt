@@ -2,7 +2,7 @@
 use Rattle.std.proofs.Common.{◌≡◌, Bool, true, false, ap, sym, subst, ◌∙◌, Ok, Err}
 use Rattle.std.specs.Prelude.{OnOk, OnErr, IfOk, IsErrOf}
 use Rattle.std.specs.declared.result.Result.{Result}
-use Rattle.kak_world.specs.Seen.{Carries}
+use Rattle.kak_world.specs.Seen.{CarriesValue}
 
 pub on-err : {T : Type 0} {E : Type 0} {P : Type 0} (r : Result T E) → P → OnErr r P
 on-err (Ok x) p = tt
@@ -36,24 +36,24 @@ pub ok-err : {T : Type 0} {E : Type 0} (x : T) (e : E) → ◌≡◌ {A = Result
 ok-err x e h = let no : true ≡ false = ap is-ok h in cc
 
 -- what holds of an answer without a value holds of it with one
-pub carried-ok : {T : Type 0} {E : Type 0} (P : Type 0) (d : Result (Unit {0}) E) (x : T) (r : Result T E) → Carries d x r → OnOk d P → OnOk r P
+pub carried-ok : {T : Type 0} {E : Type 0} (P : Type 0) (d : Result (Unit {0}) E) (x : T) (r : Result T E) → CarriesValue d x r → OnOk d P → OnOk r P
 carried-ok P (Ok u) x (Ok y) c p = p
 carried-ok P (Ok u) x (Err e) c p = tt
 carried-ok P (Err e) x (Ok y) c p = absurd (let no : true ≡ false = ap is-ok c in cc)
 carried-ok P (Err e) x (Err f) c p = tt
 
-pub carried-if : {T : Type 0} {E : Type 0} (P : T → Type 0) (d : Result (Unit {0}) E) (x : T) (r : Result T E) → Carries d x r → OnOk d (P x) → IfOk r P
+pub carried-if : {T : Type 0} {E : Type 0} (P : T → Type 0) (d : Result (Unit {0}) E) (x : T) (r : Result T E) → CarriesValue d x r → OnOk d (P x) → IfOk r P
 carried-if P (Ok u) x r c p = subst (λ s. IfOk s P) (sym c) p
 carried-if P (Err e) x r c p = subst (λ s. IfOk s P) (sym c) tt
 
-pub carried-err : {T : Type 0} {E : Type 0} (P : Type 0) (d : Result (Unit {0}) E) (x : T) (r : Result T E) → Carries d x r → P → OnErr r P
+pub carried-err : {T : Type 0} {E : Type 0} (P : Type 0) (d : Result (Unit {0}) E) (x : T) (r : Result T E) → CarriesValue d x r → P → OnErr r P
 carried-err P d x (Ok y) c p = tt
 carried-err P d x (Err e) c p = p
 
-pub carried-to : {T : Type 0} {E : Type 0} (d : Result (Unit {0}) E) (x : T) (r : Result T E) (e : E) → Carries d x r → IsErrOf d e → IsErrOf r e
+pub carried-to : {T : Type 0} {E : Type 0} (d : Result (Unit {0}) E) (x : T) (r : Result T E) (e : E) → CarriesValue d x r → IsErrOf d e → IsErrOf r e
 carried-to (Ok u) x r e c h = absurd (let no : true ≡ false = ap is-ok h in cc)
 carried-to (Err f) x r e c h = c ∙ ap Err (ap (error-of f) h)
 
-pub carried-from : {T : Type 0} {E : Type 0} (d : Result (Unit {0}) E) (x : T) (r : Result T E) (e : E) → Carries d x r → IsErrOf r e → IsErrOf d e
+pub carried-from : {T : Type 0} {E : Type 0} (d : Result (Unit {0}) E) (x : T) (r : Result T E) (e : E) → CarriesValue d x r → IsErrOf r e → IsErrOf d e
 carried-from (Ok u) x r e c h = absurd (let no : true ≡ false = ap is-ok (sym c ∙ h) in cc)
 carried-from (Err f) x r e c h = ap Err (ap (error-of f) (sym c ∙ h))

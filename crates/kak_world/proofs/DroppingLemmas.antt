@@ -10,7 +10,7 @@ use Rattle.kak_world.specs.declared.clients.Client.{Client}
 use Rattle.kak_world.specs.declared.world.Rest.{Rest}
 use Rattle.kak_world.specs.Flat.{Buffer, scratch, is_there, changed_at, lowest}
 use Rattle.kak_world.specs.Seen.{Kept, HasBuffer}
-use Rattle.kak_world.specs.Showing.{first_gap, placed}
+use Rattle.kak_world.specs.Showing.{first_gap, buffer_placed}
 use Rattle.kak_world.specs.Dropping.{emptied, or_scratch, moved_on, listed_for_viewers, left_without, buffers_dropped, dropped}
 use Rattle.kak_world.proofs.SlotLemmas.{lowest-here, lowest-on, there-inside}
 use Rattle.kak_world.proofs.GapLemmas.{placed-some, placed-few}
@@ -86,7 +86,7 @@ there-any (suc n) (None ∷ bs) h = there-any n bs h
 
 -- where some are left, they are what is left
 pub left-some : (bs : List (Option Buffer)) → list_any is_some bs ≡ true → or_scratch bs ≡ bs
-left-some bs h = ap (λ t. cond t bs (placed scratch bs)) h
+left-some bs h = ap (λ t. cond t bs (buffer_placed scratch bs)) h
 
 -- a buffer was dropped, and others are left
 pub other-dropped : (n to : ℕ) (clients : List Client) (bs : List (Option Buffer)) (slot now : Option Buffer) → to ≡ lowest (emptied n bs) → to < length bs → slot ≡ get_or bs to slot → now ≡ option_map (listed_for_viewers n clients) slot
@@ -130,14 +130,14 @@ last-number n bs g = new-number (emptied n bs) (omega (arith, length-emptied n b
 -- some buffer is there then, and no number is too great
 pub some-left : (n : ℕ) (bs : List (Option Buffer)) → is_there (lowest (left_without n bs)) (left_without n bs) ≡ true
 some-left n bs =
-    by_test (λ t. list_any is_some (emptied n bs) ≡ t → is_there (lowest (cond t (emptied n bs) (placed scratch (emptied n bs)))) (cond t (emptied n bs) (placed scratch (emptied n bs))) ≡ true) (list_any is_some (emptied n bs))
+    by_test (λ t. list_any is_some (emptied n bs) ≡ t → is_there (lowest (cond t (emptied n bs) (buffer_placed scratch (emptied n bs)))) (cond t (emptied n bs) (buffer_placed scratch (emptied n bs))) ≡ true) (list_any is_some (emptied n bs))
     (λ _ e. any-lowest (emptied n bs) e)
     (λ _ e. placed-some scratch (emptied n bs))
     refl
 
 pub has-left : (n : ℕ) (bs : List (Option Buffer)) → HasBuffer bs → HasBuffer (left_without n bs)
 has-left n bs h =
-    by_test (λ t. list_any is_some (emptied n bs) ≡ t → HasBuffer (cond t (emptied n bs) (placed scratch (emptied n bs)))) (list_any is_some (emptied n bs))
+    by_test (λ t. list_any is_some (emptied n bs) ≡ t → HasBuffer (cond t (emptied n bs) (buffer_placed scratch (emptied n bs)))) (list_any is_some (emptied n bs))
     (λ _ e. record { some = any-lowest (emptied n bs) e; few = omega (arith, length-emptied n bs, h.few) })
     (λ _ e. record { some = placed-some scratch (emptied n bs); few = placed-few scratch (emptied n bs) 1024 (omega (arith, length-emptied n bs, h.few)) (omega (arith, none-gap (emptied n bs) e)) })
     refl

@@ -4,7 +4,7 @@ use Rattle.std.specs.Prelude.{OnOk, OnErr}
 use Rattle.std.specs.declared.result.Result.{Result}
 use Rattle.text_model.specs.declared.coords.Shift.{Shift}
 use Rattle.text_model.specs.Texts.{IsStored}
-use Rattle.text_model.specs.Changes.{Change, Insertion, Erasure, changed, all_changed, move_of, IsInside, IsShift}
+use Rattle.text_model.specs.Changes.{Change, Insertion, Erasure, changed, all_changed, move_of, IsChangeInside, IsShift}
 use Rattle.text_model.proofs.ChangeLemmas.{move_of-change}
 use Rattle.undo_model.specs.Steps.{AreSteps}
 use Rattle.tables.specs.Tables.{first_where}
@@ -22,33 +22,33 @@ use Rattle.move_marks.specs.Marking.{IsLeftBy}
 use Rattle.selection_map.specs.Catching.{AreShiftsOf}
 use Rattle.buffer_store.specs.declared.errors.BufferError.{BufferError}
 use Rattle.buffer_store.specs.declared.errors.MoveError.{MoveError}
-use Rattle.buffer_store.specs.Stored.{shift_of, shifts_of}
+use Rattle.buffer_store.specs.Stored.{shift_of, change_shifts}
 use Rattle.buffer_store.specs.Buffers.{Stored, IsEdited, IsBroken}
 use Rattle.buffer_store.proofs.PartLemmas.{edited-text}
 use Rattle.kak_world.specs.declared.lists.HeldList.{HeldList}
 use Rattle.kak_world.specs.declared.holder.Holder.{Holder}
-use Rattle.kak_world.specs.Flat.{Held, Buffer, fresh, is_held_by, with_list}
+use Rattle.kak_world.specs.Flat.{Held, Buffer, fresh_list, is_held_by, with_list}
 use Rattle.kak_world.specs.Changing.{list_moved, buffer_changed, buffer_edited, buffer_moved, buffer_traveled, IsSomeEdited, IsSomeMoved}
 use Rattle.kak_world.specs.Seen.{buffer_seen, AreHeld, HaveMoved, CanMove}
 use Rattle.kak_world.proofs.MoveLemmas.{moved-held, moved-buffer}
 use Rattle.kak_world.proofs.AnswerLemmas.{either}
 
 -- the shift of a change describes it
-shift-fits : (text : List ℕ) (c : Change) → IsInside text c → IsShift text (changed text c) (shift_of text c) (move_of text c)
+shift-fits : (text : List ℕ) (c : Change) → IsChangeInside text c → IsShift text (changed text c) (shift_of text c) (move_of text c)
 shift-fits text (Insertion p s) i = record { insert_is = refl; change = move_of-change text (Insertion p s) i; begin_is = refl; end_is = refl; last_offset = refl; last_is = refl }
 shift-fits text (Erasure p q) i = record { insert_is = refl; change = move_of-change text (Erasure p q) i; begin_is = refl; end_is = refl; last_offset = refl; last_is = refl }
 
 -- and so for steps, one after another
-pub steps-shifts : (text : List ℕ) (cs : List Change) → AreSteps text cs → AreShiftsOf text cs (shifts_of text cs)
+pub steps-shifts : (text : List ℕ) (cs : List Change) → AreSteps text cs → AreShiftsOf text cs (change_shifts text cs)
 steps-shifts text [] s = tt
 steps-shifts text (c ∷ cs) s = (s.0.stored, shift-fits text c s.0.inside, steps-shifts (changed text c) cs s.1)
 
 -- lists can go along with changes whose shifts these are
-pub can-go : (text : List ℕ) (cs : List Change) (shifts given : List Shift) (lists : List HeldList) → AreSteps text cs → shifts ≡ shifts_of text cs → given ≡ shifts → IsStored text → AreHeld text lists → CanMove lists given
+pub can-go : (text : List ℕ) (cs : List Change) (shifts given : List Shift) (lists : List HeldList) → AreSteps text cs → shifts ≡ change_shifts text cs → given ≡ shifts → IsStored text → AreHeld text lists → CanMove lists given
 can-go text cs shifts given lists steps e g stored held = record { text = text; changes = cs; stored = stored; shifts_are = subst (AreShiftsOf text cs) (sym (g ∙ e)) (steps-shifts text cs steps); held = held }
 
 pub have-gone : (text : List ℕ) (cs : List Change) (shifts given : List Shift) (before now : List HeldList) → ((text : List ℕ) (ds : List Change) → IsStored text → AreShiftsOf text ds given → AreHeld text before → HaveMoved text ds before now)
-    → AreSteps text cs → shifts ≡ shifts_of text cs → given ≡ shifts → IsStored text → AreHeld text before → HaveMoved text cs before now
+    → AreSteps text cs → shifts ≡ change_shifts text cs → given ≡ shifts → IsStored text → AreHeld text before → HaveMoved text cs before now
 have-gone text cs shifts given before now moves steps e g stored held = moves text cs stored (subst (AreShiftsOf text cs) (sym (g ∙ e)) (steps-shifts text cs steps)) held
 
 -- the lists after an edit are held in its text
@@ -92,9 +92,9 @@ pub record HasGone (cs : List Change) (old new : Stored) (shifts : List Shift) :
   pub made : ℕ
   pub steps : AreSteps old.story.text (take made cs)
   pub text : new.story.text ≡ all_changed old.story.text (take made cs)
-  pub shifts_are : shifts ≡ shifts_of old.story.text (take made cs)
+  pub shifts_are : shifts ≡ change_shifts old.story.text (take made cs)
 
-pub has-gone : {T : Type 0} (r : Result T MoveError) (travel : Travel) (old new : Stored) (shifts : List Shift) → IsStory old.story → OnOk r (new ≡ record old { story = moved_by travel old.story }) → OnOk r (shifts ≡ shifts_of old.story.text (move_changes travel old.story))
+pub has-gone : {T : Type 0} (r : Result T MoveError) (travel : Travel) (old new : Stored) (shifts : List Shift) → IsStory old.story → OnOk r (new ≡ record old { story = moved_by travel old.story }) → OnOk r (shifts ≡ change_shifts old.story.text (move_changes travel old.story))
     → OnErr r (IsBroken (move_changes travel old.story) old new shifts) → HasGone (move_changes travel old.story) old new shifts
 has-gone r travel old new shifts story ok told broken =
     let cs : List Change = move_changes travel old.story in
@@ -105,7 +105,7 @@ has-gone r travel old new shifts story ok told broken =
       made = length cs;
       steps = subst (AreSteps old.story.text) (sym all) leads.steps;
       text = ap (λ (x : Stored). x.story.text) n ∙ sym leads.lead ∙ ap (all_changed old.story.text) (sym all);
-      shifts_are = e ∙ ap (shifts_of old.story.text) (sym all);
+      shifts_are = e ∙ ap (change_shifts old.story.text) (sym all);
     })
     (λ b. record { made = b.made; steps = b.steps; text = b.text; shifts_are = b.shifts_are })
 
@@ -139,20 +139,20 @@ gone-left holder travel text list b b' to m left t e =
     ∙ ap (with_list holder (λ held. record held { sels = selected text list })) m
     ∙ ap (λ x. with_list holder (λ held. record held { sels = selected x list }) moved) t
     ∙ ap (λ ls. let x : Buffer = record { name = moved.name; is_file = moved.is_file; story = moved.story; lists = ls } in x)
-    (changed-same (is_held_by holder) (λ held. record held { sels = selected (all_changed b.story.text cs) list }) (λ held. record held { sels = left_by b.story.text cs held.sels }) (fresh holder) moved.lists
-    (let h : Held = first_where (is_held_by holder) (fresh holder) moved.lists in ap (λ s. let x : Held = record { holder = h.holder; sels = s; view = h.view } in x) (left.left h.sels)))
+    (changed-same (is_held_by holder) (λ held. record held { sels = selected (all_changed b.story.text cs) list }) (λ held. record held { sels = left_by b.story.text cs held.sels }) (fresh_list holder) moved.lists
+    (let h : Held = first_where (is_held_by holder) (fresh_list holder) moved.lists in ap (λ s. let x : Held = record { holder = h.holder; sels = s; view = h.view } in x) (left.left h.sels)))
 
 pub gone-without : (holder : Holder) (travel : Travel) (b to : Buffer) → to ≡ buffer_moved travel b → move_changes travel b.story ≡ [] → to ≡ buffer_traveled holder travel b
 gone-without holder travel b to m none =
     let moved : Buffer = buffer_moved travel b in
     m
     ∙ sym (ap (λ ls. let x : Buffer = record { name = moved.name; is_file = moved.is_file; story = moved.story; lists = ls } in x)
-    (changed-stays (is_held_by holder) (λ held. record held { sels = left_by b.story.text (move_changes travel b.story) held.sels }) (fresh holder) moved.lists
-    (let h : Held = first_where (is_held_by holder) (fresh holder) moved.lists in ap (λ cs. let x : Held = record { holder = h.holder; sels = left_by b.story.text cs h.sels; view = h.view } in x) none)))
+    (changed-stays (is_held_by holder) (λ held. record held { sels = left_by b.story.text (move_changes travel b.story) held.sels }) (fresh_list holder) moved.lists
+    (let h : Held = first_where (is_held_by holder) (fresh_list holder) moved.lists in ap (λ cs. let x : Held = record { holder = h.holder; sels = left_by b.story.text cs h.sels; view = h.view } in x) none)))
 
 -- the lists have gone along with a whole move
 pub gone-moves : (travel : Travel) (old : Stored) (shifts given : List Shift) (before now : List HeldList) → ((text : List ℕ) (ds : List Change) → IsStored text → AreShiftsOf text ds given → AreHeld text before → HaveMoved text ds before now)
-    → IsStory old.story → shifts ≡ shifts_of old.story.text (move_changes travel old.story) → given ≡ shifts → AreHeld old.story.text before → HaveMoved old.story.text (move_changes travel old.story) before now
+    → IsStory old.story → shifts ≡ change_shifts old.story.text (move_changes travel old.story) → given ≡ shifts → AreHeld old.story.text before → HaveMoved old.story.text (move_changes travel old.story) before now
 gone-moves travel old shifts given before now moves story e g held =
     let leads : Leads old.story.text (moved_by travel old.story).text (move_changes travel old.story) = named-leads travel old.story story in
     have-gone old.story.text (move_changes travel old.story) shifts given before now moves leads.steps e g story.stored held

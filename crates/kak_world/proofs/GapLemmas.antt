@@ -6,10 +6,10 @@ use Rattle.tables.proofs.TableLemmas.{by_test}
 use Rattle.std.specs.declared.option.Option.{Option}
 use Rattle.kak_world.specs.declared.clients.Client.{Client}
 use Rattle.kak_world.specs.declared.world.Rest.{Rest}
-use Rattle.kak_world.specs.Flat.{Buffer, Flat, made, is_there, lowest, client_of, shown_of}
+use Rattle.kak_world.specs.Flat.{Buffer, Flat, made_buffer, is_there, lowest, client_of, shown_of}
 use Rattle.kak_world.specs.Keeping.{KeepsClients}
 use Rattle.kak_world.specs.Seen.{Kept, HasBuffer}
-use Rattle.kak_world.specs.Showing.{first_gap, placed, opened, buffer_count, IsFirstGap, StandsAt, GapsAreTaken}
+use Rattle.kak_world.specs.Showing.{first_gap, buffer_placed, buffer_opened, buffer_count, IsFirstGap, BufferStandsAt, GapsAreTaken}
 use Rattle.kak_world.proofs.WorldLemmas.{parts}
 use Rattle.kak_world.proofs.KeepingLaws.{listed_in, keeps-by-parts}
 
@@ -39,14 +39,14 @@ gap-past (b ∷ bs) zero h = absurd (omega arith)
 gap-past (b ∷ bs) (suc i) h = let rest : i + first_gap (drop i bs) ≡ i = gap-past bs i (omega arith) in omega arith
 
 -- a buffer that is put there
-pub placed-set : (b : Buffer) (bs : List (Option Buffer)) (n : ℕ) → n ≡ first_gap bs → n < length bs → set bs n (Some b) ≡ placed b bs
+pub placed-set : (b : Buffer) (bs : List (Option Buffer)) (n : ℕ) → n ≡ first_gap bs → n < length bs → set bs n (Some b) ≡ buffer_placed b bs
 placed-set b [] n e h = absurd (omega arith)
 placed-set b (None ∷ bs) zero e h = refl
 placed-set b (None ∷ bs) (suc n) e h = absurd (omega (arith, e))
 placed-set b (Some a ∷ bs) zero e h = absurd (omega (arith, e))
 placed-set b (Some a ∷ bs) (suc n) e h = ap (λ xs. Some a ∷ xs) (placed-set b bs n (omega (arith, e)) (omega arith))
 
-pub placed-end : (b : Buffer) (bs : List (Option Buffer)) (n : ℕ) → n ≡ first_gap bs → length bs ≤ n → bs ++ Some b ∷ [] ≡ placed b bs
+pub placed-end : (b : Buffer) (bs : List (Option Buffer)) (n : ℕ) → n ≡ first_gap bs → length bs ≤ n → bs ++ Some b ∷ [] ≡ buffer_placed b bs
 placed-end b [] n e h = refl
 placed-end b (None ∷ bs) n e h = absurd (omega (arith, e))
 placed-end b (Some a ∷ bs) zero e h = absurd (omega (arith, e))
@@ -85,18 +85,18 @@ full-by bs n h e =
     (λ _ q. sym (ne_eqb (buffer_count bs) 1024 (λ c. absurd (omega (arith, gap-full bs n h e c, leb-false 1024 n (sym q))))))
     refl
 
-pub placed-some : (b : Buffer) (bs : List (Option Buffer)) → is_there (lowest (placed b bs)) (placed b bs) ≡ true
+pub placed-some : (b : Buffer) (bs : List (Option Buffer)) → is_there (lowest (buffer_placed b bs)) (buffer_placed b bs) ≡ true
 placed-some b [] = refl
 placed-some b (None ∷ bs) = refl
 placed-some b (Some a ∷ bs) = refl
 
-pub placed-few : (b : Buffer) (bs : List (Option Buffer)) (most : ℕ) → length bs ≤ most → first_gap bs < most → length (placed b bs) ≤ most
+pub placed-few : (b : Buffer) (bs : List (Option Buffer)) (most : ℕ) → length bs ≤ most → first_gap bs < most → length (buffer_placed b bs) ≤ most
 placed-few b [] most h g = omega arith
 placed-few b (None ∷ bs) most h g = h
 placed-few b (Some a ∷ bs) zero h g = absurd (omega arith)
 placed-few b (Some a ∷ bs) (suc most) h g = omega (arith, placed-few b bs most (omega arith) (omega arith))
 
-pub has-placed : (b : Buffer) (bs now : List (Option Buffer)) (n : ℕ) → n ≡ first_gap bs → n < 1024 → now ≡ placed b bs → HasBuffer bs → HasBuffer now
+pub has-placed : (b : Buffer) (bs now : List (Option Buffer)) (n : ℕ) → n ≡ first_gap bs → n < 1024 → now ≡ buffer_placed b bs → HasBuffer bs → HasBuffer now
 has-placed b bs now n e g t h = subst HasBuffer (sym t) (record { some = placed-some b bs; few = placed-few b bs 1024 h.few (omega (arith, e)) })
 
 -- the gap is no buffer's, and all numbers below it are
@@ -114,15 +114,15 @@ least-gap bs = record { free = free bs; taken_below = taken bs }
     taken (Some b ∷ bs) zero h = refl
     taken (Some b ∷ bs) (suc k) h = taken bs k (omega arith)
 
-stands-there : (b : Buffer) (bs : List (Option Buffer)) → StandsAt (first_gap bs) b bs (placed b bs)
+stands-there : (b : Buffer) (bs : List (Option Buffer)) → BufferStandsAt (first_gap bs) b bs (buffer_placed b bs)
 stands-there b bs = record { here = here bs; others = others bs }
   where
-    here : (bs : List (Option Buffer)) → slice_index_or (placed b bs) (first_gap bs) None ≡ Some b
+    here : (bs : List (Option Buffer)) → slice_index_or (buffer_placed b bs) (first_gap bs) None ≡ Some b
     here [] = refl
     here (None ∷ bs) = refl
     here (Some a ∷ bs) = here bs
 
-    others : (bs : List (Option Buffer)) (k : ℕ) → k ≢ first_gap bs → slice_index_or (placed b bs) k None ≡ slice_index_or bs k None
+    others : (bs : List (Option Buffer)) (k : ℕ) → k ≢ first_gap bs → slice_index_or (buffer_placed b bs) k None ≡ slice_index_or bs k None
     others [] zero h = absurd (h refl)
     others [] (suc k) h = refl
     others (None ∷ bs) zero h = absurd (h refl)
@@ -134,14 +134,14 @@ pub gaps_are_taken : GapsAreTaken
 gaps_are_taken = record { least = least-gap; stands = stands-there }
 
 -- the world with one more buffer
-pub now-opened : (name : List ℕ) (file : Bool) (text : List ℕ) (bs now : List (Option Buffer)) (cs : List Client) (r : Rest) (w : Kept) (b : Buffer) → parts bs cs r ≡ w → now ≡ placed b bs → b ≡ made name file text → (parts now cs r).flat ≡ opened name file text w.flat
-unfolding opened
+pub now-opened : (name : List ℕ) (file : Bool) (text : List ℕ) (bs now : List (Option Buffer)) (cs : List Client) (r : Rest) (w : Kept) (b : Buffer) → parts bs cs r ≡ w → now ≡ buffer_placed b bs → b ≡ made_buffer name file text → (parts now cs r).flat ≡ buffer_opened name file text w.flat
+unfolding buffer_opened
 now-opened name file text bs now cs r w b e p m =
     ap (λ x. (parts x cs r).flat) p
-    ∙ ap (λ x. (parts (placed x bs) cs r).flat) m
-    ∙ ap (λ (k : Kept). opened name file text k.flat) e
+    ∙ ap (λ x. (parts (buffer_placed x bs) cs r).flat) m
+    ∙ ap (λ (k : Kept). buffer_opened name file text k.flat) e
 
-listed-placed : (k n : ℕ) (name : List ℕ) (file : Bool) (text : List ℕ) (bs : List (Option Buffer)) → listed_in k (slice_index_or (placed (made name file text) bs) n None) ≡ listed_in k (slice_index_or bs n None)
+listed-placed : (k n : ℕ) (name : List ℕ) (file : Bool) (text : List ℕ) (bs : List (Option Buffer)) → listed_in k (slice_index_or (buffer_placed (made_buffer name file text) bs) n None) ≡ listed_in k (slice_index_or bs n None)
 listed-placed k zero name file text [] = refl
 listed-placed k (suc n) name file text [] = refl
 listed-placed k zero name file text (None ∷ bs) = refl
@@ -150,9 +150,9 @@ listed-placed k zero name file text (Some a ∷ bs) = refl
 listed-placed k (suc n) name file text (Some a ∷ bs) = listed-placed k n name file text bs
 
 -- nobody comes or goes
-pub keeps_opened : (name : List ℕ) (file : Bool) (text : List ℕ) (flat : Flat) → KeepsClients flat (opened name file text flat)
-unfolding opened shown_of client_of
-keeps_opened name file text flat = keeps-by-parts flat (opened name file text flat) refl (λ k. refl) (λ k n. listed-placed k n name file text flat.buffers)
+pub keeps_opened : (name : List ℕ) (file : Bool) (text : List ℕ) (flat : Flat) → KeepsClients flat (buffer_opened name file text flat)
+unfolding buffer_opened shown_of client_of
+keeps_opened name file text flat = keeps-by-parts flat (buffer_opened name file text flat) refl (λ k. refl) (λ k n. listed-placed k n name file text flat.buffers)
 
-pub open-keeps : (name : List ℕ) (file : Bool) (text : List ℕ) (old now : Flat) → now ≡ opened name file text old → KeepsClients old now
+pub open-keeps : (name : List ℕ) (file : Bool) (text : List ℕ) (old now : Flat) → now ≡ buffer_opened name file text old → KeepsClients old now
 open-keeps name file text old now e = subst (KeepsClients old) (sym e) (keeps_opened name file text old)

@@ -20,9 +20,9 @@ use Rattle.kak_world.specs.declared.own.Own.{Own}
 use Rattle.kak_world.specs.declared.clients.Client.{Client}
 use Rattle.kak_registers.specs.declared.row.Register.{Register}
 use Rattle.kak_registers.specs.declared.names.RegisterError.{RegisterError}
-use Rattle.kak_registers.specs.Refusals.{refusal_of}
+use Rattle.kak_registers.specs.Refusals.{register_refusal}
 use Rattle.kak_world.specs.Registers.{set_unless, set_row}
-use Rattle.kak_world.specs.Flat.{Held, Buffer, Flat, fresh, newcomer, is_of, is_here, is_held_by, has_list, with_list, listed_for, committed_for, left_behind, buffer_or_scratch, changed_at, lowest, least_free, numbers_of, client_of, shown_of, buffer_of, story_of, text_of, is_joined, with_own, with_list_of, with_sels, with_view, with_units, joined_by, left_by, with_registers}
+use Rattle.kak_world.specs.Flat.{Held, Buffer, Flat, fresh_list, newcomer, is_of, is_here, is_held_by, has_list, with_list, listed_for, committed_for, left_behind, buffer_or_scratch, changed_at, lowest, least_free, numbers_of, client_of, shown_of, buffer_of, story_of, text_of, is_joined, with_own, with_list_of, with_sels, with_view, with_units, joined_by, left_by_client, with_registers}
 use Rattle.kak_world.specs.Changing.{changed_in, splice_changes_of, edited_by, traveled_by, commits}
 use Rattle.kak_world.proofs.WorldLaws.{has-edited, has-traveled}
 use Rattle.kak_world.specs.Rows.{does, fails}
@@ -175,31 +175,31 @@ joined_others_come k who flat other =
     joined-by-parts k flat (joined_by who flat)
     (here_come k who flat ∙ or-nothing (is_here k flat.clients) (who == k) other)
     (ap (λ (c : Client). c.shown) (first-added (is_of k) (newcomer k 0 0) (newcomer who (least_free (numbers_of flat.clients)) (lowest flat.buffers)) flat.clients other))
-    (λ n. listed-changed k (lowest flat.buffers) n (listed_for (Of who)) flat.buffers (λ b. any-with_other (is_held_by (Of who)) (is_held_by (Of k)) (fresh (Of who)) b.lists other))
+    (λ n. listed-changed k (lowest flat.buffers) n (listed_for (Of who)) flat.buffers (λ b. any-with_other (is_held_by (Of who)) (is_held_by (Of k)) (fresh_list (Of who)) b.lists other))
 
 apart : (a k x : ℕ) → (a == k) ≡ false → (x == a) ≡ true → (x == k) ≡ false
 apart a k x other e = ap (λ n. n == k) (eqb-true x a e) ∙ other
 
 -- who goes isn't here any more, and the others are
-pub here_goes : (who : ℕ) (flat : Flat) → is_here who (left_by who flat).clients ≡ false
-unfolding left_by
+pub here_goes : (who : ℕ) (flat : Flat) → is_here who (left_by_client who flat).clients ≡ false
+unfolding left_by_client
 here_goes who flat = none-left (is_of who) flat.clients
 
-pub here_others_go : (k who : ℕ) (flat : Flat) → (who == k) ≡ false → is_here k (left_by who flat).clients ≡ is_here k flat.clients
-unfolding left_by
+pub here_others_go : (k who : ℕ) (flat : Flat) → (who == k) ≡ false → is_here k (left_by_client who flat).clients ≡ is_here k flat.clients
+unfolding left_by_client
 here_others_go k who flat other = any-left (is_of who) (is_of k) flat.clients (λ c e. apart who k c.who other e)
 
-pub count_goes : (who : ℕ) (flat : Flat) → is_here who flat.clients ≡ true → length (left_by who flat).clients + 1 ≤ length flat.clients
-unfolding left_by
+pub count_goes : (who : ℕ) (flat : Flat) → is_here who flat.clients ≡ true → length (left_by_client who flat).clients + 1 ≤ length flat.clients
+unfolding left_by_client
 count_goes who flat here = fewer-left (is_of who) flat.clients here
 
-pub joined_goes : (who : ℕ) (flat : Flat) → is_joined who (left_by who flat) ≡ false
-joined_goes who flat = is-joined-in who (left_by who flat) ∙ ap (λ b. joined_in who b (shown_of who (left_by who flat)) (left_by who flat).buffers) (here_goes who flat)
+pub joined_goes : (who : ℕ) (flat : Flat) → is_joined who (left_by_client who flat) ≡ false
+joined_goes who flat = is-joined-in who (left_by_client who flat) ∙ ap (λ b. joined_in who b (shown_of who (left_by_client who flat)) (left_by_client who flat).buffers) (here_goes who flat)
 
-pub joined_others_go : (k who : ℕ) (flat : Flat) → (who == k) ≡ false → is_joined k (left_by who flat) ≡ is_joined k flat
-unfolding left_by shown_of client_of
+pub joined_others_go : (k who : ℕ) (flat : Flat) → (who == k) ≡ false → is_joined k (left_by_client who flat) ≡ is_joined k flat
+unfolding left_by_client shown_of client_of
 joined_others_go k who flat other =
-    joined-by-parts k flat (left_by who flat)
+    joined-by-parts k flat (left_by_client who flat)
     (here_others_go k who flat other)
     (ap (λ (c : Client). c.shown) (first-left (is_of who) (is_of k) (newcomer k 0 0) flat.clients (λ c e. apart who k c.who other e)))
     (λ n. listed-each k n (left_behind who) flat.buffers (λ b. any-left (is_held_by (Of who)) (is_held_by (Of k)) b.lists (λ h e. held-apart h e)))
@@ -207,7 +207,7 @@ joined_others_go k who flat other =
     held-apart : (h : Held) → is_held_by (Of who) h ≡ true → is_held_by (Of k) h ≡ false
     held-apart h e = by h.holder e
       where
-        by : (holder : Holder) → is_held_by (Of who) (record (fresh holder) { holder = holder }) ≡ true → is_held_by (Of k) (record (fresh holder) { holder = holder }) ≡ false
+        by : (holder : Holder) → is_held_by (Of who) (record (fresh_list holder) { holder = holder }) ≡ true → is_held_by (Of k) (record (fresh_list holder) { holder = holder }) ≡ false
         by (Of n) e = apart who k n other e
 
 -- the registers
@@ -217,7 +217,7 @@ keeps_registers rows flat = keeps-by-parts flat (with_registers rows flat) refl 
 
 pub keeps_set_row : (name : ℕ) (strings : List (List ℕ)) (flat : Flat) → KeepsClients flat (set_row name strings flat).world
 unfolding set_row
-keeps_set_row name strings flat = by (refusal_of name strings)
+keeps_set_row name strings flat = by (register_refusal name strings)
   where
     by : (o : Option RegisterError) → KeepsClients flat (set_unless o name strings flat).world
     by None = keeps_registers _ flat

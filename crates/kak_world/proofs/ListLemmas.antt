@@ -14,7 +14,7 @@ use Rattle.selection_set.proofs.HeldLemmas.{all-at}
 use Rattle.undo_model.specs.Stories.{Story}
 use Rattle.kak_world.specs.declared.lists.HeldList.{HeldList}
 use Rattle.kak_world.specs.declared.holder.Holder.{Holder}
-use Rattle.kak_world.specs.Flat.{Held, Buffer, is_held_by, has_list, list_on, with_list, listed_for, unlisted_for, fresh}
+use Rattle.kak_world.specs.Flat.{Held, Buffer, is_held_by, has_list, list_on, with_list, listed_for, unlisted_for, fresh_list}
 use Rattle.kak_world.specs.Seen.{held_seen, is_list_of, buffer_seen, AreHeld}
 
 -- a holder's list is at the same place in both
@@ -54,7 +54,7 @@ pub list-read : (holder : Holder) (name : List ℕ) (file : Bool) (story : Story
     → held_seen story.text row ≡ list_on holder b
 list-read holder name file story rows b n row e h p r =
     let inside : n < length rows = list-inside holder name file story rows b n e h p in
-    first-at (is_held_by holder) (fresh holder) (held_seen story.text row) (map (held_seen story.text) rows) b.lists n (ap (λ (x : Buffer). x.lists) e) (p ∙ sym (same-place holder story.text rows)) (omega (arith, length-map rows (held_seen story.text)))
+    first-at (is_held_by holder) (fresh_list holder) (held_seen story.text row) (map (held_seen story.text) rows) b.lists n (ap (λ (x : Buffer). x.lists) e) (p ∙ sym (same-place holder story.text rows)) (omega (arith, length-map rows (held_seen story.text)))
     (ap (held_seen story.text) r ∙ sym (get_or-map (held_seen story.text) rows n row (held_seen story.text row) inside))
 
 pub list-held : (text : List ℕ) (rows : List HeldList) (n : ℕ) (row : HeldList) → AreHeld text rows → n < length rows → row ≡ get_or rows n row → IsHeld text row.sels
@@ -85,11 +85,11 @@ pub main-held : (text : List ℕ) (s : Listed) (n : ℕ) → IsHeld text s → n
 main-held text s n h l = record { inside = h.inside; settled = record { ranges = h.settled.ranges; apart = h.settled.apart; main_is = omega (arith, l, length-map s.list (range_of text)) } }
 
 -- a list that was added
-pub list-added : (holder : Holder) (name : List ℕ) (file : Bool) (story : Story) (rows : List HeldList) (b : Buffer) (row : HeldList) → buffer_seen name file story rows ≡ b → has_list holder b ≡ false → held_seen story.text row ≡ fresh holder
+pub list-added : (holder : Holder) (name : List ℕ) (file : Bool) (story : Story) (rows : List HeldList) (b : Buffer) (row : HeldList) → buffer_seen name file story rows ≡ b → has_list holder b ≡ false → held_seen story.text row ≡ fresh_list holder
     → buffer_seen name file story (rows ++ row ∷ []) ≡ listed_for holder b
 list-added holder name file story rows b row e h r =
     ap (λ ls. let x : Buffer = record { name = name; is_file = file; story = story; lists = ls } in x)
-    (map-added rows ∙ ap (λ x. map (held_seen story.text) rows ++ x ∷ []) r ∙ sym (ap (λ t. cond t (map (held_seen story.text) rows) (map (held_seen story.text) rows ++ fresh holder ∷ [])) (ap (has_list holder) e ∙ h)))
+    (map-added rows ∙ ap (λ x. map (held_seen story.text) rows ++ x ∷ []) r ∙ sym (ap (λ t. cond t (map (held_seen story.text) rows) (map (held_seen story.text) rows ++ fresh_list holder ∷ [])) (ap (has_list holder) e ∙ h)))
     ∙ ap (listed_for holder) e
   where
     map-added : (xs : List HeldList) → map (held_seen story.text) (xs ++ row ∷ []) ≡ map (held_seen story.text) xs ++ held_seen story.text row ∷ []
@@ -97,7 +97,7 @@ list-added holder name file story rows b row e h r =
     map-added (x ∷ xs) = ap (λ ys. held_seen story.text x ∷ ys) (map-added xs)
 
 pub list-stays : (holder : Holder) (b : Buffer) → has_list holder b ≡ true → b ≡ listed_for holder b
-list-stays holder b h = ap (λ t. let x : Buffer = record { name = b.name; is_file = b.is_file; story = b.story; lists = cond t b.lists (b.lists ++ fresh holder ∷ []) } in x) (sym h)
+list-stays holder b h = ap (λ t. let x : Buffer = record { name = b.name; is_file = b.is_file; story = b.story; lists = cond t b.lists (b.lists ++ fresh_list holder ∷ []) } in x) (sym h)
 
 pub added-held : (text : List ℕ) (rows : List HeldList) (row : HeldList) → AreHeld text rows → IsHeld text row.sels → AreHeld text (rows ++ row ∷ [])
 added-held text [] row a h = (h, tt)

@@ -4,7 +4,7 @@ use Rattle.text_model.specs.declared.coords.Shift.{Shift}
 use Rattle.text_model.specs.Texts.{IsStored}
 use Rattle.text_model.specs.Changes.{Change, all_changed}
 use Rattle.undo_model.specs.Stories.{Story}
-use Rattle.window_view.specs.Views.{view_of as window_seen}
+use Rattle.window_view.specs.Views.{window_seen}
 use Rattle.selection_set.specs.Listing.{Listed}
 use Rattle.selection_set.specs.Held.{IsHeld}
 use Rattle.selection_set.proofs.HeldLemmas.{all-at}

@@ -17,7 +17,7 @@ use Rattle.buffer_store.specs.Buffers.{flat_splices, changes_of, refusal_of}
 use Rattle.kak_world.specs.declared.ask.EditError.TheVariants.{UndoFull, TextFull}
 use Rattle.kak_world.specs.declared.holder.Holder.TheVariants.{Of}
 use Rattle.kak_world.specs.Flat.{Buffer, Flat, shown_of, buffer_of, story_of, text_of}
-use Rattle.kak_world.specs.Changing.{buffer_changed, buffer_edited, buffer_traveled, changed_in, splice_changes_of, edited_by, traveled_by, IsSomeEdited, IsSomeMoved, IsAfterSome, IsCutOff}
+use Rattle.kak_world.specs.Changing.{buffer_changed, buffer_edited, buffer_traveled, changed_in, splice_changes_of, edited_by, traveled_by, IsSomeEdited, IsSomeMoved, IsAfterSomeChanges, IsCutOff}
 use Rattle.kak_world.specs.Rows.{Row, Fails, does, fails, error_text, row_of}
 use Rattle.kak_world.specs.Refusals.{of_edit, of_move}
 use Rattle.kak_world.specs.Editing.{is_full_for, long_refusal, edit_row, travel_row, move_ends, move_refusal}
@@ -108,7 +108,7 @@ unfolding traveled_by
 traveled-of travel who flat new b to t changed = changed (buffer_traveled (Of who) travel) t
 
 -- the same after some of the changes
-pub some-edited : (who : ℕ) (cs ds : List Change) (flat new : Flat) (b to : Buffer) → cs ≡ ds → IsSomeEdited who cs b to → ((f : Buffer → Buffer) → to ≡ f b → new ≡ changed_in (shown_of who flat) f flat) → IsAfterSome who ds flat new
+pub some-edited : (who : ℕ) (cs ds : List Change) (flat new : Flat) (b to : Buffer) → cs ≡ ds → IsSomeEdited who cs b to → ((f : Buffer → Buffer) → to ≡ f b → new ≡ changed_in (shown_of who flat) f flat) → IsAfterSomeChanges who ds flat new
 some-edited who cs ds flat new b to e s changed = record {
   made = s.made;
   is = changed (buffer_edited who (take s.made cs)) s.is ∙ ap (λ xs. changed_in (shown_of who flat) (buffer_edited who (take s.made xs)) flat) e;

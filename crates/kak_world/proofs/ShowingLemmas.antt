@@ -9,23 +9,23 @@ use Rattle.tables.proofs.RowLemmas.{first-changed, first-changed_other, any-chan
 use Rattle.kak_world.specs.declared.holder.Holder.TheVariants.{Of}
 use Rattle.kak_world.specs.declared.clients.Client.{Client}
 use Rattle.kak_world.specs.declared.world.Rest.{Rest}
-use Rattle.kak_world.specs.Flat.{Buffer, Flat, is_of, is_here, newcomer, fresh, is_held_by, has_list, listed_for, is_there, buffer_at, changed_at, client_of, shown_of, buffer_of, is_joined}
+use Rattle.kak_world.specs.Flat.{Buffer, Flat, is_of, is_here, newcomer, fresh_list, is_held_by, has_list, listed_for, is_there, buffer_at, changed_at, client_of, shown_of, buffer_of, is_joined}
 use Rattle.kak_world.specs.Keeping.{KeepsClients}
 use Rattle.kak_world.specs.Seen.{Kept, HasBuffer}
-use Rattle.kak_world.specs.Showing.{seeing, shows}
+use Rattle.kak_world.specs.Showing.{seeing_buffer, shows}
 use Rattle.kak_world.proofs.SlotLemmas.{there-inside, there-kept, buffer-changed}
 use Rattle.kak_world.proofs.WorldLaws.{joined_here}
 use Rattle.kak_world.proofs.WorldLemmas.{parts, has-changed}
 use Rattle.kak_world.proofs.KeepingLaws.{joined-by-parts, listed-changed}
 
 -- the client at its place, when it sees another buffer
-pub client-seen : (who : ℕ) (rows clients : List Client) (n : ℕ) (client : Client) (to : ℕ) → rows ≡ clients → is_here who clients ≡ true → n ≡ place_where (is_of who) rows → client ≡ get_or rows n client → set rows n (seeing to client) ≡ changed_where (is_of who) (seeing to) clients
+pub client-seen : (who : ℕ) (rows clients : List Client) (n : ℕ) (client : Client) (to : ℕ) → rows ≡ clients → is_here who clients ≡ true → n ≡ place_where (is_of who) rows → client ≡ get_or rows n client → set rows n (seeing_buffer to client) ≡ changed_where (is_of who) (seeing_buffer to) clients
 client-seen who rows clients n client to e h p r =
     let inside : place_where (is_of who) rows < length rows = place-inside (is_of who) rows (ap (is_here who) e ∙ h) in
-    ap (λ (x : Client). set rows n (seeing to x)) r
-    ∙ ap (λ k. set rows k (seeing to (get_or rows k client))) p
-    ∙ sym (changed-place (is_of who) (seeing to) client rows inside)
-    ∙ ap (changed_where (is_of who) (seeing to)) e
+    ap (λ (x : Client). set rows n (seeing_buffer to x)) r
+    ∙ ap (λ k. set rows k (seeing_buffer to (get_or rows k client))) p
+    ∙ sym (changed-place (is_of who) (seeing_buffer to) client rows inside)
+    ∙ ap (changed_where (is_of who) (seeing_buffer to)) e
 
 -- a slot that is set to what it was, with its buffer changed
 pub set-slot : (n : ℕ) (f : Buffer → Buffer) (bs : List (Option Buffer)) (slot to : Option Buffer) → slot ≡ get_or bs n slot → to ≡ option_map f slot → set bs n to ≡ changed_at n f bs
@@ -57,7 +57,7 @@ pub same-parts : (bs now : List (Option Buffer)) (cs : List Client) (r : Rest) (
 same-parts bs now cs r w e b = ap (λ x. (parts x cs r).flat) b ∙ ap (λ (k : Kept). k.flat) e
 
 -- the world in which a client sees another buffer
-pub now-shows : (who n : ℕ) (bs now : List (Option Buffer)) (cs seen : List Client) (r : Rest) (w : Kept) → parts bs cs r ≡ w → now ≡ changed_at n (listed_for (Of who)) bs → seen ≡ changed_where (is_of who) (seeing n) cs → (parts now seen r).flat ≡ shows who n w.flat
+pub now-shows : (who n : ℕ) (bs now : List (Option Buffer)) (cs seen : List Client) (r : Rest) (w : Kept) → parts bs cs r ≡ w → now ≡ changed_at n (listed_for (Of who)) bs → seen ≡ changed_where (is_of who) (seeing_buffer n) cs → (parts now seen r).flat ≡ shows who n w.flat
 unfolding shows
 now-shows who n bs now cs seen r w e b c =
     ap (λ x. (parts x seen r).flat) b
@@ -68,13 +68,13 @@ now-shows who n bs now cs seen r w e b c =
 shown-joined : (who n : ℕ) (flat : Flat) → is_here who flat.clients ≡ true → is_there n flat.buffers ≡ true → is_joined who (shows who n flat) ≡ true
 unfolding is_joined buffer_of shown_of client_of shows
 shown-joined who n flat h t =
-    let cs : List Client = changed_where (is_of who) (seeing n) flat.clients in
+    let cs : List Client = changed_where (is_of who) (seeing_buffer n) flat.clients in
     let bs : List (Option Buffer) = changed_at n (listed_for (Of who)) flat.buffers in
-    let found : first_where (is_of who) (newcomer who 0 0) cs ≡ seeing n (first_where (is_of who) (newcomer who 0 0) flat.clients) = first-changed (is_of who) (seeing n) (newcomer who 0 0) flat.clients (λ c. refl) h in
-    let here : is_here who cs ≡ true = any-changed (is_of who) (is_of who) (seeing n) flat.clients (λ c. refl) ∙ h in
+    let found : first_where (is_of who) (newcomer who 0 0) cs ≡ seeing_buffer n (first_where (is_of who) (newcomer who 0 0) flat.clients) = first-changed (is_of who) (seeing_buffer n) (newcomer who 0 0) flat.clients (λ c. refl) h in
+    let here : is_here who cs ≡ true = any-changed (is_of who) (is_of who) (seeing_buffer n) flat.clients (λ c. refl) ∙ h in
     let there : is_there n bs ≡ true = there-kept n n (listed_for (Of who)) flat.buffers ∙ t in
     let listed : has_list (Of who) (buffer_at n bs) ≡ true =
-    ap (has_list (Of who)) (buffer-changed n (listed_for (Of who)) flat.buffers t) ∙ any-with_row (is_held_by (Of who)) (fresh (Of who)) (buffer_at n flat.buffers).lists (eq-eqb who who refl) in
+    ap (has_list (Of who)) (buffer-changed n (listed_for (Of who)) flat.buffers t) ∙ any-with_row (is_held_by (Of who)) (fresh_list (Of who)) (buffer_at n flat.buffers).lists (eq-eqb who who refl) in
     ap (λ (c : Client). is_here who cs && (is_there c.shown bs && has_list (Of who) (buffer_at c.shown bs))) found
     ∙ ap (λ b. b && (is_there n bs && has_list (Of who) (buffer_at n bs))) here
     ∙ ap (λ b. b && has_list (Of who) (buffer_at n bs)) there
@@ -88,13 +88,13 @@ pub joined_others_show : (k who n : ℕ) (flat : Flat) → (who == k) ≡ false 
 unfolding shows shown_of client_of
 joined_others_show k who n flat other =
     joined-by-parts k flat (shows who n flat)
-    (any-changed (is_of who) (is_of k) (seeing n) flat.clients (λ c. refl))
-    (ap (λ (c : Client). c.shown) (first-changed_other (is_of who) (is_of k) (seeing n) (newcomer k 0 0) flat.clients (λ c. refl) (λ c e. ap (λ m. m == k) (eqb-true c.who who e) ∙ other)))
-    (λ m. listed-changed k n m (listed_for (Of who)) flat.buffers (λ b. any-with_other (is_held_by (Of who)) (is_held_by (Of k)) (fresh (Of who)) b.lists other))
+    (any-changed (is_of who) (is_of k) (seeing_buffer n) flat.clients (λ c. refl))
+    (ap (λ (c : Client). c.shown) (first-changed_other (is_of who) (is_of k) (seeing_buffer n) (newcomer k 0 0) flat.clients (λ c. refl) (λ c e. ap (λ m. m == k) (eqb-true c.who who e) ∙ other)))
+    (λ m. listed-changed k n m (listed_for (Of who)) flat.buffers (λ b. any-with_other (is_held_by (Of who)) (is_held_by (Of k)) (fresh_list (Of who)) b.lists other))
 
 pub whos-shown : (who n : ℕ) (flat : Flat) → map (λ (c : Client). c.who) (shows who n flat).clients ≡ map (λ (c : Client). c.who) flat.clients
 unfolding shows
-whos-shown who n flat = map-changed (is_of who) (seeing n) (λ c. c.who) flat.clients (λ c. refl)
+whos-shown who n flat = map-changed (is_of who) (seeing_buffer n) (λ c. c.who) flat.clients (λ c. refl)
 
 -- who is there, and who has joined, is as before
 pub keeps_shows : (who n : ℕ) (flat : Flat) → is_joined who flat ≡ true → is_there n flat.buffers ≡ true → KeepsClients flat (shows who n flat)

@@ -9,7 +9,7 @@ use Rattle.tables.proofs.TableLemmas.{by_test}
 use Rattle.tables.proofs.RowLemmas.{any-added, any-with_row}
 use Rattle.kak_world.specs.declared.holder.Holder.TheVariants.{Of}
 use Rattle.kak_world.specs.declared.clients.Client.{Client}
-use Rattle.kak_world.specs.Flat.{Held, Buffer, Flat, fresh, newcomer, is_of, is_here, is_held_by, has_list, listed_for, changed_at, lowest, client_of, shown_of, is_joined}
+use Rattle.kak_world.specs.Flat.{Held, Buffer, Flat, fresh_list, newcomer, is_of, is_here, is_held_by, has_list, listed_for, changed_at, lowest, client_of, shown_of, is_joined}
 use Rattle.kak_world.specs.Keeping.{whos_of}
 use Rattle.kak_world.specs.Dropping.{emptied, moved_on, listed_for_viewer, listed_for_viewers, left_without, buffers_dropped, dropped, KeepsJoined}
 use Rattle.kak_world.proofs.SlotLemmas.{slot-changed}
@@ -50,7 +50,7 @@ any-more k p row hs h =
 viewer-keeps : (k n : ℕ) (c : Client) (b : Buffer) → has_list (Of k) b ≡ true → has_list (Of k) (listed_for_viewer n c b) ≡ true
 viewer-keeps k n c b h =
     by_test (λ t. has_list (Of k) (cond t (listed_for (Of c.who) b) b) ≡ true) (c.shown == n)
-    (λ _. any-more k (is_held_by (Of c.who)) (fresh (Of c.who)) b.lists h)
+    (λ _. any-more k (is_held_by (Of c.who)) (fresh_list (Of c.who)) b.lists h)
     (λ _. h)
 
 viewers-keep : (k n : ℕ) (cs : List Client) (b : Buffer) → has_list (Of k) b ≡ true → has_list (Of k) (listed_for_viewers n cs b) ≡ true
@@ -65,7 +65,7 @@ viewers-listed k n d (c ∷ cs) b h s =
     (λ _ e _ s.
     let mine : c.who ≡ k = eqb-true c.who k (sym e) in
     let listed : has_list (Of k) (listed_for (Of c.who) b) ≡ true =
-    subst (λ m. has_list (Of m) (listed_for (Of c.who) b) ≡ true) mine (any-with_row (is_held_by (Of c.who)) (fresh (Of c.who)) b.lists (eq-eqb c.who c.who refl)) in
+    subst (λ m. has_list (Of m) (listed_for (Of c.who) b) ≡ true) mine (any-with_row (is_held_by (Of c.who)) (fresh_list (Of c.who)) b.lists (eq-eqb c.who c.who refl)) in
     viewers-keep k n cs (listed_for_viewer n c b) (ap (λ t. has_list (Of k) (cond t (listed_for (Of c.who) b) b)) s ∙ listed))
     (λ _ e h s. viewers-listed k n d cs (listed_for_viewer n c b) h s)
     refl h s

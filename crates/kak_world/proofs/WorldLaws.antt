@@ -21,7 +21,7 @@ use Rattle.kak_world.specs.declared.holder.Holder.{Holder}
 use Rattle.kak_world.specs.declared.holder.Holder.TheVariants.{Of}
 use Rattle.kak_world.specs.declared.own.Own.{Own}
 use Rattle.kak_world.specs.declared.clients.Client.{Client}
-use Rattle.kak_world.specs.Flat.{Held, Buffer, Flat, same_holder, is_of, is_here, is_held_by, has_list, list_on, with_list, committed_for, scratch, fresh, newcomer, is_there, buffer_at, changed_at, client_of, shown_of, buffer_of, list_of, is_joined, own_of, number_of, name_of, text_of, sels_of, view_of, units_of, registers_of, with_registers, with_own, with_list_of, with_sels, with_view, with_units}
+use Rattle.kak_world.specs.Flat.{Held, Buffer, Flat, same_holder, is_of, is_here, is_held_by, has_list, list_on, with_list, committed_for, scratch, fresh_list, newcomer, is_there, buffer_at, changed_at, client_of, shown_of, buffer_of, list_of, is_joined, own_of, number_of, name_of, text_of, sels_of, view_of, units_of, registers_of, with_registers, with_own, with_list_of, with_sels, with_view, with_units}
 use Rattle.kak_world.specs.Changing.{list_moved, buffer_changed, buffer_edited, buffer_traveled, changed_in, splice_changes_of, edited_by, traveled_by, commits}
 use Rattle.kak_world.proofs.SlotLemmas.{buffer-changed, buffer-kept, there-kept, there-mapped}
 
@@ -140,7 +140,7 @@ in-buffer : (who : ℕ) (f : Held → Held) (flat : Flat) → ((h : Held) → (f
 unfolding list_of buffer_of shown_of client_of with_list_of
 in-buffer who f flat keeps there has =
     ap (list_on (Of who)) (buffer-changed _ (with_list (Of who) f) flat.buffers there)
-    ∙ first-changed (is_held_by (Of who)) f (fresh (Of who)) (buffer_at (first_where (is_of who) (newcomer who 0 0) flat.clients).shown flat.buffers).lists (list-leaves (Of who) f keeps) has
+    ∙ first-changed (is_held_by (Of who)) f (fresh_list (Of who)) (buffer_at (first_where (is_of who) (newcomer who 0 0) flat.clients).shown flat.buffers).lists (list-leaves (Of who) f keeps) has
 
 list_list : (who : ℕ) (f : Held → Held) (flat : Flat) → ((h : Held) → (f h).holder ≡ h.holder) → is_joined who flat ≡ true → list_of who (with_list_of who f flat) ≡ f (list_of who flat)
 list_list who f flat keeps j = in-buffer who f flat keeps (joined_there who flat j) (joined_list who flat j)
@@ -181,7 +181,7 @@ sels_sels who s flat j = ap (λ (h : Held). h.sels) (list_list who (λ held. rec
 pub view_sels : (k who : ℕ) (s : Selected) (flat : Flat) → view_of k (with_sels who s flat) ≡ view_of k flat
 unfolding view_of list_of with_sels
 view_sels k who s flat = buffer_list_kept (λ b. (list_on (Of k) b).view) k who (λ held. record held { sels = s }) flat
-    (λ b. first-kept (is_held_by (Of who)) (is_held_by (Of k)) (λ held. record held { sels = s }) (λ (h : Held). h.view) (fresh (Of k)) b.lists (λ h. refl) (λ h. refl))
+    (λ b. first-kept (is_held_by (Of who)) (is_held_by (Of k)) (λ held. record held { sels = s }) (λ (h : Held). h.view) (fresh_list (Of k)) b.lists (λ h. refl) (λ h. refl))
 
 -- another window
 pub own_view : (k who : ℕ) (v : View) (flat : Flat) → own_of k (with_view who v flat) ≡ own_of k flat
@@ -203,7 +203,7 @@ text_view k who v flat = buffer_list_kept (λ b. b.story.text) k who (λ held. r
 pub sels_view : (k who : ℕ) (v : View) (flat : Flat) → sels_of k (with_view who v flat) ≡ sels_of k flat
 unfolding sels_of list_of with_view
 sels_view k who v flat = buffer_list_kept (λ b. (list_on (Of k) b).sels) k who (λ held. record held { view = v }) flat
-    (λ b. first-kept (is_held_by (Of who)) (is_held_by (Of k)) (λ held. record held { view = v }) (λ (h : Held). h.sels) (fresh (Of k)) b.lists (λ h. refl) (λ h. refl))
+    (λ b. first-kept (is_held_by (Of who)) (is_held_by (Of k)) (λ held. record held { view = v }) (λ (h : Held). h.sels) (fresh_list (Of k)) b.lists (λ h. refl) (λ h. refl))
 
 pub view_view : (who : ℕ) (v : View) (flat : Flat) → is_joined who flat ≡ true → view_of who (with_view who v flat) ≡ v
 unfolding view_of with_view

@@ -17,7 +17,7 @@ use Rattle.kak_world.specs.Flat.{Held, Buffer, Flat, is_of, is_here, newcomer, i
 use Rattle.kak_world.specs.Changing.{changed_in, commits}
 use Rattle.kak_world.specs.Seen.{Kept, HasBuffer}
 use Rattle.kak_world.proofs.SlotLemmas.{there-inside, set-changed, there-kept, length-kept, there-mapped, buffer-changed}
-use Rattle.kak_world.specs.Flat.{lowest, least_free, numbers_of, is_held_by, fresh, listed_for, committed_for, left_behind, joined_by, left_by}
+use Rattle.kak_world.specs.Flat.{lowest, least_free, numbers_of, is_held_by, fresh_list, listed_for, committed_for, left_behind, joined_by, left_by_client}
 use Rattle.kak_world.proofs.WorldLaws.{joined_here, joined_there, joined_list}
 
 -- the world of some parts
@@ -144,7 +144,7 @@ joined-comes who bs cs r away some =
     let here : is_here who (cs ++ new ∷ []) ≡ true = any-added (is_of who) new cs ∙ ap (λ b. b || (is_of who new || false)) away ∙ ap (λ b. b || false) self in
     let there : is_there (lowest bs) (changed_at (lowest bs) (listed_for (Of who)) bs) ≡ true = there-kept (lowest bs) (lowest bs) (listed_for (Of who)) bs ∙ some in
     let listed : has_list (Of who) (buffer_at (lowest bs) (changed_at (lowest bs) (listed_for (Of who)) bs)) ≡ true =
-    ap (has_list (Of who)) (buffer-changed (lowest bs) (listed_for (Of who)) bs some) ∙ any-with_row (is_held_by (Of who)) (fresh (Of who)) (buffer_at (lowest bs) bs).lists self in
+    ap (has_list (Of who)) (buffer-changed (lowest bs) (listed_for (Of who)) bs some) ∙ any-with_row (is_held_by (Of who)) (fresh_list (Of who)) (buffer_at (lowest bs) bs).lists self in
     ap (λ (c : Client). is_here who (cs ++ new ∷ []) && (is_there c.shown (changed_at (lowest bs) (listed_for (Of who)) bs) && has_list (Of who) (buffer_at c.shown (changed_at (lowest bs) (listed_for (Of who)) bs)))) found
     ∙ ap (λ t. t && (is_there (lowest bs) (changed_at (lowest bs) (listed_for (Of who)) bs) && has_list (Of who) (buffer_at (lowest bs) (changed_at (lowest bs) (listed_for (Of who)) bs)))) here
     ∙ ap (λ t. t && has_list (Of who) (buffer_at (lowest bs) (changed_at (lowest bs) (listed_for (Of who)) bs))) there
@@ -196,11 +196,11 @@ came-not who bs cs added left r w n b to e away g t a l =
     ∙ ap (λ (k : Kept). k.flat) e
 
 -- the world after a client went
-pub went : (who : ℕ) (bs gone : List (Option Buffer)) (cs left : List Client) (r : Rest) (options : List Setting) (w : Kept) → parts bs cs r ≡ w → gone ≡ map (option_map (left_behind who)) bs → left ≡ filter (λ c. not (is_of who c)) cs → options ≡ without_client who r.options → (parts gone left (record r { options = options })).flat ≡ left_by who w.flat
-unfolding left_by
+pub went : (who : ℕ) (bs gone : List (Option Buffer)) (cs left : List Client) (r : Rest) (options : List Setting) (w : Kept) → parts bs cs r ≡ w → gone ≡ map (option_map (left_behind who)) bs → left ≡ filter (λ c. not (is_of who c)) cs → options ≡ without_client who r.options → (parts gone left (record r { options = options })).flat ≡ left_by_client who w.flat
+unfolding left_by_client
 went who bs gone cs left r options w e g l o =
     ap (λ x. (parts x left (record r { options = options })).flat) g ∙ ap (λ x. (parts (map (option_map (left_behind who)) bs) x (record r { options = options })).flat) l
-    ∙ ap (λ x. (parts (map (option_map (left_behind who)) bs) (filter (λ c. not (is_of who c)) cs) (record r { options = x })).flat) o ∙ ap (λ (k : Kept). left_by who k.flat) e
+    ∙ ap (λ x. (parts (map (option_map (left_behind who)) bs) (filter (λ c. not (is_of who c)) cs) (record r { options = x })).flat) o ∙ ap (λ (k : Kept). left_by_client who k.flat) e
 
 lowest-mapped : (f : Buffer → Buffer) (bs : List (Option Buffer)) → lowest (map (option_map f) bs) ≡ lowest bs
 lowest-mapped f [] = refl

@@ -65,7 +65,7 @@ unfoldable pub commits : ℕ → Flat → Flat
 commits who flat = record flat { buffers = map (option_map (committed_for who)) flat.buffers }
 
 -- the world after some of a client's changes of the buffer that it sees, from the first on
-pub record IsAfterSome (who : ℕ) (cs : List Change) (old new : Flat) : Type 0 where
+pub record IsAfterSomeChanges (who : ℕ) (cs : List Change) (old new : Flat) : Type 0 where
   pub made : ℕ
   pub is : new ≡ changed_in (shown_of who old) (buffer_edited who (take made cs)) old
 

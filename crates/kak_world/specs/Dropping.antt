@@ -8,7 +8,7 @@ use Rattle.kak_world.specs.declared.holder.Holder.TheVariants.{Of}
 use Rattle.kak_world.specs.declared.clients.Client.{Client}
 use Rattle.kak_world.specs.Flat.{Buffer, Flat, scratch, listed_for, changed_at, lowest, is_joined}
 use Rattle.kak_world.specs.Keeping.{whos_of}
-use Rattle.kak_world.specs.Showing.{seeing, placed}
+use Rattle.kak_world.specs.Showing.{seeing_buffer, buffer_placed}
 
 -- the buffers without that of a number
 abbrev pub emptied : ℕ → List (Option Buffer) → List (Option Buffer)
@@ -18,11 +18,11 @@ emptied (suc n) (b ∷ bs) = b ∷ emptied n bs
 
 -- the buffers; where none is left, the one that is there when nothing else is
 abbrev pub or_scratch : List (Option Buffer) → List (Option Buffer)
-or_scratch buffers = if list_any is_some buffers then buffers else placed scratch buffers
+or_scratch buffers = if list_any is_some buffers then buffers else buffer_placed scratch buffers
 
 -- a client that sees another buffer, where it saw that of a number
 abbrev pub moved_on : ℕ → ℕ → Client → Client
-moved_on n to c = if c.shown == n then seeing to c else c
+moved_on n to c = if c.shown == n then seeing_buffer to c else c
 
 -- a buffer on which a client that sees that of a number has a list: the one that it has, or else the one to begin with
 abbrev pub listed_for_viewer : ℕ → Client → Buffer → Buffer

@@ -20,8 +20,8 @@ use Rattle.kak_world.specs.declared.holder.Holder.{Holder}
 use Rattle.kak_world.specs.declared.holder.Holder.TheVariants.{Of}
 use Rattle.kak_world.specs.declared.own.Mode.{Mode}
 use Rattle.kak_world.specs.declared.own.Mode.TheVariants.{Normal}
-use Rattle.kak_world.specs.declared.own.Status.{Status}
-use Rattle.kak_world.specs.declared.own.Status.TheVariants.{Quiet}
+use Rattle.kak_world.specs.declared.own.StatusText.{StatusText}
+use Rattle.kak_world.specs.declared.own.StatusText.TheVariants.{Quiet}
 use Rattle.kak_world.specs.declared.own.Own.{Own}
 use Rattle.kak_world.specs.declared.purpose.Purpose.{Purpose}
 use Rattle.kak_world.specs.declared.purpose.Purpose.TheVariants.{Commands}
@@ -60,16 +60,16 @@ abbrev pub first_view : View
 first_view = record { top = 0; left = 0; rows = 24; columns = 80 }
 
 -- the list that a holder begins with on a buffer
-abbrev pub fresh : Holder → Held
-fresh holder = record { holder = holder; sels = only_at 0; view = first_view }
+abbrev pub fresh_list : Holder → Held
+fresh_list holder = record { holder = holder; sels = only_at 0; view = first_view }
 
 -- a buffer that was just opened with a text, with nobody's list on it
-abbrev pub made : List ℕ → Bool → List ℕ → Buffer
-made name is_file text = record { name = name; is_file = is_file; story = opened text; lists = [] }
+abbrev pub made_buffer : List ℕ → Bool → List ℕ → Buffer
+made_buffer name is_file text = record { name = name; is_file = is_file; story = opened text; lists = [] }
 
 -- the buffer that is there when nothing else is
 abbrev pub scratch : Buffer
-scratch = made (codes "*scratch*") false (10 ∷ [])
+scratch = made_buffer (codes "*scratch*") false (10 ∷ [])
 
 -- what a client that has just come has of its own
 abbrev pub first_own : Own
@@ -105,7 +105,7 @@ has_list holder b = list_any (is_held_by holder) b.lists
 
 -- a holder's list on a buffer; where it has none, the one that it would begin with
 abbrev pub list_on : Holder → Buffer → Held
-list_on holder b = first_where (is_held_by holder) (fresh holder) b.lists
+list_on holder b = first_where (is_held_by holder) (fresh_list holder) b.lists
 
 -- a buffer with a holder's list on it changed
 abbrev pub with_list : Holder → (Held → Held) → Buffer → Buffer
@@ -113,7 +113,7 @@ with_list holder f b = record b { lists = changed_where (is_held_by holder) f b.
 
 -- a buffer on which a holder has a list: the one that it has, or else the one that it begins with
 abbrev pub listed_for : Holder → Buffer → Buffer
-listed_for holder b = record b { lists = with_row (is_held_by holder) (fresh holder) b.lists }
+listed_for holder b = record b { lists = with_row (is_held_by holder) (fresh_list holder) b.lists }
 
 -- a buffer without a holder's lists on it
 abbrev pub unlisted_for : Holder → Buffer → Buffer
@@ -208,8 +208,8 @@ unfoldable pub story_of : ℕ → Flat → Story
 story_of who flat = (buffer_of who flat).story
 
 -- the number of the node that the text is at, or will be at when what is pending is committed
-unfoldable pub node_of : ℕ → Flat → ℕ
-node_of who flat = (committed (story_of who flat)).current
+unfoldable pub node_number_of : ℕ → Flat → ℕ
+node_number_of who flat = (committed (story_of who flat)).current
 
 -- the window through which it sees the buffer
 unfoldable pub view_of : ℕ → Flat → View
@@ -250,7 +250,7 @@ register_of who flat = (own_of who flat).register
 abbrev pub pending_of : ℕ → Flat → Option Key
 pending_of who flat = (own_of who flat).pending
 
-abbrev pub status_of : ℕ → Flat → Status
+abbrev pub status_of : ℕ → Flat → StatusText
 status_of who flat = (own_of who flat).status
 
 abbrev pub is_appending : ℕ → Flat → Bool
@@ -264,8 +264,8 @@ purpose_of who flat = (own_of who flat).purpose
 abbrev pub prompt_of : ℕ → Flat → Halves
 prompt_of who flat = (own_of who flat).prompt
 
-abbrev pub is_leaving : ℕ → Flat → Bool
-is_leaving who flat = (own_of who flat).leaving
+abbrev pub is_client_leaving : ℕ → Flat → Bool
+is_client_leaving who flat = (own_of who flat).leaving
 
 abbrev pub is_drawn : ℕ → Flat → Bool
 is_drawn who flat = (own_of who flat).drawn
@@ -305,8 +305,8 @@ joined_by who flat = record flat {
 }
 
 -- the world without a client, its lists and the options of its windows; what was pending of it is committed
-unfoldable pub left_by : ℕ → Flat → Flat
-left_by who flat = record flat {
+unfoldable pub left_by_client : ℕ → Flat → Flat
+left_by_client who flat = record flat {
   buffers = map (option_map (left_behind who)) flat.buffers;
   clients = filter (λ c. not (is_of who c)) flat.clients;
   rest = record flat.rest { options = without_client who flat.rest.options };

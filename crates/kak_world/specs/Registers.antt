@@ -4,7 +4,7 @@ use Rattle.std.specs.declared.option.Option.{Option}
 use Rattle.std.specs.Prelude.{Some, None}
 use Rattle.kak_registers.specs.declared.names.RegisterError.{RegisterError}
 use Rattle.kak_registers.specs.Contents.{set_in}
-use Rattle.kak_registers.specs.Refusals.{refusal_of}
+use Rattle.kak_registers.specs.Refusals.{register_refusal}
 use Rattle.kak_world.specs.Flat.{Flat, registers_of, with_registers}
 use Rattle.kak_world.specs.Refusals.{of_register}
 use Rattle.kak_world.specs.Rows.{RowEnd, does, fails}
@@ -20,4 +20,4 @@ set_unless (Some refusal) name strings flat = fails (of_register refusal) flat
 
 -- a register is set to some strings
 unfoldable pub set_row : ℕ → List (List ℕ) → Flat → RowEnd
-set_row name strings flat = set_unless (refusal_of name strings) name strings flat
+set_row name strings flat = set_unless (register_refusal name strings) name strings flat

@@ -62,9 +62,9 @@ row_of BudgetSpent = Some GivesUp
 row_of error = Some (Fails (error_text error))
 
 -- what a row's code answered, over the world that it left, is what the row gives, unless memory was wanting
-abbrev pub Gives : Result Ask EditError → Flat → RowEnd → Type 0
-Gives (Ok ask) new end = end ≡ record { world = new; row = Asks ask }
-Gives (Err error) new end = IfSome (row_of error) (λ row. end ≡ record { world = new; row = row })
+abbrev pub GivesRow : Result Ask EditError → Flat → RowEnd → Type 0
+GivesRow (Ok ask) new end = end ≡ record { world = new; row = Asks ask }
+GivesRow (Err error) new end = IfSome (row_of error) (λ row. end ≡ record { world = new; row = row })
 
 -- the same for code that asks for nothing: the row is a change of the world, or a refusal
 abbrev pub Answers : {T : Type 0} → Result T EditError → Flat → RowEnd → Type 0

@@ -15,12 +15,12 @@ is_named name None = false
 is_named name (Some b) = pointwise nat_eq b.name name
 
 -- the least number of a buffer of that name, if there is one; the first of these has the number n
-abbrev pub number_from : ℕ → List ℕ → List (Option Buffer) → Option ℕ
-number_from n name [] = None
-number_from n name (b ∷ bs) = if is_named name b then Some n else number_from (n + 1) name bs
+abbrev pub buffer_number_from : ℕ → List ℕ → List (Option Buffer) → Option ℕ
+buffer_number_from n name [] = None
+buffer_number_from n name (b ∷ bs) = if is_named name b then Some n else buffer_number_from (n + 1) name bs
 
 abbrev pub number_named : List ℕ → Flat → Option ℕ
-number_named name flat = number_from 0 name flat.buffers
+number_named name flat = buffer_number_from 0 name flat.buffers
 
 -- a buffer whose text counts as saved, with what was pending committed; its name is a file's
 abbrev pub marked_as_saved : Buffer → Buffer

@@ -6,7 +6,7 @@ use Rattle.text_model.specs.Texts.{IsStored}
 use Rattle.text_model.specs.Changes.{Change, all_changed}
 use Rattle.selection_map.specs.Catching.{AreShiftsOf}
 use Rattle.undo_model.specs.Stories.{Story}
-use Rattle.window_view.specs.Views.{view_of as window_seen}
+use Rattle.window_view.specs.Views.{window_seen}
 use Rattle.selection_set.specs.Held.{selected, IsHeld}
 use Rattle.kak_world.specs.declared.lists.HeldList.{HeldList}
 use Rattle.kak_world.specs.declared.holder.Holder.{Holder}
@@ -62,7 +62,7 @@ abbrev pub AreQuiet : List (Option Buffer) → Type 0
 AreQuiet buffers = AllByRecursion SlotIsQuiet buffers
 
 -- buffers as a world keeps them, which knows where nothing is pending
-pub record Stands (may_pend : Bool) (buffers : List (Option Buffer)) : Type 0 where
+pub record BuffersStand (may_pend : Bool) (buffers : List (Option Buffer)) : Type 0 where
   pub has : HasBuffer buffers
   pub quiet : may_pend ≡ false → AreQuiet buffers
 
@@ -79,6 +79,6 @@ pub record Kept : Type 0 where
   pub flat : Flat
 
 -- an answer without a value, with this value where it is well
-abbrev pub Carries : {T E : Type 0} → Result (Unit {0}) E → T → Result T E → Type 0
-Carries (Ok done) x r = r ≡ Ok x
-Carries (Err e) x r = r ≡ Err e
+abbrev pub CarriesValue : {T E : Type 0} → Result (Unit {0}) E → T → Result T E → Type 0
+CarriesValue (Ok done) x r = r ≡ Ok x
+CarriesValue (Err e) x r = r ≡ Err e

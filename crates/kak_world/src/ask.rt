@@ -18,15 +18,25 @@ pub const BUDGET_SPENT: &str = "given up: budget spent";
 
 // The status texts of the other refusals, each before what it names, where it names something.
 const TEXT_FULL: &str = "text is full";
+
 const UNDO_FULL: &str = "undo tree full";
+
 const NOTHING_TO_UNDO: &str = "nothing to undo";
+
 const NOTHING_TO_REDO: &str = "nothing to redo";
+
 const NO_SUCH_NODE: &str = "no such undo node";
+
 const READ_ONLY_REGISTER: &str = "register is read only: ";
+
 const REGISTER_FULL: &str = "register is full";
+
 const SHARED_LINE: &str = "align needs one selection per line";
+
 const BAD_PATTERN: &str = "bad pattern";
+
 const NOTHING_SELECTED: &str = "nothing selected";
+
 const TOO_MANY_SELECTIONS: &str = "too many selections";
 
 /// What the engine is to do after a key or a command.

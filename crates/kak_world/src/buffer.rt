@@ -4,7 +4,7 @@ ghost use Rattle.std.specs.Prelude.{◌≡◌, ◌<◌, ◌≤◌, ◌+◌, ◌^
 ghost use Rattle.list_model.specs.Ranges.{Selected};
 ghost use Rattle.selection_set.specs.Held.{selected, IsHeld};
 ghost use Rattle.window_view.specs.View.{followed};
-ghost use Rattle.window_view.specs.Views.{view_of as window_seen};
+ghost use Rattle.window_view.specs.Views.{window_seen};
 ghost use Rattle.undo_model.specs.Steps.{AreSteps};
 ghost use Rattle.undo_model.specs.declared.TheConstants.{MAX_NODES};
 ghost use Rattle.undo_model.specs.Stories.{committed, is_undo_full, is_modified};
@@ -12,13 +12,13 @@ ghost use Rattle.kak_world.specs.Saving.{marked_as_saved, is_unsaved};
 ghost use Rattle.undo_model.specs.Moves.{target_of, move_changes};
 ghost use Rattle.undo_model.specs.Edits.{is_too_long};
 ghost use Rattle.buffer_store.specs.declared.errors.BufferError.TheVariants.{UndoFull, TextFull};
-ghost use Rattle.buffer_store.specs.Stored.{shifts_of};
+ghost use Rattle.buffer_store.specs.Stored.{change_shifts};
 ghost use Rattle.buffer_store.specs.Buffers.{AreSplicesOf, flat_splices, changes_of, refusal_of};
 ghost use Rattle.kak_world.specs.Editing.{is_full_for};
-ghost use Rattle.kak_world.specs.Flat.{made, has_list, list_on, with_list, listed_for, unlisted_for, committed_for};
+ghost use Rattle.kak_world.specs.Flat.{made_buffer, has_list, list_on, with_list, listed_for, unlisted_for, committed_for};
 ghost use Rattle.kak_world.specs.Settled.{ListsAreSettled};
 ghost use Rattle.kak_world.specs.Dropping.{listed_for_viewers};
-ghost use Rattle.kak_world.specs.Seen.{Carries};
+ghost use Rattle.kak_world.specs.Seen.{CarriesValue};
 ghost use Rattle.kak_world.specs.Changing.{buffer_edited, buffer_traveled, IsSomeEdited, IsSomeMoved};
 
 use crate::clients::Client;
@@ -35,14 +35,14 @@ use window_view::Window;
 
 /// A text under a name, with its undo tree and the selection lists on it: each lies inside the text and is settled.
 #[derive(Drop, Debug)]
-pub struct Buffer {
+pub struct WorldBuffer {
     name: Chars,
     is_file: bool,
     store: Store,
     lists: Vec<HeldList>,
 }
 
-impl Model for Buffer {
+impl Model for WorldBuffer {
     ghost use Rattle.kak_world.specs.Flat.{Buffer as BufferSeen};
     ghost use Rattle.kak_world.specs.Seen.{buffer_seen, AreHeld};
 
@@ -55,7 +55,7 @@ impl Model for Buffer {
 
 // These shifts where the answer is well, or else its error.
 fn carrying(done: Result<(), BufferError>, shifts: Vec<Shift>) -> Result<Vec<Shift>, BufferError>
-    ensures { Carries done shifts result }
+    ensures { CarriesValue done shifts result }
 {
     match done {
         Ok(()) => Ok(shifts),
@@ -63,17 +63,17 @@ fn carrying(done: Result<(), BufferError>, shifts: Vec<Shift>) -> Result<Vec<Shi
     }
 }
 
-impl Buffer {
+impl WorldBuffer {
     /// A buffer with a text that counts as saved, and nobody's list on it.
     pub fn new(
         alloc: Global,
         name: Chars,
         is_file: bool,
         lines: Lines,
-    ) -> Result<Buffer, AllocError>
-        ensures { IfOk result (λ b. b ≡ made name is_file lines) }
+    ) -> Result<WorldBuffer, AllocError>
+        ensures { IfOk result (λ b. b ≡ made_buffer name is_file lines) }
     {
-        Ok(Buffer {
+        Ok(WorldBuffer {
             name,
             is_file,
             store: Store::new(alloc, lines)?,
@@ -269,7 +269,7 @@ impl Buffer {
     ) -> Result<Vec<Shift>, BufferError>
         requires { AreSplicesOf self.old.story.text splices.now }
         ensures ok { OnOk result (self.new ≡ buffer_edited who (changes_of self.old.story.text splices.now) self.old) }
-        ensures shifts { IfOk result (λ shifts. shifts.items ≡ shifts_of self.old.story.text (changes_of self.old.story.text splices.now)) }
+        ensures shifts { IfOk result (λ shifts. shifts.items ≡ change_shifts self.old.story.text (changes_of self.old.story.text splices.now)) }
         ensures steps { OnOk result (AreSteps self.old.story.text (changes_of self.old.story.text splices.now)) }
         ensures undo_full { IsErrOf result UndoFull ↔ (is_undo_full who (changes_of self.old.story.text splices.now) self.old.story ≡ true) }
         ensures text_full { IsErrOf result TextFull ↔ ((is_undo_full who (changes_of self.old.story.text splices.now) self.old.story ≡ false)

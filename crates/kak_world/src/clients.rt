@@ -6,10 +6,10 @@ ghost use Rattle.std.specs.Borrow.{sem};
 ghost use Rattle.tables.specs.Tables.{place_where, first_where};
 ghost use Rattle.kak_world.specs.Flat.{is_of, is_here, least_free, numbers_of, newcomer};
 ghost use Rattle.tables.specs.Tables.{changed_where};
-ghost use Rattle.kak_world.specs.Showing.{seeing};
+ghost use Rattle.kak_world.specs.Showing.{seeing_buffer};
 ghost use Rattle.kak_world.specs.Dropping.{moved_on};
 
-use crate::own::{Mode, Own, Status};
+use crate::own::{Mode, Own, StatusText};
 use crate::purpose::Purpose;
 use edit_line::EditLine;
 use std::alloc::{AllocError, Global};
@@ -166,7 +166,7 @@ impl Clients {
                 count: 0,
                 register: None,
                 pending: None,
-                status: Status::Quiet,
+                status: StatusText::Quiet,
                 appending: false,
                 purpose: Purpose::Commands,
                 prompt: EditLine::new(alloc),
@@ -181,7 +181,7 @@ impl Clients {
     /// Lets a client that is there see the buffer of another number.
     pub(crate) fn set_shown(&mut self, who: u32, shown: u32)
         requires { is_here who self.old ≡ true }
-        ensures { self.new ≡ changed_where (is_of who) (seeing shown) self.old }
+        ensures { self.new ≡ changed_where (is_of who) (seeing_buffer shown) self.old }
     {
         let at = place(self.rows.as_slice(), who);
         let client = &mut self.rows[at];

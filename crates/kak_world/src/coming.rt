@@ -1,16 +1,16 @@
 //! Clients that come and go.
 
 ghost use Rattle.std.specs.Prelude.{◌≡◌, ◌<◌, true, false, length, map, option_map, OnOk, OnErr};
-ghost use Rattle.kak_world.specs.Flat.{is_here, is_joined, joined_by, left_by, left_behind, lowest};
+ghost use Rattle.kak_world.specs.Flat.{is_here, is_joined, joined_by, left_by_client, left_behind, lowest};
 ghost use Rattle.kak_world.specs.declared.world.TheConstants.{MAX_CLIENTS};
 
-use crate::buffer::Buffer;
+use crate::buffer::WorldBuffer;
 use crate::holder::Holder;
 use crate::world::{MAX_CLIENTS, World};
 use std::alloc::{AllocError, Global};
 
 // The least number of a buffer, or how many numbers there are where none is a buffer's.
-fn lowest(buffers: &[Option<Buffer>]) -> usize
+fn lowest(buffers: &[Option<WorldBuffer>]) -> usize
     ensures { result ≡ lowest buffers.now }
 {
     for (i, buffer) in buffers.iter().enumerate() {
@@ -22,7 +22,7 @@ fn lowest(buffers: &[Option<Buffer>]) -> usize
 }
 
 // Commits a client's pending group in a buffer, and takes its lists off it, where there is one.
-fn leave_buffer(slot: &mut Option<Buffer>, who: u32)
+fn leave_buffer(slot: &mut Option<WorldBuffer>, who: u32)
     ensures { slot.new ≡ option_map (left_behind who) slot.old }
 {
     match slot {
@@ -35,7 +35,7 @@ fn leave_buffer(slot: &mut Option<Buffer>, who: u32)
 }
 
 // So in each buffer.
-fn leave_buffers(buffers: &mut Vec<Option<Buffer>>, who: u32)
+fn leave_buffers(buffers: &mut Vec<Option<WorldBuffer>>, who: u32)
     ensures { buffers.new.items ≡ map (option_map (left_behind who)) buffers.old.items }
 {
     for n in 0..buffers.len() {
@@ -70,7 +70,7 @@ impl World {
 
     /// A client goes, with all that is its own, its lists, and the options of its windows; what was pending of it is committed. Takes no memory.
     pub fn leave(&mut self, who: u32)
-        ensures { self.new.flat ≡ left_by who self.old.flat }
+        ensures { self.new.flat ≡ left_by_client who self.old.flat }
     {
         self.may_pend = true;
         self.clients.remove(who);

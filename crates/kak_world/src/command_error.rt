@@ -18,18 +18,31 @@ pub(crate) const TOO_MANY_BUFFERS: &str = "too many buffers";
 
 // The status texts of the other refusals, each before what it names, where it names something.
 const UNCLOSED_AT: &str = "unclosed at ";
+
 const UNKNOWN_EXPANSION: &str = "unknown expansion: ";
+
 const NO_SUCH_COMMAND: &str = "no such command: ";
+
 const WRONG_ARGUMENT_COUNT: &str = "wrong argument count";
+
 const UNKNOWN_SWITCH: &str = "unknown switch: ";
+
 const BAD_VALUE: &str = "bad value";
+
 const BAD_SELECTION: &str = "bad selection description: ";
+
 const NO_SUCH_OPTION: &str = "no such option: ";
+
 const NO_SUCH_SCOPE: &str = "no such scope: ";
+
 const OPTION_EXISTS: &str = "option exists: ";
+
 const NO_SUCH_BUFFER: &str = "no such buffer: ";
+
 const MODIFIED_REMAIN: &str = "modified buffers remain: ";
+
 const FILE_FAULT: &str = "file fault: ";
+
 const NOT_UTF8: &str = "not UTF-8 at byte ";
 
 /// Why a command was refused. Its status text is what the user is told.

@@ -4,13 +4,13 @@ ghost use Rattle.std.specs.Prelude.{◌≡◌, ◌≤◌, true, length, option_m
 ghost use Rattle.kak_world.specs.Flat.{is_there, lowest, scratch};
 ghost use Rattle.kak_world.specs.Dropping.{emptied, left_without, listed_for_viewers, buffers_dropped, dropped, KeepsJoined};
 
-use crate::buffer::Buffer;
+use crate::buffer::WorldBuffer;
 use crate::clients::Client;
 use crate::world::{World, scratch_buffer};
 use std::alloc::{AllocError, Global};
 
 // The least number of a buffer that isn't that of a number, or how many numbers there are where none is another's.
-fn lowest_other(buffers: &[Option<Buffer>], n: usize) -> usize
+fn lowest_other(buffers: &[Option<WorldBuffer>], n: usize) -> usize
     ensures { result ≡ lowest (emptied n buffers.now) }
 {
     for (i, buffer) in buffers.iter().enumerate() {
@@ -26,7 +26,7 @@ fn lowest_other(buffers: &[Option<Buffer>], n: usize) -> usize
 
 // Gives each client that sees the buffer of a number a list on the one in a slot, where there is one.
 fn list_viewers_in(
-    slot: &mut Option<Buffer>,
+    slot: &mut Option<WorldBuffer>,
     alloc: Global,
     n: u32,
     clients: &[Client],
@@ -41,7 +41,7 @@ fn list_viewers_in(
 }
 
 // The buffer that is there when nothing else is, with a list for each client that sees the buffer of a number.
-fn scratch_for_viewers(alloc: Global, n: u32, clients: &[Client]) -> Result<Buffer, AllocError>
+fn scratch_for_viewers(alloc: Global, n: u32, clients: &[Client]) -> Result<WorldBuffer, AllocError>
     ensures { IfOk result (λ b. b ≡ listed_for_viewers n clients.now scratch) }
 {
     let mut buffer = scratch_buffer(alloc)?;
@@ -51,7 +51,7 @@ fn scratch_for_viewers(alloc: Global, n: u32, clients: &[Client]) -> Result<Buff
 
 // Drops the last buffer: a new one is made for those that saw it. An `Err` leaves the buffers.
 fn drop_last(
-    buffers: &mut Vec<Option<Buffer>>,
+    buffers: &mut Vec<Option<WorldBuffer>>,
     alloc: Global,
     n: u32,
     clients: &[Client],
@@ -70,7 +70,7 @@ fn drop_last(
 // Drops the buffer of a number, and tells the least number then: that of the buffer on which those that saw it have
 // lists. An `Err` leaves the buffers.
 fn drop_at(
-    buffers: &mut Vec<Option<Buffer>>,
+    buffers: &mut Vec<Option<WorldBuffer>>,
     alloc: Global,
     n: u32,
     clients: &[Client],

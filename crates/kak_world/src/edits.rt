@@ -1,20 +1,20 @@
 //! Edits of the text that a client sees, and moves in its history.
 
 ghost use Rattle.std.specs.Prelude.{◌≡◌, ◌≤◌, true, false, map, option_map, IfOk, OnOk, IsErrOf};
-ghost use Rattle.buffer_store.specs.Stored.{shifts_of};
+ghost use Rattle.buffer_store.specs.Stored.{change_shifts};
 ghost use Rattle.buffer_store.specs.Buffers.{AreSplicesOf, flat_splices, changes_of};
 ghost use Rattle.undo_model.specs.declared.TheConstants.{MAX_NODES};
 ghost use Rattle.undo_model.specs.Steps.{AreSteps};
 ghost use Rattle.undo_model.specs.Moves.{move_changes};
 ghost use Rattle.kak_world.specs.declared.ask.EditError.TheVariants.{NoMemory};
-ghost use Rattle.kak_world.specs.Flat.{is_joined, text_of, story_of, node_of, committed_for};
-ghost use Rattle.kak_world.specs.Changing.{edited_by, commits, IsAfterSome, IsCutOff};
+ghost use Rattle.kak_world.specs.Flat.{is_joined, text_of, story_of, node_number_of, committed_for};
+ghost use Rattle.kak_world.specs.Changing.{edited_by, commits, IsAfterSomeChanges, IsCutOff};
 ghost use Rattle.kak_world.specs.Editing.{edit_row, long_refusal, travel_row};
 ghost use Rattle.kak_world.specs.Rows.{Answers};
 ghost use Rattle.kak_world.specs.Seen.{SlotIsQuiet, AreQuiet};
 
 use crate::ask::EditError;
-use crate::buffer::Buffer;
+use crate::buffer::WorldBuffer;
 use crate::holder::Holder;
 use crate::world::World;
 use buffer_store::Splice;
@@ -23,7 +23,7 @@ use std::alloc::Global;
 use undo_model::Travel;
 
 // Commits a client's pending group in a buffer, where there is one.
-fn commit_in(slot: &mut Option<Buffer>, who: u32)
+fn commit_in(slot: &mut Option<WorldBuffer>, who: u32)
     ensures { slot.new ≡ option_map (committed_for who) slot.old }
 {
     match slot {
@@ -33,7 +33,7 @@ fn commit_in(slot: &mut Option<Buffer>, who: u32)
 }
 
 // Commits a client's pending group in each buffer.
-fn commit_all(buffers: &mut Vec<Option<Buffer>>, who: u32)
+fn commit_all(buffers: &mut Vec<Option<WorldBuffer>>, who: u32)
     ensures { buffers.new.items ≡ map (option_map (committed_for who)) buffers.old.items }
 {
     for n in 0..buffers.len() {
@@ -42,7 +42,7 @@ fn commit_all(buffers: &mut Vec<Option<Buffer>>, who: u32)
 }
 
 // Whether a client's changes are pending in a buffer, where there is one.
-fn is_pending(slot: &Option<Buffer>) -> bool
+fn is_pending(slot: &Option<WorldBuffer>) -> bool
     ensures { result ≡ false → SlotIsQuiet slot.now }
 {
     match slot {
@@ -52,7 +52,7 @@ fn is_pending(slot: &Option<Buffer>) -> bool
 }
 
 // Whether a client's changes are pending in a buffer.
-fn any_pending(buffers: &[Option<Buffer>]) -> bool
+fn any_pending(buffers: &[Option<WorldBuffer>]) -> bool
     ensures { result ≡ false → AreQuiet buffers.now }
 {
     for slot in buffers {
@@ -77,9 +77,9 @@ impl World {
         requires splices { AreSplicesOf (text_of who self.old.flat) splices.now }
         ensures row { Answers result self.new.flat (edit_row (flat_splices (text_of who self.old.flat) splices.now) who self.old.flat) }
         ensures edits { OnOk result (self.new.flat ≡ edited_by (flat_splices (text_of who self.old.flat) splices.now) who self.old.flat) }
-        ensures shifts { IfOk result (λ shifts. shifts.items ≡ shifts_of (text_of who self.old.flat) (changes_of (text_of who self.old.flat) splices.now)) }
+        ensures shifts { IfOk result (λ shifts. shifts.items ≡ change_shifts (text_of who self.old.flat) (changes_of (text_of who self.old.flat) splices.now)) }
         ensures steps { OnOk result (AreSteps (text_of who self.old.flat) (changes_of (text_of who self.old.flat) splices.now)) }
-        ensures wanting { IsErrOf result NoMemory → IsAfterSome who (changes_of (text_of who self.old.flat) splices.now) self.old.flat self.new.flat }
+        ensures wanting { IsErrOf result NoMemory → IsAfterSomeChanges who (changes_of (text_of who self.old.flat) splices.now) self.old.flat self.new.flat }
     {
         self.may_pend = true;
         let n = self.clients.client(who).shown as usize;
@@ -127,7 +127,7 @@ impl World {
     /// The number of the node that the text is at which a client sees, or will be at when what is pending is committed.
     pub fn node(&self, who: u32) -> u32
         requires { is_joined who self.now.flat ≡ true }
-        ensures value { result ≡ node_of who self.now.flat }
+        ensures value { result ≡ node_number_of who self.now.flat }
         ensures few { result ≤ MAX_NODES }
     {
         self.shown(who).node()

@@ -23,11 +23,11 @@ pub mod slots;
 pub mod world;
 
 pub use ask::{Ask, BUDGET_SPENT, EditError, Saving};
-pub use buffer::Buffer;
+pub use buffer::WorldBuffer;
 pub use clients::Client;
 pub use command_error::CommandError;
 pub use holder::Holder;
-pub use own::{Mode, Own, Status};
+pub use own::{Mode, Own, StatusText};
 pub use purpose::{PatternUse, Purpose, Toward, Use};
 pub use slots::{MAX_BUFFERS, WorldError};
 pub use world::{MAX_CLIENTS, Rest, World};

@@ -38,13 +38,13 @@ fn first_character(alloc: Global, lines: &Lines) -> Sels
 }
 
 impl HeldList {
-    ghost use Rattle.kak_world.specs.Flat.{fresh};
+    ghost use Rattle.kak_world.specs.Flat.{fresh_list};
     ghost use Rattle.kak_world.specs.Seen.{held_seen};
 
     /// The list that a holder begins with on a text. Takes no memory.
     pub(crate) fn new(alloc: Global, holder: Holder, lines: &Lines) -> HeldList
         ensures held { IsHeld lines.now result.sels }
-        ensures seen { held_seen lines.now result ≡ fresh holder }
+        ensures seen { held_seen lines.now result ≡ fresh_list holder }
     {
         HeldList {
             holder,

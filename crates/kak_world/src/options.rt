@@ -2,7 +2,7 @@
 #![tactic(auto, unfolding(crate::specs::Flat::options_of, crate::specs::Flat::with_options))]
 
 ghost use Rattle.std.specs.Prelude.{◌≡◌, ◌≤◌, Ok, Err, true, IfErr, OnOk, OnErr};
-ghost use Rattle.scope_options.specs.Changes.{declare_in, set_in, unset_in, IsDue};
+ghost use Rattle.scope_options.specs.Changes.{declare_in, option_set_in, option_unset_in, IsOptionErrorDue};
 ghost use Rattle.kak_world.specs.Flat.{is_joined, options_of, with_options, tabstop_of, indentwidth_of};
 ghost use Rattle.kak_world.specs.declared.options.TheConstants.{MAX_INDENT};
 
@@ -59,7 +59,7 @@ impl World {
     ) -> Result<(), OptionError>
         ensures declares { OnOk result (declare_in kind name.now value.now (options_of self.old.flat) ≡ Ok (options_of self.new.flat)) }
         ensures rest { self.new.flat ≡ with_options (options_of self.new.flat) self.old.flat }
-        ensures refused { IfErr result (λ e. IsDue e (declare_in kind name.now value.now (options_of self.old.flat))) }
+        ensures refused { IfErr result (λ e. IsOptionErrorDue e (declare_in kind name.now value.now (options_of self.old.flat))) }
         ensures err { OnErr result (self.new.flat ≡ self.old.flat) }
     {
         self.rest.options.declare(alloc, kind, name, value)
@@ -75,9 +75,9 @@ impl World {
         value: &Words,
         add: bool,
     ) -> Result<(), OptionError>
-        ensures sets { OnOk result (set_in scope name.now value.now add (options_of self.old.flat) ≡ Ok (options_of self.new.flat)) }
+        ensures sets { OnOk result (option_set_in scope name.now value.now add (options_of self.old.flat) ≡ Ok (options_of self.new.flat)) }
         ensures rest { self.new.flat ≡ with_options (options_of self.new.flat) self.old.flat }
-        ensures refused { IfErr result (λ e. IsDue e (set_in scope name.now value.now add (options_of self.old.flat))) }
+        ensures refused { IfErr result (λ e. IsOptionErrorDue e (option_set_in scope name.now value.now add (options_of self.old.flat))) }
         ensures err { OnErr result (self.new.flat ≡ self.old.flat) }
     {
         self.rest.options.set(alloc, scope, name, value, add)
@@ -85,9 +85,9 @@ impl World {
 
     /// Takes away what an option is set to at a scope. It is refused as `Options::unset` is; an error leaves the world.
     pub fn unset_option(&mut self, scope: Scope, name: &str) -> Result<(), OptionError>
-        ensures unsets { OnOk result (unset_in scope name.now (options_of self.old.flat) ≡ Ok (options_of self.new.flat)) }
+        ensures unsets { OnOk result (option_unset_in scope name.now (options_of self.old.flat) ≡ Ok (options_of self.new.flat)) }
         ensures rest { self.new.flat ≡ with_options (options_of self.new.flat) self.old.flat }
-        ensures refused { IfErr result (λ e. unset_in scope name.now (options_of self.old.flat) ≡ Err e) }
+        ensures refused { IfErr result (λ e. option_unset_in scope name.now (options_of self.old.flat) ≡ Err e) }
         ensures err { OnErr result (self.new.flat ≡ self.old.flat) }
     {
         self.rest.options.unset(scope, name)

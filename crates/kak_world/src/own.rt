@@ -15,7 +15,7 @@ pub enum Mode {
 
 /// What stands in a client's status line.
 #[derive(Drop, Debug)]
-pub enum Status {
+pub enum StatusText {
     /// Nothing.
     Quiet,
     /// What a command says.
@@ -34,7 +34,7 @@ pub struct Own {
     pub register: Option<char>,
     /// The key that waits for another one, where one does, as the first of `fx`.
     pub pending: Option<Key>,
-    pub status: Status,
+    pub status: StatusText,
     /// Whether insert mode was entered behind the selections, so that leaving it takes their cursors back.
     pub appending: bool,
     /// What the line of the prompt is taken as.

@@ -4,11 +4,11 @@ ghost use Rattle.std.specs.Prelude.{◌≡◌, ◌<◌, ◌≤◌, ◌+◌, ◌^
 ghost use Rattle.std.specs.Borrow.{sem};
 ghost use Rattle.selection_set.specs.Held.{selected, IsHeld};
 ghost use Rattle.window_view.specs.View.{followed};
-ghost use Rattle.window_view.specs.Views.{view_of as window_seen};
+ghost use Rattle.window_view.specs.Views.{window_seen};
 ghost use Rattle.std.specs.Option.{option_copied};
 ghost use Rattle.kak_world.specs.Flat.{is_there, shown_of, buffer_at, has_list, is_joined, buffer_of, own_of, number_of, name_of, text_of, sels_of, view_of, with_sels, with_view};
 
-use crate::buffer::Buffer;
+use crate::buffer::WorldBuffer;
 use crate::holder::Holder;
 use crate::own::Own;
 use crate::world::World;
@@ -17,7 +17,7 @@ use selection_set::Sels;
 use window_view::Window;
 
 // Whether a number is that of a buffer on which a holder has a list.
-fn has_list_at(buffers: &[Option<Buffer>], n: u32, holder: Holder) -> bool
+fn has_list_at(buffers: &[Option<WorldBuffer>], n: u32, holder: Holder) -> bool
     ensures { result ≡ (is_there n buffers.now && has_list holder (buffer_at n buffers.now)) }
 {
     if n as usize >= buffers.len() {
@@ -33,7 +33,7 @@ impl World {
     ghost use Rattle.kak_world.specs.LendingWorld.{LendsOwn};
 
     // The buffer that a client sees.
-    pub(crate) fn shown(&self, who: u32) -> &Buffer
+    pub(crate) fn shown(&self, who: u32) -> &WorldBuffer
         requires { is_joined who self.now.flat ≡ true }
         ensures { result.now ≡ buffer_of who self.now.flat }
     {
@@ -53,7 +53,7 @@ impl World {
     }
 
     /// The buffer of a number, if there is one.
-    pub fn buffer(&self, n: u32) -> Option<&Buffer>
+    pub fn buffer(&self, n: u32) -> Option<&WorldBuffer>
         ensures { option_copied result ≡ slice_index_or self.now.flat.buffers n None }
     {
         if n as usize >= self.buffers.len() {

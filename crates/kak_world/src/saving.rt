@@ -2,15 +2,15 @@
 
 ghost use Rattle.std.specs.Prelude.{◌≡◌, ◌+◌, ◌∷◌, ◌++◌, [], true, IfOk, IfSome, option_map};
 ghost use Rattle.kak_world.specs.Flat.{is_there};
-ghost use Rattle.kak_world.specs.Saving.{is_named, number_named, number_from, marked_as_saved, saved_in, is_unsaved, with_name, unsaved_behind, unsaved_names, others_leave};
+ghost use Rattle.kak_world.specs.Saving.{is_named, number_named, buffer_number_from, marked_as_saved, saved_in, is_unsaved, with_name, unsaved_behind, unsaved_names, others_leave};
 
-use crate::buffer::Buffer;
+use crate::buffer::WorldBuffer;
 use crate::world::World;
 use kak_text::Chars;
 use std::alloc::{AllocError, Global};
 
 // Whether there is a buffer, of that name.
-fn is_named(slot: &Option<Buffer>, name: &[char]) -> bool
+fn is_named(slot: &Option<WorldBuffer>, name: &[char]) -> bool
     ensures { result ≡ is_named name.now slot.now }
 {
     match slot {
@@ -20,7 +20,7 @@ fn is_named(slot: &Option<Buffer>, name: &[char]) -> bool
 }
 
 // Marks a buffer as saved, where there is one.
-fn mark_saved_in(slot: &mut Option<Buffer>)
+fn mark_saved_in(slot: &mut Option<WorldBuffer>)
     ensures { slot.new ≡ option_map marked_as_saved slot.old }
 {
     match slot {
@@ -47,7 +47,7 @@ fn with_name(alloc: Global, names: Option<Chars>, name: &[char]) -> Result<Chars
 fn with_unsaved(
     alloc: Global,
     names: Option<Chars>,
-    slot: &Option<Buffer>,
+    slot: &Option<WorldBuffer>,
 ) -> Result<Option<Chars>, AllocError>
     ensures { IfOk result (λ all. all ≡ unsaved_behind names (slot.now ∷ [])) }
 {

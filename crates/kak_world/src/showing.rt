@@ -5,13 +5,17 @@ ghost use Rattle.kak_world.specs.Flat.{is_there, is_joined, listed_for};
 ghost use Rattle.kak_world.specs.Keeping.{KeepsClients};
 ghost use Rattle.kak_world.specs.Showing.{shows};
 
-use crate::buffer::Buffer;
+use crate::buffer::WorldBuffer;
 use crate::holder::Holder;
 use crate::world::World;
 use std::alloc::{AllocError, Global};
 
 // Gives a holder that has no list on a buffer the one to begin with, where there is a buffer.
-fn add_list_in(slot: &mut Option<Buffer>, alloc: Global, holder: Holder) -> Result<(), AllocError>
+fn add_list_in(
+    slot: &mut Option<WorldBuffer>,
+    alloc: Global,
+    holder: Holder,
+) -> Result<(), AllocError>
     ensures ok { OnOk result (slot.new ≡ option_map (listed_for holder) slot.old) }
     ensures err { OnErr result (slot.new ≡ slot.old) }
 {

@@ -2,11 +2,11 @@
 
 ghost use Rattle.std.specs.Prelude.{◌≡◌, ◌≤◌, IfOk, OnOk, OnErr, Err, length};
 ghost use Rattle.kak_world.specs.Keeping.{KeepsClients};
-ghost use Rattle.kak_world.specs.Showing.{first_gap, placed, opened, buffer_count, has_all_buffers};
+ghost use Rattle.kak_world.specs.Showing.{first_gap, buffer_placed, buffer_opened, buffer_count, has_all_buffers};
 ghost use Rattle.kak_world.specs.declared.slots.TheConstants.{MAX_BUFFERS};
 ghost use Rattle.kak_world.specs.declared.slots.WorldError.TheVariants.{TooManyBuffers, NoMemory};
 
-use crate::buffer::Buffer;
+use crate::buffer::WorldBuffer;
 use crate::command_error::TOO_MANY_BUFFERS;
 use crate::world::World;
 use kak_text::Chars;
@@ -37,7 +37,7 @@ impl From<AllocError> for WorldError {
 }
 
 // The least number that no buffer has.
-fn first_gap(buffers: &[Option<Buffer>]) -> usize
+fn first_gap(buffers: &[Option<WorldBuffer>]) -> usize
     ensures { result ≡ first_gap buffers.now }
 {
     for (i, buffer) in buffers.iter().enumerate() {
@@ -50,12 +50,12 @@ fn first_gap(buffers: &[Option<Buffer>]) -> usize
 
 // Puts a buffer at the least number that no other has.
 fn put_buffer(
-    buffers: &mut Vec<Option<Buffer>>,
+    buffers: &mut Vec<Option<WorldBuffer>>,
     at: usize,
-    buffer: Buffer,
+    buffer: WorldBuffer,
 ) -> Result<(), AllocError>
     requires { at ≡ first_gap buffers.old.items }
-    ensures ok { OnOk result (buffers.new.items ≡ placed buffer buffers.old.items) }
+    ensures ok { OnOk result (buffers.new.items ≡ buffer_placed buffer buffers.old.items) }
     ensures err { OnErr result (buffers.new.items ≡ buffers.old.items) }
 {
     if at < buffers.len() {
@@ -84,7 +84,7 @@ impl World {
         lines: Lines,
     ) -> Result<u32, WorldError>
         ensures number { IfOk result (λ n. n ≡ first_gap self.old.flat.buffers) }
-        ensures ok { OnOk result (self.new.flat ≡ opened name is_file lines self.old.flat) }
+        ensures ok { OnOk result (self.new.flat ≡ buffer_opened name is_file lines self.old.flat) }
         ensures keeps { OnOk result (KeepsClients self.old.flat self.new.flat) }
         ensures full { buffer_count self.old.flat.buffers ≡ MAX_BUFFERS → result ≡ Err TooManyBuffers }
         ensures refused { result ≡ Err TooManyBuffers → buffer_count self.old.flat.buffers ≡ MAX_BUFFERS }
@@ -95,7 +95,7 @@ impl World {
             return Err(WorldError::TooManyBuffers);
         }
         self.may_pend = true;
-        let buffer = Buffer::new(alloc, name, is_file, lines)?;
+        let buffer = WorldBuffer::new(alloc, name, is_file, lines)?;
         put_buffer(&mut self.buffers, n, buffer)?;
         Ok(n as u32)
     }

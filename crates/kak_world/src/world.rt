@@ -5,7 +5,7 @@ ghost use Rattle.std.specs.List.{AllByRecursion};
 ghost use Rattle.kak_world.specs.Settled.{SlotIsSettled, AllListsSettled};
 ghost use Rattle.kak_world.specs.Flat.{scratch, opening, units_of, with_units};
 
-use crate::buffer::Buffer;
+use crate::buffer::WorldBuffer;
 use crate::clients::Clients;
 use kak_registers::Registers;
 use kak_text::{Chars, Text};
@@ -32,7 +32,7 @@ pub struct Rest {
 #[derive(Drop, Debug)]
 pub struct World {
     // each at the place of its number
-    pub(crate) buffers: Vec<Option<Buffer>>,
+    pub(crate) buffers: Vec<Option<WorldBuffer>>,
     pub(crate) clients: Clients,
     pub(crate) rest: Rest,
     // whether a client's changes may be pending in a buffer: false only where they are in none
@@ -40,27 +40,27 @@ pub struct World {
 }
 
 impl Model for World {
-    ghost use Rattle.kak_world.specs.Seen.{Kept, Stands};
+    ghost use Rattle.kak_world.specs.Seen.{Kept, BuffersStand};
 
     ghost Value = { Kept };
 
     ghost view = { λ w. record { flat = record { buffers = w.buffers.items; clients = w.clients; rest = w.rest } } };
 
-    ghost invariant = { λ w. Stands w.may_pend w.buffers.items };
+    ghost invariant = { λ w. BuffersStand w.may_pend w.buffers.items };
 }
 
 /// The buffer that is there when nothing else is.
-pub(crate) fn scratch_buffer(alloc: Global) -> Result<Buffer, AllocError>
+pub(crate) fn scratch_buffer(alloc: Global) -> Result<WorldBuffer, AllocError>
     ensures { IfOk result (λ b. b ≡ scratch) }
 {
     let name = Chars::from_str(alloc, "*scratch*")?;
     let text = Text::newline(alloc)?;
     let lines = Lines::of_text(alloc, &text)?;
-    Buffer::new(alloc, name, false, lines)
+    WorldBuffer::new(alloc, name, false, lines)
 }
 
 // Each list on a buffer is settled, where there is one.
-fn slot_is_settled(slot: &Option<Buffer>)
+fn slot_is_settled(slot: &Option<WorldBuffer>)
     ensures { SlotIsSettled slot.now }
 {
     match slot {
@@ -70,7 +70,7 @@ fn slot_is_settled(slot: &Option<Buffer>)
 }
 
 // Each list on each buffer is settled.
-fn all_are_settled(buffers: &[Option<Buffer>])
+fn all_are_settled(buffers: &[Option<WorldBuffer>])
     ensures { AllByRecursion SlotIsSettled buffers.now }
 {
     for slot in buffers {

@@ -7,7 +7,7 @@ use Rattle.std.specs.List.{position_or_len}
 use Rattle.key_names.specs.declared.key.Key.{Key}
 use Rattle.key_names.specs.declared.reading.Modifiers.{Modifiers}
 use Rattle.key_names.specs.Names.{base_of}
-use Rattle.key_names.specs.Reading.{Written, plain, bracketed, unclosed, written_in, keys_from, key_before, key_under, modified_key, plain_key, none_held, is_modifier, begins_modified, is_held, held_with}
+use Rattle.key_names.specs.Reading.{WrittenKey, plain, bracketed, unclosed, written_in, keys_from, key_before, key_under, modified_key, plain_key, none_held, is_modifier, begins_modified, is_held, held_with}
 use Rattle.key_names.specs.FirstKey.{ReadsFirst, NoFirst}
 
 -- keys that were read before a reading
@@ -52,7 +52,7 @@ position-closing (c ∷ cs) =
     ∙ ap (λ found. cond (c == 62) (Some 0) (option_map suc found)) (position-closing cs)
 
 -- what is written from inside of brackets on, by the place of the `>`
-abbrev pub written_by : List ℕ → List ℕ → Option ℕ → List Written
+abbrev pub written_by : List ℕ → List ℕ → Option ℕ → List WrittenKey
 written_by inner cs None = unclosed ∷ []
 written_by inner cs (Some n) = bracketed (inner ++ take n cs) ∷ written_in None (drop (suc n) cs)
 

@@ -10,8 +10,8 @@ use Rattle.key_names.specs.declared.key.Base.{Base}
 use Rattle.key_names.specs.declared.key.Base.TheVariants.{Char, Ret, Tab, F}
 use Rattle.key_names.specs.declared.key.Key.{Key}
 use Rattle.key_names.specs.declared.reading.Modifiers.{Modifiers}
-use Rattle.key_names.specs.Names.{name_of, base_of, base_named, function_number, named_bases, is_name}
-use Rattle.key_names.specs.Reading.{Written, plain, bracketed, unclosed, keys_from, key_of, key_before, bare, key_under, modified_key, none_held, is_modifier, is_held, held_with, written_in, written_length, read_text}
+use Rattle.key_names.specs.Names.{base_name, base_of, base_named, function_number, named_bases, is_name}
+use Rattle.key_names.specs.Reading.{WrittenKey, plain, bracketed, unclosed, keys_from, key_of, key_before, bare, key_under, modified_key, none_held, is_modifier, is_held, held_with, written_in, written_length, read_text}
 use Rattle.key_names.specs.Printing.{is_base_spelled, has_spelling}
 
 -- a choice that gave something
@@ -63,7 +63,7 @@ function_base_spelled (Some n) b h e = spelled_if_same false (F n) b e (h n refl
 
 base_choice_spelled : (test : Bool) (digits : List ℕ) (text : List ℕ) (b : Base) → cond test (option_map F (function_number digits)) (base_named text) ≡ Some b → is_base_spelled false b ≡ true
 base_choice_spelled true digits text b h = function_base_spelled (function_number digits) b (number_spelled digits) h
-base_choice_spelled false digits text b h = find_passes (λ base. is_name text (name_of base)) (is_base_spelled false) named_bases b refl h
+base_choice_spelled false digits text b h = find_passes (λ base. is_name text (base_name base)) (is_base_spelled false) named_bases b refl h
 
 base_spelled : (text : List ℕ) (b : Base) → base_of text ≡ Some b → is_base_spelled false b ≡ true
 base_spelled [] b h = absurd (none-some b h)
@@ -116,7 +116,7 @@ plain_step false true control c key e h = key_if_same (bare Tab) key h refl
 plain_step false false true c key e h = absurd (none-some key h)
 plain_step false false false c key e h = key_if_same (bare (Char c)) key h (rw e refl)
 
-key_spelled : (w : Written) (key : Key) → key_of w ≡ Some key → has_spelling key ≡ true
+key_spelled : (w : WrittenKey) (key : Key) → key_of w ≡ Some key → has_spelling key ≡ true
 key_spelled (plain c) key h = plain_step (c == 10) (c == 9) (is_control c) c key refl h
 key_spelled (bracketed inner) key h = modified_spelled none_held inner key h
 key_spelled unclosed key h = absurd (none-some key h)
@@ -132,7 +132,7 @@ all_step (Some key) at (Ok rest) keys one more h =
     subst (λ (ks : List Key). list_all has_spelling ks ≡ true) same (and_from (has_spelling key) (list_all has_spelling rest) (one key refl) (more rest refl))
 
 -- each key of a reading
-pub keys_spelled : (ws : List Written) (at : ℕ) (keys : List Key) → keys_from at ws ≡ Ok keys → list_all has_spelling keys ≡ true
+pub keys_spelled : (ws : List WrittenKey) (at : ℕ) (keys : List Key) → keys_from at ws ≡ Ok keys → list_all has_spelling keys ≡ true
 keys_spelled [] at keys h = let same : [] ≡ keys = cc in subst (λ (ks : List Key). list_all has_spelling ks ≡ true) same refl
 keys_spelled (w ∷ ws) at keys h =
     all_step (key_of w) at (keys_from (at + written_length w) ws) keys (key_spelled w) (keys_spelled ws (at + written_length w)) h

@@ -13,22 +13,22 @@ character_name c =
     (if c == 37 then Some (codes "percent") else (if c == 39 then Some (codes "quote") else (if c == 34 then Some (codes "dquote") else None))))))))
 
 -- the name of a base, function keys aside
-abbrev pub name_of : Base → Option (List ℕ)
-name_of (Char c) = character_name c
-name_of Ret = Some (codes "ret")
-name_of Tab = Some (codes "tab")
-name_of Esc = Some (codes "esc")
-name_of Backspace = Some (codes "backspace")
-name_of Del = Some (codes "del")
-name_of Up = Some (codes "up")
-name_of Down = Some (codes "down")
-name_of Left = Some (codes "left")
-name_of Right = Some (codes "right")
-name_of Home = Some (codes "home")
-name_of End = Some (codes "end")
-name_of PageUp = Some (codes "pageup")
-name_of PageDown = Some (codes "pagedown")
-name_of (F n) = None
+abbrev pub base_name : Base → Option (List ℕ)
+base_name (Char c) = character_name c
+base_name Ret = Some (codes "ret")
+base_name Tab = Some (codes "tab")
+base_name Esc = Some (codes "esc")
+base_name Backspace = Some (codes "backspace")
+base_name Del = Some (codes "del")
+base_name Up = Some (codes "up")
+base_name Down = Some (codes "down")
+base_name Left = Some (codes "left")
+base_name Right = Some (codes "right")
+base_name Home = Some (codes "home")
+base_name End = Some (codes "end")
+base_name PageUp = Some (codes "pageup")
+base_name PageDown = Some (codes "pagedown")
+base_name (F n) = None
 
 -- all bases that have one
 abbrev pub named_bases : List Base
@@ -43,7 +43,7 @@ is_name text (Some name) = bytes_eq name text
 
 -- the base that has the text as its name
 abbrev pub base_named : List ℕ → Option Base
-base_named text = find (λ base. is_name text (name_of base)) named_bases
+base_named text = find (λ base. is_name text (base_name base)) named_bases
 
 -- the number of a function key from its digits: 1 to 9, or 10 to 12
 abbrev pub function_number : List ℕ → Option ℕ

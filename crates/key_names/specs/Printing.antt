@@ -4,7 +4,7 @@ use Rattle.std.specs.Char.{is_control}
 use Rattle.key_names.specs.declared.key.Base.{Base}
 use Rattle.key_names.specs.declared.key.Base.TheVariants.{Char, F}
 use Rattle.key_names.specs.declared.key.Key.{Key}
-use Rattle.key_names.specs.Names.{name_of, character_name}
+use Rattle.key_names.specs.Names.{base_name, character_name}
 
 -- what is written for a base without a name: a character as itself, a function key as F and its number
 abbrev pub unnamed_text : Base → List ℕ
@@ -14,7 +14,7 @@ unnamed_text _ = []
 
 -- what is written for a base: its name, if it has one
 abbrev pub base_text : Base → List ℕ
-base_text base = unwrap_or (name_of base) (unnamed_text base)
+base_text base = unwrap_or (base_name base) (unnamed_text base)
 
 -- what is written for a modifier that is held
 abbrev pub held_text : Bool → List ℕ → List ℕ

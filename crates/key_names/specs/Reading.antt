@@ -10,13 +10,13 @@ use Rattle.key_names.specs.declared.reading.KeyError.TheVariants.{BadKey, NoMemo
 use Rattle.key_names.specs.Names.{base_of}
 
 -- a key as it is written: one character, what stands between `<` and `>`, or a `<` that isn't closed
-pub data Written : Type 0 where
-  plain : ℕ → Written
-  bracketed : List ℕ → Written
-  unclosed : Written
+pub data WrittenKey : Type 0 where
+  plain : ℕ → WrittenKey
+  bracketed : List ℕ → WrittenKey
+  unclosed : WrittenKey
 
 -- the keys that are written in a text; `Some inner` is what has been read since a `<`
-abbrev pub written_in : Option (List ℕ) → List ℕ → List Written
+abbrev pub written_in : Option (List ℕ) → List ℕ → List WrittenKey
 written_in None [] = []
 written_in (Some inner) [] = unclosed ∷ []
 written_in None (c ∷ cs) = if c == 60 then written_in (Some []) cs else plain c ∷ written_in None cs
@@ -24,7 +24,7 @@ written_in (Some inner) (c ∷ cs) =
     if c == 62 then bracketed inner ∷ written_in None cs else written_in (Some (inner ++ c ∷ [])) cs
 
 -- how many characters a written key takes
-abbrev pub written_length : Written → ℕ
+abbrev pub written_length : WrittenKey → ℕ
 written_length (plain c) = 1
 written_length (bracketed inner) = length inner + 2
 written_length unclosed = 1
@@ -88,7 +88,7 @@ abbrev pub none_held : Modifiers
 none_held = record { control = false; alt = false; shift = false }
 
 -- the key that a written key stands for
-abbrev pub key_of : Written → Option Key
+abbrev pub key_of : WrittenKey → Option Key
 key_of (plain c) = plain_key c
 key_of (bracketed inner) = modified_key none_held inner
 key_of unclosed = None
@@ -100,7 +100,7 @@ key_before (Some key) at (Ok keys) = Ok (key ∷ keys)
 key_before (Some key) at (Err place) = Err place
 
 -- the keys of written keys of which the first begins at a place, or the place of the first that is none
-abbrev pub keys_from : ℕ → List Written → Result (List Key) ℕ
+abbrev pub keys_from : ℕ → List WrittenKey → Result (List Key) ℕ
 keys_from at [] = Ok []
 keys_from at (w ∷ ws) = key_before (key_of w) at (keys_from (at + written_length w) ws)
 

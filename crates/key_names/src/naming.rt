@@ -3,7 +3,7 @@
 ghost use Rattle.std.specs.Prelude.{◌≡◌};
 ghost use Rattle.std.specs.Option.{option_copied};
 ghost use Rattle.std.specs.Str.{bytes_eq};
-ghost use Rattle.key_names.specs.Names.{name_of, character_name, base_of, base_named, function_number, is_name};
+ghost use Rattle.key_names.specs.Names.{base_name, character_name, base_of, base_named, function_number, is_name};
 
 use crate::key::Base;
 
@@ -54,7 +54,7 @@ fn name_of_character(c: char) -> Option<&'static str>
 /// The base's name between the brackets of a key text; None for a function key and for a character
 /// that is written as itself.
 pub fn name(base: Base) -> Option<&'static str>
-    ensures { option_copied result ≡ name_of base }
+    ensures { option_copied result ≡ base_name base }
 {
     match base {
         Base::Char(c) => name_of_character(c),
@@ -88,7 +88,7 @@ fn spells(text: &[char], name: &[u8]) -> bool
 
 // Whether the text is the base's name.
 fn is_called(base: Base, text: &[char]) -> bool
-    ensures { result ≡ is_name text.now (name_of base) }
+    ensures { result ≡ is_name text.now (base_name base) }
 {
     match name(base) {
         Some(name) => spells(text, name.as_bytes()),

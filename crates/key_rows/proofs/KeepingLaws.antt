@@ -16,8 +16,8 @@ use Rattle.kak_world.proofs.KeepingLaws.{keeps_same, keeps_after, keeps_own, kee
 use Rattle.key_rows.specs.declared.each.Each.{Each}
 use Rattle.key_rows.specs.declared.edits.Edit.{Edit}
 use Rattle.key_rows.specs.declared.edits.Edit.TheVariants as edit
-use Rattle.key_rows.specs.declared.entries.Entry.{Entry}
-use Rattle.key_rows.specs.declared.entries.Entry.TheVariants as entry
+use Rattle.key_rows.specs.declared.entries.InsertEntry.{InsertEntry}
+use Rattle.key_rows.specs.declared.entries.InsertEntry.TheVariants as entry
 use Rattle.key_rows.specs.Sequence.{behind, then_row}
 use Rattle.key_rows.specs.Each.{each_changed}
 use Rattle.key_rows.specs.Reading.{used, strings_read}
@@ -80,7 +80,7 @@ keeps-room who flat = by (reaches_end (text_of who flat) (sels_of who flat).list
     by true = keeps_edit_row _ who flat
     by false = keeps_same flat
 
-pub keeps_place : (how : Entry) (register : Option ℕ) (who : ℕ) → KeepsIn (place_row how register who)
+pub keeps_place : (how : InsertEntry) (register : Option ℕ) (who : ℕ) → KeepsIn (place_row how register who)
 keeps_place entry.Before register who flat = keeps_sels who _ flat
 keeps_place entry.Behind register who flat = keeps_then (room_row who) _ (keeps-room who) (λ w. keeps_sels who _ w) flat
 keeps_place entry.FirstLine register who flat = keeps_sels who _ flat
@@ -89,7 +89,7 @@ keeps_place entry.Cut register who flat = keeps_cut register who flat
 keeps_place entry.Erase register who flat = keeps_erase who flat
 keeps_place (entry.Open side) register who flat = keeps_leaving _ who flat
 
-pub keeps_entry : (how : Entry) (register : Option ℕ) (who : ℕ) → KeepsIn (enter_row how register who)
+pub keeps_entry : (how : InsertEntry) (register : Option ℕ) (who : ℕ) → KeepsIn (enter_row how register who)
 keeps_entry how register who = keeps_then (place_row how register who) _ (keeps_place how register who) (λ w. keeps_own who _ w)
 
 -- so a client that was there is there behind a row

@@ -14,16 +14,16 @@ use Rattle.selection_set.specs.Held.{selected, IsHeld}
 use Rattle.undo_model.specs.Steps.{AreSteps}
 use Rattle.undo_model.specs.Edits.{Splice}
 use Rattle.buffer_store.specs.declared.edits.Splice.{Splice as CodeSplice}
-use Rattle.buffer_store.specs.Stored.{shifts_of}
+use Rattle.buffer_store.specs.Stored.{change_shifts}
 use Rattle.buffer_store.specs.Buffers.{flat_splice, flat_splices, AreSplicesOf, changes_of}
 use Rattle.edit_ops.specs.Each.{each_from}
 use Rattle.edit_ops.specs.declared.kinds.Indent.{Indent}
 use Rattle.edit_ops.specs.Indenting.{indents}
-use Rattle.edit_ops.specs.Leaving.{edited, left_by}
-use Rattle.edit_ops.specs.Left.{IsOfEdit, IsLeftBy}
+use Rattle.edit_ops.specs.Leaving.{edited_text, list_left_by}
+use Rattle.edit_ops.specs.Left.{IsOfEdit, IsLeftByEdit}
 use Rattle.kak_world.specs.Flat.{Flat, is_joined, text_of, tabstop_of, indentwidth_of, sels_of, shown_of, with_sels}
 use Rattle.kak_world.specs.Rows.{does}
-use Rattle.kak_world.specs.Changing.{buffer_edited, changed_in, splice_changes_of, edited_by, IsAfterSome}
+use Rattle.kak_world.specs.Changing.{buffer_edited, changed_in, splice_changes_of, edited_by, IsAfterSomeChanges}
 use Rattle.kak_world.specs.Editing.{edit_row}
 use Rattle.kak_world.proofs.WorldLaws.{text_edited, joined_edited}
 use Rattle.key_rows.specs.Sequence.{then_row}
@@ -42,7 +42,7 @@ one-each f who flat lines list ss given s g e =
 
 -- what the code knows of an edit that was made
 pub is-edit : (text lines : List ℕ) (last : Coord) (ss : List CodeSplice) (shifts given : List Shift) → lines ≡ text → IsPlace lines last → offset lines last ≡ last_place lines → IsStored lines → AreSplicesOf text ss
-    → AreSteps text (changes_of text ss) → given ≡ shifts → shifts ≡ shifts_of text (changes_of text ss) → IsOfEdit text last ss given
+    → AreSteps text (changes_of text ss) → given ≡ shifts → shifts ≡ change_shifts text (changes_of text ss) → IsOfEdit text last ss given
 is-edit text lines last ss shifts given l p o s a t g e = record {
   stored = subst IsStored l s;
   last_is = subst (λ t. last ≡ coord_at t (last_place t)) l (sym (coord_at-offset lines last p) ∙ ap (coord_at lines) o);
@@ -52,28 +52,28 @@ is-edit text lines last ss shifts given l p o s a t g e = record {
 }
 
 -- the text behind an edit
-pub text-behind : (who : ℕ) (flat mid : Flat) (ss : List Splice) → is_joined who flat ≡ true → mid ≡ edited_by ss who flat → text_of who mid ≡ edited (text_of who flat) ss
+pub text-behind : (who : ℕ) (flat mid : Flat) (ss : List Splice) → is_joined who flat ≡ true → mid ≡ edited_by ss who flat → text_of who mid ≡ edited_text (text_of who flat) ss
 text-behind who flat mid ss j e = ap (text_of who) e ∙ text_edited ss who flat j
 
 pub joined-behind : (who : ℕ) (flat mid : Flat) (ss : List Splice) → is_joined who flat ≡ true → mid ≡ edited_by ss who flat → is_joined who mid ≡ true
 joined-behind who flat mid ss j e = ap (is_joined who) e ∙ joined_edited who ss who flat ∙ j
 
 -- the list that is left is the client's
-pub held-behind : (who : ℕ) (flat mid : Flat) (ss : List CodeSplice) (main : ℕ) (s : Listed) → text_of who mid ≡ edited (text_of who flat) (flat_splices (text_of who flat) ss) → IsLeftBy (text_of who flat) ss main s → IsHeld (text_of who mid) s
+pub held-behind : (who : ℕ) (flat mid : Flat) (ss : List CodeSplice) (main : ℕ) (s : Listed) → text_of who mid ≡ edited_text (text_of who flat) (flat_splices (text_of who flat) ss) → IsLeftByEdit (text_of who flat) ss main s → IsHeld (text_of who mid) s
 held-behind who flat mid ss main s t l = subst (λ x. IsHeld x s) (sym t) l.held
 
 pub leaves-row : (who : ℕ) (flat mid new : Flat) (ss : List CodeSplice) (main : ℕ) (list s : Listed) → sels_of who flat ≡ selected (text_of who flat) list → main ≡ list.main
-    → edit_row (flat_splices (text_of who flat) ss) who flat ≡ does mid → text_of who mid ≡ edited (text_of who flat) (flat_splices (text_of who flat) ss) → IsLeftBy (text_of who flat) ss main s
+    → edit_row (flat_splices (text_of who flat) ss) who flat ≡ does mid → text_of who mid ≡ edited_text (text_of who flat) (flat_splices (text_of who flat) ss) → IsLeftByEdit (text_of who flat) ss main s
     → new ≡ with_sels who (selected (text_of who mid) s) mid → leaving_row (flat_splices (text_of who flat) ss) who flat ≡ does new
 unfolding leaving_row
 leaves-row who flat mid new ss main list s held m row t l n =
-    ap (λ x. then_row x (λ w. does (with_sels who (left_by (text_of who flat) (flat_splices (text_of who flat) ss) (sels_of who flat).main) w))) row
-    ∙ ap (λ k. does (with_sels who (left_by (text_of who flat) (flat_splices (text_of who flat) ss) k) mid)) (ap (λ (x : Selected). x.main) held ∙ sym m)
+    ap (λ x. then_row x (λ w. does (with_sels who (list_left_by (text_of who flat) (flat_splices (text_of who flat) ss) (sels_of who flat).main) w))) row
+    ∙ ap (λ k. does (with_sels who (list_left_by (text_of who flat) (flat_splices (text_of who flat) ss) k) mid)) (ap (λ (x : Selected). x.main) held ∙ sym m)
     ∙ ap (λ x. does (with_sels who x mid)) (sym l.left ∙ ap (λ x. selected x s) (sym t))
     ∙ ap does (sym n)
 
 -- all changes were made
-pub all-made : (who : ℕ) (flat mid : Flat) (ss : List Splice) → mid ≡ edited_by ss who flat → IsAfterSome who (splice_changes_of ss who flat) flat mid
+pub all-made : (who : ℕ) (flat mid : Flat) (ss : List Splice) → mid ≡ edited_by ss who flat → IsAfterSomeChanges who (splice_changes_of ss who flat) flat mid
 unfolding edited_by
 all-made who flat mid ss e =
     let cs : List Change = splice_changes_of ss who flat in

@@ -5,7 +5,7 @@ use Rattle.std.specs.Str.{chars}
 use Rattle.std.proofs.lemmas.Bool.{false≢true, lt-ltb}
 use Rattle.std.proofs.lemmas.List.{take_more}
 use Rattle.std.proofs.lemmas.Grind.{flat_map-append}
-use Rattle.key_rows.specs.Patterns.{last_string, escaped_one, escaped, is_word_at, begins_word}
+use Rattle.key_rows.specs.Patterns.{last_string, escaped_one, escaped_pattern, is_word_at, begins_word}
 
 -- of no strings the last one is empty
 pub last-of-none : (ss : List (List ℕ)) → length ss ≡ 0 → chars (last_string ss) ≡ []
@@ -14,11 +14,11 @@ last-of-none [] h = refl
 last-of-none (s ∷ ss) h = absurd (omega (arith, h))
 
 -- one more character is escaped
-pub escaped-more : (cs : List ℕ) (i c : ℕ) → i < length cs → c ≡ get_or cs i c → escaped (take (i + 1) cs) ≡ escaped (take i cs) ++ escaped_one c
+pub escaped-more : (cs : List ℕ) (i c : ℕ) → i < length cs → c ≡ get_or cs i c → escaped_pattern (take (i + 1) cs) ≡ escaped_pattern (take i cs) ++ escaped_one c
 escaped-more cs i c h r =
-    ap escaped (take_more cs i c h ∙ ap (λ x. take i cs ++ x ∷ []) (sym r))
+    ap escaped_pattern (take_more cs i c h ∙ ap (λ x. take i cs ++ x ∷ []) (sym r))
     ∙ flat_map-append escaped_one (take i cs) (c ∷ [])
-    ∙ ap (λ t. escaped (take i cs) ++ t) (append-nil (escaped_one c))
+    ∙ ap (λ t. escaped_pattern (take i cs) ++ t) (append-nil (escaped_one c))
 
 -- tests
 both-then-not : (a b c t : Bool) → a ≡ true → b ≡ true → t ≡ c → not t ≡ (a && not (b && c))

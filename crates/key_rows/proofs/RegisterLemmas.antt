@@ -16,7 +16,7 @@ use Rattle.edit_ops.specs.Putting.{puts}
 use Rattle.edit_ops.specs.Crowding.{put_together}
 use Rattle.edit_ops.specs.Aligning.{shares_line, alignments}
 use Rattle.edit_ops.proofs.AligningLemmas.{alignments-in_order}
-use Rattle.edit_ops.specs.Leaving.{left_by}
+use Rattle.edit_ops.specs.Leaving.{list_left_by}
 use Rattle.edit_ops.proofs.CrowdingLemmas.{crowded-long, crowded-changes, puts-in_order}
 use Rattle.buffer_store.specs.declared.edits.Splice.{Splice as CodeSplice}
 use Rattle.buffer_store.specs.Buffers.{flat_splice, flat_splices, AreSplicesOf}
@@ -31,7 +31,7 @@ use Rattle.kak_world.proofs.RowAnswers.{edit-long}
 use Rattle.key_rows.specs.Sequence.{then_row}
 use Rattle.key_rows.specs.Reading.{strings_read}
 use Rattle.key_rows.specs.Edits.{leaving_row, with_strings, puts_of, align_row}
-use Rattle.key_rows.specs.Handing.{ArePuts, IsTooMuch, IsRefused}
+use Rattle.key_rows.specs.Handing.{ArePuts, IsTooMuch, AreStringsRefused}
 use Rattle.key_rows.proofs.LeavingLemmas.{each-length}
 
 chosen : (t : Bool) (x y : Option (List (List ℕ))) → (t ≡ false → ⊥) → (if t then x else y) ≡ x
@@ -61,7 +61,7 @@ known-puts how name who flat strings given ss r g p a = record {
 }
 
 pub known-refusal : (how : Put) (name who : ℕ) (flat : Flat) (strings given : List (List ℕ)) (error : EditError) → strings_read name who flat ≡ Some strings → given ≡ strings
-    → IsTooMuch error (puts_of how given who flat) who flat → IsRefused error how name who flat
+    → IsTooMuch error (puts_of how given who flat) who flat → AreStringsRefused error how name who flat
 known-refusal how name who flat strings given error r g h = inr (inl (record { strings = strings; read = r; too_much = subst (λ x. IsTooMuch error (puts_of how x who flat) who flat) g h }))
 
 -- an edit that puts in more than a text may have is refused
@@ -98,7 +98,7 @@ long-fails error who flat end e f = subst (λ o. IfSome o (λ row. end ≡ recor
 
 pub refused-row : (error : EditError) (how : Put) (name who : ℕ) (flat : Flat) (row : List (List ℕ) → Flat → RowEnd)
     → ((strings : List (List ℕ)) → edit_row (puts_of how strings who flat) who flat ≡ fails (long_refusal who flat) flat → row strings flat ≡ fails (long_refusal who flat) flat)
-    → IsRefused error how name who flat → IfSome (row_of error) (λ end. with_strings (strings_read name who flat) name row flat ≡ record { world = flat; row = end })
+    → AreStringsRefused error how name who flat → IfSome (row_of error) (λ end. with_strings (strings_read name who flat) name row flat ≡ record { world = flat; row = end })
 refused-row error how name who flat row k (inl u) =
     subst (λ x. IfSome (row_of x) (λ end. with_strings (strings_read name who flat) name row flat ≡ record { world = flat; row = end })) (sym u.0) (ap (λ o. with_strings o name row flat) u.1)
 refused-row error how name who flat row k (inr (inl c)) = by c.too_much
@@ -111,7 +111,7 @@ refused-row error how name who flat row k (inr (inr w)) =
 
 pub leaving-fails : (ss : List Splice) (who : ℕ) (flat : Flat) → edit_row ss who flat ≡ fails (long_refusal who flat) flat → leaving_row ss who flat ≡ fails (long_refusal who flat) flat
 unfolding leaving_row
-leaving-fails ss who flat e = ap (λ x. then_row x (λ w. does (with_sels who (left_by (text_of who flat) ss (sels_of who flat).main) w))) e
+leaving-fails ss who flat e = ap (λ x. then_row x (λ w. does (with_sels who (list_left_by (text_of who flat) ss (sels_of who flat).main) w))) e
 
 pub align-fails : (who : ℕ) (flat : Flat) → shares_line (text_of who flat) (sels_of who flat).list ≡ false → edit_row (alignments (text_of who flat) (tabstop_of who flat) (sels_of who flat).list) who flat ≡ fails (long_refusal who flat) flat → align_row who flat ≡ fails (long_refusal who flat) flat
 align-fails who flat apart e = ap (λ t. if t then fails SharedLine flat else edit_row (alignments (text_of who flat) (tabstop_of who flat) (sels_of who flat).list) who flat) apart ∙ e

@@ -7,7 +7,7 @@ use Rattle.undo_model.specs.Edits.{Splice}
 use Rattle.buffer_store.specs.declared.edits.Splice.{Splice as CodeSplice}
 use Rattle.buffer_store.specs.Buffers.{flat_splices, changes_of}
 use Rattle.kak_world.specs.Flat.{Flat, text_of, sels_of}
-use Rattle.kak_world.specs.Changing.{splice_changes_of, IsAfterSome}
+use Rattle.kak_world.specs.Changing.{splice_changes_of, IsAfterSomeChanges}
 use Rattle.key_rows.specs.Wanting.{IsPartWay}
 
 -- replacements of the code are those of a definition that goes by the text and the client's selections
@@ -17,8 +17,8 @@ flats-are f who flat lines list ss given g l s e =
     ap₂ (λ t x. flat_splices t x) (sym l) g ∙ e ∙ ap (λ t. f t (ranges_of t list.list)) l ∙ ap (λ (x : Selected). f (text_of who flat) x.list) (sym s)
 
 -- some of their changes were made
-pub some-made : (who : ℕ) (flat new : Flat) (ss : List CodeSplice) (fs : List Splice) → flat_splices (text_of who flat) ss ≡ fs → IsAfterSome who (changes_of (text_of who flat) ss) flat new → IsPartWay fs who flat flat new
-some-made who flat new ss fs e h = inr (inr (subst (λ xs. IsAfterSome who (splice_changes_of xs who flat) flat new) e h))
+pub some-made : (who : ℕ) (flat new : Flat) (ss : List CodeSplice) (fs : List Splice) → flat_splices (text_of who flat) ss ≡ fs → IsAfterSomeChanges who (changes_of (text_of who flat) ss) flat new → IsPartWay fs who flat flat new
+some-made who flat new ss fs e h = inr (inr (subst (λ xs. IsAfterSomeChanges who (splice_changes_of xs who flat) flat new) e h))
 
 -- what came part of the way in a world that was made ready
 pub behind-ready : (f : Flat → List Splice) (who : ℕ) (old ready kept new : Flat) → kept ≡ ready → IsPartWay (f kept) who kept kept new → IsPartWay (f ready) who old ready new

@@ -71,5 +71,5 @@ each_changed change who flat =
     with_sels who (each_settled (each_range change (view_of who flat) (tabstop_of who flat) (text_of who flat)) (sels_of who flat)) flat
 
 -- each selection of a client moved
-abbrev pub moved : Motion → Reach → ℕ → Flat → Flat
-moved motion reach who flat = each_changed (each.Moved motion reach) who flat
+abbrev pub each_moved : Motion → Reach → ℕ → Flat → Flat
+each_moved motion reach who flat = each_changed (each.Moved motion reach) who flat

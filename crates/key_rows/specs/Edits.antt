@@ -18,7 +18,7 @@ use Rattle.edit_ops.specs.Indenting.{indents}
 use Rattle.edit_ops.specs.Joining.{joins}
 use Rattle.edit_ops.specs.Aligning.{shares_line, alignments}
 use Rattle.edit_ops.specs.Putting.{puts}
-use Rattle.edit_ops.specs.Leaving.{left_by}
+use Rattle.edit_ops.specs.Leaving.{list_left_by}
 use Rattle.kak_world.specs.declared.ask.EditError.TheVariants.{NoSuchRegister, SharedLine}
 use Rattle.kak_world.specs.Flat.{Flat, text_of, tabstop_of, indentwidth_of, sels_of, with_sels}
 use Rattle.kak_world.specs.Rows.{RowEnd, does, fails}
@@ -32,7 +32,7 @@ use Rattle.key_rows.specs.Reading.{used, own_strings, strings_read}
 -- a client's replacements, one for each of its selections, in the text that it sees: its list is then what they leave
 unfoldable pub leaving_row : List Splice → ℕ → Flat → RowEnd
 leaving_row splices who flat =
-    then_row (edit_row splices who flat) (λ w. does (with_sels who (left_by (text_of who flat) splices (sels_of who flat).main) w))
+    then_row (edit_row splices who flat) (λ w. does (with_sels who (list_left_by (text_of who flat) splices (sels_of who flat).main) w))
 
 -- erasing at each selection, which leaves what stands there then
 abbrev pub erase_row : ℕ → Flat → RowEnd

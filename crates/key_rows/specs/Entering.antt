@@ -10,8 +10,8 @@ use Rattle.kak_world.specs.Rows.{RowEnd, does}
 use Rattle.kak_world.specs.Editing.{edit_row}
 use Rattle.key_rows.specs.declared.shapes.Shape.TheVariants as shape
 use Rattle.key_rows.specs.declared.each.Each.TheVariants as each
-use Rattle.key_rows.specs.declared.entries.Entry.{Entry}
-use Rattle.key_rows.specs.declared.entries.Entry.TheVariants as entry
+use Rattle.key_rows.specs.declared.entries.InsertEntry.{InsertEntry}
+use Rattle.key_rows.specs.declared.entries.InsertEntry.TheVariants as entry
 use Rattle.key_rows.specs.Sequence.{then_row}
 use Rattle.key_rows.specs.Each.{each_changed}
 use Rattle.key_rows.specs.Edits.{erase_row, cut_row, open_row}
@@ -29,7 +29,7 @@ room_row who flat =
 -- what becomes of a client's selections where insert mode is entered: before them; behind them, for which there is room then; at
 -- the first character of their first line that is no blank; at the newline of their last line; in the place of their texts,
 -- kept in a register or not; on new lines
-abbrev pub place_row : Entry → Option ℕ → ℕ → Flat → RowEnd
+abbrev pub place_row : InsertEntry → Option ℕ → ℕ → Flat → RowEnd
 place_row entry.Before register who flat = does (each_changed (each.Reshaped shape.AtStart) who flat)
 place_row entry.Behind register who flat = then_row (room_row who flat) (λ w. does (each_changed (each.Reshaped shape.OneFurther) who w))
 place_row entry.FirstLine register who flat = does (each_changed each.AtFirstLine who flat)
@@ -39,21 +39,21 @@ place_row entry.Erase register who flat = erase_row who flat
 place_row (entry.Open side) register who flat = open_row side who flat
 
 -- whether leaving insert mode takes cursors back
-abbrev pub appends : Entry → Bool
+abbrev pub appends : InsertEntry → Bool
 appends entry.Behind = true
 appends _ = false
 
 -- whether the text is changed before
-abbrev pub edits_first : Entry → Bool
+abbrev pub edits_first : InsertEntry → Bool
 edits_first entry.Before = false
 edits_first entry.FirstLine = false
 edits_first entry.LastNewline = false
 edits_first _ = true
 
 -- a client is in insert mode
-abbrev pub inserting : Entry → ℕ → Flat → Flat
+abbrev pub inserting : InsertEntry → ℕ → Flat → Flat
 inserting entry who flat = with_own who (λ o. record o { mode = Insert; appending = appends entry }) flat
 
 -- insert mode is entered
-abbrev pub enter_row : Entry → Option ℕ → ℕ → Flat → RowEnd
+abbrev pub enter_row : InsertEntry → Option ℕ → ℕ → Flat → RowEnd
 enter_row entry register who flat = then_row (place_row entry register who flat) (λ w. does (inserting entry who w))

@@ -33,8 +33,8 @@ pub record PutsTooMuch (error : EditError) (how : Put) (name who : ℕ) (flat : 
   pub too_much : IsTooMuch error (puts_of how strings who flat) who flat
 
 -- why there are none: there is no such register; its strings put in too much; or memory was wanting
-abbrev pub IsRefused : EditError → Put → ℕ → ℕ → Flat → Type 0
-IsRefused error how name who flat = ((error ≡ NoSuchRegister name) × (strings_read name who flat ≡ None)) ⊎ (PutsTooMuch error how name who flat ⊎ (error ≡ NoMemory))
+abbrev pub AreStringsRefused : EditError → Put → ℕ → ℕ → Flat → Type 0
+AreStringsRefused error how name who flat = ((error ≡ NoSuchRegister name) × (strings_read name who flat ≡ None)) ⊎ (PutsTooMuch error how name who flat ⊎ (error ≡ NoMemory))
 
 -- replacements are those that bring a client's cursors to one display column
 pub record AreAlignments (who : ℕ) (flat : Flat) (splices : List Splice) : Type 0 where

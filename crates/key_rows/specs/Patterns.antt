@@ -33,8 +33,8 @@ abbrev pub asks_for_last : Use → Flat → RowEnd
 asks_for_last wanted flat = asks_for (last_pattern flat) wanted flat
 
 -- the text of a pattern becomes that of the one looked for last
-abbrev pub remembered : List ℕ → Flat → RowEnd
-remembered pattern flat = set_row 47 (encode_utf8_all pattern ∷ []) flat
+abbrev pub pattern_remembered : List ℕ → Flat → RowEnd
+pattern_remembered pattern flat = set_row 47 (encode_utf8_all pattern ∷ []) flat
 
 -- whether a character stands for something else than itself in a pattern
 abbrev pub is_special : ℕ → Bool
@@ -45,8 +45,8 @@ abbrev pub escaped_one : ℕ → List ℕ
 escaped_one c = if is_special c then 92 ∷ c ∷ [] else c ∷ []
 
 -- characters as a pattern that matches just these
-abbrev pub escaped : List ℕ → List ℕ
-escaped cs = flat_map escaped_one cs
+abbrev pub escaped_pattern : List ℕ → List ℕ
+escaped_pattern cs = flat_map escaped_one cs
 
 -- whether a word character stands at an offset; beyond the text stands none
 abbrev pub is_word_at : List ℕ → ℕ → Bool
@@ -65,9 +65,9 @@ word_end wanted = if wanted then codes "\\b" else []
 
 -- the text of a selection as a pattern: anywhere, or only where words end as they do around the selection
 abbrev pub pattern_of : Bounds → List ℕ → Range → List ℕ
-pattern_of Anywhere text r = escaped (text_of_range text r)
-pattern_of AtWordEnds text r = word_end (begins_word text r.low) ++ (escaped (text_of_range text r) ++ word_end (ends_word text r.high))
+pattern_of Anywhere text r = escaped_pattern (text_of_range text r)
+pattern_of AtWordEnds text r = word_end (begins_word text r.low) ++ (escaped_pattern (text_of_range text r) ++ word_end (ends_word text r.high))
 
 -- the text of the main selection becomes the pattern looked for last
 abbrev pub main_remembered : Bounds → ℕ → Flat → RowEnd
-main_remembered bounds who flat = remembered (pattern_of bounds (text_of who flat) (main_of (sels_of who flat))) flat
+main_remembered bounds who flat = pattern_remembered (pattern_of bounds (text_of who flat) (main_of (sels_of who flat))) flat

@@ -41,10 +41,10 @@ more_spaced [] = []
 more_spaced (t ∷ ts) = 32 ∷ (t ++ more_spaced ts)
 
 -- texts one behind another, with a space between each two
-abbrev pub spaced : List (List ℕ) → List ℕ
-spaced [] = []
-spaced (t ∷ ts) = t ++ more_spaced ts
+abbrev pub spaced_texts : List (List ℕ) → List ℕ
+spaced_texts [] = []
+spaced_texts (t ∷ ts) = t ++ more_spaced ts
 
 -- strings as one text, joined by spaces
 abbrev pub joined_text : List (List ℕ) → List ℕ
-joined_text strings = spaced (map chars strings)
+joined_text strings = spaced_texts (map chars strings)

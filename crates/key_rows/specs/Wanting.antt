@@ -14,12 +14,12 @@ use Rattle.edit_ops.specs.Joining.{joins}
 use Rattle.edit_ops.specs.Aligning.{alignments}
 use Rattle.edit_ops.specs.Putting.{put_in_at}
 use Rattle.kak_world.specs.Flat.{Flat, text_of, tabstop_of, indentwidth_of, sels_of}
-use Rattle.kak_world.specs.Changing.{splice_changes_of, IsAfterSome}
+use Rattle.kak_world.specs.Changing.{splice_changes_of, IsAfterSomeChanges}
 use Rattle.kak_world.specs.Registers.{with_register}
 use Rattle.key_rows.specs.declared.edits.Edit.{Edit}
 use Rattle.key_rows.specs.declared.edits.Edit.TheVariants as edit
-use Rattle.key_rows.specs.declared.entries.Entry.{Entry}
-use Rattle.key_rows.specs.declared.entries.Entry.TheVariants as entry
+use Rattle.key_rows.specs.declared.entries.InsertEntry.{InsertEntry}
+use Rattle.key_rows.specs.declared.entries.InsertEntry.TheVariants as entry
 use Rattle.key_rows.specs.Reading.{used, own_strings, strings_read}
 use Rattle.key_rows.specs.Edits.{puts_of}
 use Rattle.key_rows.specs.Entering.{reaches_end}
@@ -27,7 +27,7 @@ use Rattle.key_rows.specs.Entering.{reaches_end}
 -- replacements that a client was to make in a world that is made ready came part of the way: nothing is done yet; the world is
 -- ready; or some of their single changes are made there, from the first on
 abbrev pub IsPartWay : List Splice → ℕ → Flat → Flat → Flat → Type 0
-IsPartWay splices who old ready new = (new ≡ old) ⊎ ((new ≡ ready) ⊎ IsAfterSome who (splice_changes_of splices who ready) ready new)
+IsPartWay splices who old ready new = (new ≡ old) ⊎ ((new ≡ ready) ⊎ IsAfterSomeChanges who (splice_changes_of splices who ready) ready new)
 
 -- the replacements by the strings of a register; none where there is no such one
 abbrev pub puts_read : Put → Option (List (List ℕ)) → ℕ → Flat → List Splice
@@ -64,12 +64,12 @@ IsPartOfEdit edit register who old new =
     let ready : Flat = ready_for edit register who old in IsPartWay (splices_of edit register who ready) who old ready new
 
 -- the world in which the edit is made that goes before insert mode
-abbrev pub ready_to_enter : Entry → Option ℕ → ℕ → Flat → Flat
+abbrev pub ready_to_enter : InsertEntry → Option ℕ → ℕ → Flat → Flat
 ready_to_enter entry.Cut register who flat = ready_for edit.Cut register who flat
 ready_to_enter _ register who flat = flat
 
 -- the replacements of that edit
-abbrev pub splices_before : Entry → ℕ → Flat → List Splice
+abbrev pub splices_before : InsertEntry → ℕ → Flat → List Splice
 splices_before entry.Behind who flat =
     if reaches_end (text_of who flat) (sels_of who flat).list then put_in_at (length (text_of who flat)) (10 ∷ []) ∷ [] else []
 splices_before entry.Cut who flat = erasures Selection (sels_of who flat).list
@@ -78,6 +78,6 @@ splices_before (entry.Open side) who flat = opens (text_of who flat) side (sels_
 splices_before _ who flat = []
 
 -- the way into insert mode was left part of the way, and the mode stayed
-abbrev pub IsPartOfEntry : Entry → Option ℕ → ℕ → Flat → Flat → Type 0
+abbrev pub IsPartOfEntry : InsertEntry → Option ℕ → ℕ → Flat → Flat → Type 0
 IsPartOfEntry entry register who old new =
     let ready : Flat = ready_to_enter entry register who old in IsPartWay (splices_before entry who ready) who old ready new

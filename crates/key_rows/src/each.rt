@@ -6,7 +6,7 @@ ghost use Rattle.list_model.specs.Ranges.{cursor};
 ghost use Rattle.list_model.specs.Settling.{each_settled};
 ghost use Rattle.selection_set.specs.Inside.{range_of, IsInside};
 ghost use Rattle.selection_set.specs.Listing.{AreInside, ranges_of};
-ghost use Rattle.window_view.specs.Views.{view_of as window_seen};
+ghost use Rattle.window_view.specs.Views.{window_seen};
 ghost use Rattle.kak_world.specs.Flat.{is_joined, sels_of};
 ghost use Rattle.selection_set.specs.Held.{selected, IsHeld};
 ghost use Rattle.motion_keys.specs.Words.{EndsAre};

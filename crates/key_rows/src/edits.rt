@@ -7,7 +7,7 @@ ghost use Rattle.kak_world.specs.Flat.{is_joined};
 ghost use Rattle.kak_world.specs.Rows.{Answers};
 ghost use Rattle.key_rows.specs.Handing.{AreAlignments, IsUnaligned};
 ghost use Rattle.key_rows.specs.Edits.{erase_row, open_row, rotate_row, indent_row, join_row, align_row, fill_row, cut_row, put_row, edit_done};
-ghost use Rattle.key_rows.specs.declared.entries.Entry.TheVariants.{Open};
+ghost use Rattle.key_rows.specs.declared.entries.InsertEntry.TheVariants.{Open};
 ghost use Rattle.key_rows.specs.Wanting.{IsPartOfPut, IsPartOfFill, IsPartOfEdit, IsPartOfEntry};
 
 use crate::leaving::edit_leaving;

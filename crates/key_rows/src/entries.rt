@@ -24,7 +24,7 @@ use std::alloc::{AllocError, Global};
 
 /// How insert mode is entered.
 #[derive(Clone, Copy, PartialEq, Eq, Debug)]
-pub enum Entry {
+pub enum InsertEntry {
     /// Before each selection.
     Before,
     /// Behind each selection; where one ends the text, a newline goes in there first.
@@ -73,8 +73,8 @@ fn newline_at_end(alloc: Global, lines: &Lines) -> Result<Splice, AllocError>
 fn make_room(alloc: Global, world: &mut World, who: u32) -> Result<(), EditError>
     requires { is_joined who world.old.flat ≡ true }
     ensures row { Answers result world.new.flat (room_row who world.old.flat) }
-    ensures made { OnOk result (IsPartOfEntry Entry.Behind None who world.old.flat world.new.flat) }
-    ensures wanting { IsErrOf result NoMemory → IsPartOfEntry Entry.Behind None who world.old.flat world.new.flat }
+    ensures made { OnOk result (IsPartOfEntry InsertEntry.Behind None who world.old.flat world.new.flat) }
+    ensures wanting { IsErrOf result NoMemory → IsPartOfEntry InsertEntry.Behind None who world.old.flat world.new.flat }
     ensures joined { OnOk result (is_joined who world.new.flat ≡ true) }
 {
     if !reaches_end(world.lines(who), world.sels(who).as_slice()) {
@@ -90,7 +90,7 @@ fn place(
     alloc: Global,
     world: &mut World,
     who: u32,
-    entry: Entry,
+    entry: InsertEntry,
     register: Option<char>,
 ) -> Result<(), EditError>
     requires { is_joined who world.old.flat ≡ true }
@@ -99,28 +99,28 @@ fn place(
     ensures few { length (sels_of who world.old.flat).list ≤ 4 → edits_first entry ≡ false → IsOk result }
 {
     match entry {
-        Entry::Before => change_each(alloc, world, who, Each::Reshaped(Shape::AtStart))?,
-        Entry::Behind => {
+        InsertEntry::Before => change_each(alloc, world, who, Each::Reshaped(Shape::AtStart))?,
+        InsertEntry::Behind => {
             make_room(alloc, world, who)?;
             change_each(alloc, world, who, Each::Reshaped(Shape::OneFurther))?
         }
-        Entry::FirstLine => change_each(alloc, world, who, Each::AtFirstLine)?,
-        Entry::LastNewline => {
+        InsertEntry::FirstLine => change_each(alloc, world, who, Each::AtFirstLine)?,
+        InsertEntry::LastNewline => {
             change_each(alloc, world, who, Each::Reshaped(Shape::LastNewline))?
         }
-        Entry::Cut => cut(alloc, world, who, register)?,
-        Entry::Erase => erase(alloc, world, who)?,
-        Entry::Open(side) => open(alloc, world, who, side)?,
+        InsertEntry::Cut => cut(alloc, world, who, register)?,
+        InsertEntry::Erase => erase(alloc, world, who)?,
+        InsertEntry::Open(side) => open(alloc, world, who, side)?,
     }
     Ok(())
 }
 
 // Whether leaving insert mode takes cursors back.
-fn appends(entry: Entry) -> bool
+fn appends(entry: InsertEntry) -> bool
     ensures { result ≡ appends entry }
 {
     match entry {
-        Entry::Behind => true,
+        InsertEntry::Behind => true,
         _ => false,
     }
 }
@@ -131,7 +131,7 @@ pub fn enter_insert(
     alloc: Global,
     world: &mut World,
     who: u32,
-    entry: Entry,
+    entry: InsertEntry,
     register: Option<char>,
 ) -> Result<(), EditError>
     requires { is_joined who world.old.flat ≡ true }

@@ -4,7 +4,7 @@
 ghost use Rattle.std.specs.Prelude.{◌≡◌, true, length, IsErrOf};
 ghost use Rattle.buffer_store.specs.Buffers.{AreSplicesOf, flat_splices, changes_of};
 ghost use Rattle.kak_world.specs.declared.ask.EditError.TheVariants.{NoMemory};
-ghost use Rattle.kak_world.specs.Changing.{IsAfterSome};
+ghost use Rattle.kak_world.specs.Changing.{IsAfterSomeChanges};
 ghost use Rattle.kak_world.specs.Flat.{is_joined, text_of, sels_of};
 ghost use Rattle.kak_world.specs.Rows.{Answers};
 ghost use Rattle.key_rows.specs.Edits.{leaving_row};
@@ -28,7 +28,7 @@ pub fn edit_leaving(
     requires splices { AreSplicesOf (text_of who world.old.flat) splices.now }
     requires one_each { length splices.now ≡ length (sels_of who world.old.flat).list }
     ensures row { Answers result world.new.flat (leaving_row (flat_splices (text_of who world.old.flat) splices.now) who world.old.flat) }
-    ensures wanting { IsErrOf result NoMemory → IsAfterSome who (changes_of (text_of who world.old.flat) splices.now) world.old.flat world.new.flat }
+    ensures wanting { IsErrOf result NoMemory → IsAfterSomeChanges who (changes_of (text_of who world.old.flat) splices.now) world.old.flat world.new.flat }
 {
     let main = world.sels(who).main();
     let last = world.lines(who).last_place();

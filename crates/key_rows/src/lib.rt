@@ -13,7 +13,7 @@ pub mod shapes;
 
 pub use each::{Each, Extent, change_each};
 pub use edits::{Edit, edit_texts, fill, put};
-pub use entries::{Entry, enter_insert};
+pub use entries::{InsertEntry, enter_insert};
 pub use leaving::edit_leaving;
 pub use naming::register_named;
 pub use patterns::{Bounds, ask_for_last, remember_main};

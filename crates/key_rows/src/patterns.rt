@@ -7,8 +7,8 @@ ghost use Rattle.text_model.specs.Texts.{IsPlace, offset};
 ghost use Rattle.selection_set.specs.Inside.{IsInside, range_of};
 ghost use Rattle.kak_world.specs.declared.ask.EditError.TheVariants.{NoMemory};
 ghost use Rattle.kak_world.specs.Flat.{is_joined};
-ghost use Rattle.kak_world.specs.Rows.{Answers, Gives};
-ghost use Rattle.key_rows.specs.Patterns.{last_string, last_pattern, asks_for_last, is_special, escaped_one, escaped, is_word_at, begins_word, ends_word, word_end, pattern_of, main_remembered};
+ghost use Rattle.kak_world.specs.Rows.{Answers, GivesRow};
+ghost use Rattle.key_rows.specs.Patterns.{last_string, last_pattern, asks_for_last, is_special, escaped_one, escaped_pattern, is_word_at, begins_word, ends_word, word_end, pattern_of, main_remembered};
 
 use crate::reading::string_of;
 use byte_texts::Words;
@@ -50,7 +50,7 @@ fn last_pattern(alloc: Global, world: &World) -> Result<Chars, AllocError>
 
 /// Asks for the pattern that was looked for last, and for a use of it. An `Err` says that memory ran out.
 pub fn ask_for_last(alloc: Global, world: &World, wanted: Use) -> Result<Ask, EditError>
-    ensures row { Gives result world.now.flat (asks_for_last wanted world.now.flat) }
+    ensures row { GivesRow result world.now.flat (asks_for_last wanted world.now.flat) }
     ensures memory { IfErr result (λ error. error ≡ NoMemory) }
 {
     Ok(Ask::Make(PatternUse {
@@ -98,7 +98,7 @@ fn push_one(pattern: &mut Chars, c: char) -> Result<(), AllocError>
 
 // The same for several characters.
 fn push_escaped(pattern: &mut Chars, chars: &[char]) -> Result<(), AllocError>
-    ensures { OnOk result (pattern.new ≡ pattern.old ++ escaped chars.now) }
+    ensures { OnOk result (pattern.new ≡ pattern.old ++ escaped_pattern chars.now) }
 {
     for c in chars {
         push_one(pattern, *c)?;

@@ -11,7 +11,7 @@ ghost use Rattle.kak_world.specs.Registers.{with_register};
 ghost use Rattle.kak_world.specs.Rows.{Answers};
 ghost use Rattle.key_rows.specs.Reading.{used, own_strings, numbers_from, strings_read, joined_text};
 ghost use Rattle.key_rows.specs.Edits.{puts_of, keep_row};
-ghost use Rattle.key_rows.specs.Handing.{ArePuts, IsTooMuch, IsRefused};
+ghost use Rattle.key_rows.specs.Handing.{ArePuts, IsTooMuch, AreStringsRefused};
 
 use buffer_store::Splice;
 use byte_texts::Words;
@@ -134,7 +134,7 @@ pub fn register_puts(
 ) -> Result<Vec<Splice>, EditError>
     requires { is_joined who world.now.flat ≡ true }
     ensures puts { IfOk result (λ splices. ArePuts how name who world.now.flat splices.items) }
-    ensures refused { IfErr result (λ error. IsRefused error how name who world.now.flat) }
+    ensures refused { IfErr result (λ error. AreStringsRefused error how name who world.now.flat) }
 {
     if let Some(words) = world.registers().get(name) {
         return strings_put(alloc, world, who, words, how);

@@ -18,7 +18,7 @@ use Rattle.window_view.specs.View.{View}
 use Rattle.kak_faces.specs.declared.face.Face.{Face}
 use Rattle.drawings.specs.declared.drawing.Atom.{Atom}
 use Rattle.line_painting.specs.declared.parts.Parts.{Parts}
-use Rattle.line_painting.specs.Atoms.{Shown, shown_in, with_all_shown}
+use Rattle.line_painting.specs.Atoms.{ShownChar, shown_in, with_all_shown}
 use Rattle.line_painting.specs.Cells.{right_of, char_drawn}
 use Rattle.line_painting.specs.Lines.{face_at, shown_from}
 use Rattle.line_painting.specs.Painting.{alone, painted, chars_drawn, EndsBefore, IsPart, AreParts, ArePartsOf, IsDrawnTo}
@@ -102,7 +102,7 @@ module _ (tabstop : ℕ) where
       let d : List ℕ = char_drawn view column (cells_of c column tabstop) c in
       ap₂ (λ f r. shown_in f d ++ r) here
       (one_face sels view (o + 1) next face cs (λ i l. let n : o + 1 + i ≡ o + suc i = omega arith in ap (λ k. face_at sels k (get_or cs i 0)) n ∙ h (suc i) (omega arith)))
-      ∙ sym (map-append (λ (x : ℕ). let s : Shown = record { char = x; face = face } in s) d (chars_drawn tabstop view next cs))
+      ∙ sym (map-append (λ (x : ℕ). let s : ShownChar = record { char = x; face = face } in s) d (chars_drawn tabstop view next cs))
 
   -- a line of which nothing is drawn yet
   pub drawn-none : (sels : Selected) (view : View) (o : ℕ) (line : List ℕ) (old : List Atom) → IsDrawnTo tabstop sels view o line old old 0 0
@@ -126,7 +126,7 @@ module _ (tabstop : ℕ) where
       at : ℕ
       at = display_column line a tabstop
 
-      front : List Shown
+      front : List ShownChar
       front = shown_from tabstop sels view o 0 (take a line)
 
       whole : take a line ++ chars ≡ take b line
@@ -158,7 +158,7 @@ module _ (tabstop : ℕ) where
   pub drawn-cut : (sels : Selected) (view : View) (o start : ℕ) (line cs : List ℕ) (old new : List Atom) (place column : ℕ) → IsDrawnTo tabstop sels view o line old new place column → right_of view ≤ column
       → o ≡ start → line ≡ cs → new ≡ with_all_shown old (shown_from tabstop sels view start 0 cs)
   drawn-cut sels view o start line cs old new place column p h e f =
-      let front : List Shown = shown_from tabstop sels view o 0 (take place line) in
+      let front : List ShownChar = shown_from tabstop sels view o 0 (take place line) in
       let right : right_of view ≤ display_column line place tabstop = omega (arith, p.column_is) in
       let rest : shown_from tabstop sels view (o + length (take place line)) (display_column line place tabstop) (drop place line) ≡ [] =
       shown_from-behind tabstop sels view (o + length (take place line)) (display_column line place tabstop) (drop place line) right in

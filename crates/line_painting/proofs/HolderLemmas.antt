@@ -14,10 +14,10 @@ use Rattle.kak_text.proofs.CellLemmas.{printable-width, display_column-more}
 use Rattle.window_view.specs.View.{View}
 use Rattle.window_view.specs.Holding.{HoldsCell}
 use Rattle.kak_faces.specs.declared.face.Face.{Face}
-use Rattle.line_painting.specs.Atoms.{Shown, shown_in}
+use Rattle.line_painting.specs.Atoms.{ShownChar, shown_in}
 use Rattle.line_painting.specs.Cells.{right_of, is_inside, cells_inside, whole_drawn, char_drawn}
 use Rattle.line_painting.specs.Lines.{face_at, shown_from}
-use Rattle.line_painting.specs.Laws.{chars_of, ShowsInCell, ShowsAtColumn, look_of, seen_as, seen_of, itself_of, is_mark, is_mark_inside}
+use Rattle.line_painting.specs.Laws.{shown_chars, ShowsInCell, ShowsAtColumn, look_of, seen_as, seen_of, itself_of, has_no_cells, is_mark_inside}
 use Rattle.line_painting.proofs.StretchLemmas.{column_behind-append}
 
 or_cases : (a b : Bool) → (a || b) ≡ true → (a ≡ true) ⊎ (b ≡ true)
@@ -91,12 +91,12 @@ drawn-no_mark view column w c e h =
     ap (λ t. if t then (if is_inside view column then c ∷ [] else []) else (if cells_inside view column w == w then whole_drawn c w else replicate (cells_inside view column w) 32)) (eq-eqb w 0 e)
     ∙ ap (λ a. if a then c ∷ [] else []) h
 
-chars-shown_in : (face : Face) (cs : List ℕ) → chars_of (shown_in face cs) ≡ cs
+chars-shown_in : (face : Face) (cs : List ℕ) → shown_chars (shown_in face cs) ≡ cs
 chars-shown_in face [] = refl
 chars-shown_in face (c ∷ cs) = ap (λ r. c ∷ r) (chars-shown_in face cs)
 
-chars-append : (a b : List Shown) → chars_of (a ++ b) ≡ chars_of a ++ chars_of b
-chars-append a b = map-append (λ (s : Shown). s.char) a b
+chars-append : (a b : List ShownChar) → shown_chars (a ++ b) ≡ shown_chars a ++ shown_chars b
+chars-append a b = map-append (λ (s : ShownChar). s.char) a b
 
 none_inside : (right left column : ℕ) → min (column + 0) right - max column left ≡ 0
 none_inside right left column = omega arith
@@ -125,7 +125,7 @@ seen-cut_right view begin behind c h =
     ap (λ a. if a then look_of c else 32) (and_false (leb view.left begin) (leb behind (right_of view)) (leb_false behind (right_of view) h))
 
 -- the n-th of some characters, the first of which begins at a column, where it has no cells
-abbrev mark_from : Selected → ℕ → List ℕ → ℕ → Shown
+abbrev mark_from : Selected → ℕ → List ℕ → ℕ → ShownChar
 mark_from sels o cs n = record { char = get_or cs n 0; face = face_at sels (o + n) (get_or cs n 0) }
 
 -- where the line begins
@@ -139,14 +139,14 @@ module _ (tabstop : ℕ) (some : 0 < tabstop) where
     begins : column_behind tabstop start (take n cs) ≤ cell
     ends : cell < column_behind tabstop start (take (suc n) cs)
 
-  record InCellFrom (start : ℕ) (shown : List Shown) (cell : ℕ) (s : Shown) : Type 0 where
+  record InCellFrom (start : ℕ) (shown : List ShownChar) (cell : ℕ) (s : ShownChar) : Type 0 where
     place : ℕ
-    holds : HoldsFrom start (chars_of shown) place cell
+    holds : HoldsFrom start (shown_chars shown) place cell
     is : slice_get shown place ≡ Some s
 
-  record AtColumnFrom (start : ℕ) (shown : List Shown) (column : ℕ) (s : Shown) : Type 0 where
+  record AtColumnFrom (start : ℕ) (shown : List ShownChar) (column : ℕ) (s : ShownChar) : Type 0 where
     place : ℕ
-    begins : column_behind tabstop start (take place (chars_of shown)) ≡ column
+    begins : column_behind tabstop start (take place (shown_chars shown)) ≡ column
     is : slice_get shown place ≡ Some s
 
   holds-down : (start c : ℕ) (cs : List ℕ) (n cell : ℕ) → HoldsFrom start (c ∷ cs) (suc n) cell → HoldsFrom (start + cells_of c start tabstop) cs n cell
@@ -156,22 +156,22 @@ module _ (tabstop : ℕ) (some : 0 < tabstop) where
   holds-up start c cs n cell h = record { inside = omega (arith, h.inside); begins = h.begins; ends = h.ends }
 
   -- what one more character before leaves
-  in_cell-up : (start : ℕ) (x : Shown) (shown : List Shown) (cell : ℕ) (s : Shown) → InCellFrom (start + cells_of x.char start tabstop) shown cell s → InCellFrom start (x ∷ shown) cell s
-  in_cell-up start x shown cell s f = record { place = suc f.place; holds = holds-up start x.char (chars_of shown) f.place cell f.holds; is = f.is }
+  in_cell-up : (start : ℕ) (x : ShownChar) (shown : List ShownChar) (cell : ℕ) (s : ShownChar) → InCellFrom (start + cells_of x.char start tabstop) shown cell s → InCellFrom start (x ∷ shown) cell s
+  in_cell-up start x shown cell s f = record { place = suc f.place; holds = holds-up start x.char (shown_chars shown) f.place cell f.holds; is = f.is }
 
-  at_column-up : (start : ℕ) (x : Shown) (shown : List Shown) (column : ℕ) (s : Shown) → AtColumnFrom (start + cells_of x.char start tabstop) shown column s → AtColumnFrom start (x ∷ shown) column s
+  at_column-up : (start : ℕ) (x : ShownChar) (shown : List ShownChar) (column : ℕ) (s : ShownChar) → AtColumnFrom (start + cells_of x.char start tabstop) shown column s → AtColumnFrom start (x ∷ shown) column s
   at_column-up start x shown column s f = record { place = suc f.place; begins = f.begins; is = f.is }
 
-  in_cell-behind : (start : ℕ) (a b : List Shown) (cell : ℕ) (s : Shown) → InCellFrom (column_behind tabstop start (chars_of a)) b cell s → InCellFrom start (a ++ b) cell s
+  in_cell-behind : (start : ℕ) (a b : List ShownChar) (cell : ℕ) (s : ShownChar) → InCellFrom (column_behind tabstop start (shown_chars a)) b cell s → InCellFrom start (a ++ b) cell s
   in_cell-behind start [] b cell s f = f
   in_cell-behind start (x ∷ a) b cell s f = in_cell-up start x (a ++ b) cell s (in_cell-behind (start + cells_of x.char start tabstop) a b cell s f)
 
-  at_column-behind : (start : ℕ) (a b : List Shown) (column : ℕ) (s : Shown) → AtColumnFrom (column_behind tabstop start (chars_of a)) b column s → AtColumnFrom start (a ++ b) column s
+  at_column-behind : (start : ℕ) (a b : List ShownChar) (column : ℕ) (s : ShownChar) → AtColumnFrom (column_behind tabstop start (shown_chars a)) b column s → AtColumnFrom start (a ++ b) column s
   at_column-behind start [] b column s f = f
   at_column-behind start (x ∷ a) b column s f = at_column-up start x (a ++ b) column s (at_column-behind (start + cells_of x.char start tabstop) a b column s f)
 
   -- the first character holds its cells
-  first-holds : (start w : ℕ) (x : Shown) (shown : List Shown) (cell : ℕ) → cells_of x.char start tabstop ≡ w → start ≤ cell → cell < start + w → InCellFrom start (x ∷ shown) cell x
+  first-holds : (start w : ℕ) (x : ShownChar) (shown : List ShownChar) (cell : ℕ) → cells_of x.char start tabstop ≡ w → start ≤ cell → cell < start + w → InCellFrom start (x ∷ shown) cell x
   first-holds start w x shown cell e h k = record { place = 0; holds = record { inside = omega arith; begins = h; ends = omega (arith, e, k) }; is = refl }
 
   -- a space has one cell
@@ -179,11 +179,11 @@ module _ (tabstop : ℕ) (some : 0 < tabstop) where
   space_cells column = printable-width 32 (omega arith) (omega arith)
 
   -- and so many spaces hold as many
-  spaces-hold : (start n : ℕ) (face : Face) (shown : List Shown) (cell : ℕ) → start ≤ cell → cell < start + n → InCellFrom start (shown_in face (replicate n 32) ++ shown) cell (record { char = 32; face = face })
+  spaces-hold : (start n : ℕ) (face : Face) (shown : List ShownChar) (cell : ℕ) → start ≤ cell → cell < start + n → InCellFrom start (shown_in face (replicate n 32) ++ shown) cell (record { char = 32; face = face })
   spaces-hold start zero face shown cell h k = absurd (omega arith)
   spaces-hold start (suc n) face shown cell h k =
-      let x : Shown = record { char = 32; face = face } in
-      let rest : List Shown = shown_in face (replicate n 32) ++ shown in
+      let x : ShownChar = record { char = 32; face = face } in
+      let rest : List ShownChar = shown_in face (replicate n 32) ++ shown in
       elim (cases_lt cell (start + 1)) [
         | inl lt ↦ first-holds start 1 x rest cell (space_cells start) h lt
         | inr ge ↦ in_cell-up start x rest cell x
@@ -274,7 +274,7 @@ module _ (tabstop : ℕ) (some : 0 < tabstop) where
       further a b c h = omega (arith, h)
 
   line-width : (sels : Selected) (view : View) (o column at : ℕ) (cs : List ℕ)
-      → column_behind tabstop at (chars_of (shown_from tabstop sels view o column cs)) ≡ at + (min (column_behind tabstop column cs) (right_of view) - max column view.left)
+      → column_behind tabstop at (shown_chars (shown_from tabstop sels view o column cs)) ≡ at + (min (column_behind tabstop column cs) (right_of view) - max column view.left)
   line-width sels view o column at [] = nothing at column (right_of view) view.left
     where
       nothing : (at column right left : ℕ) → at ≡ at + (min column right - max column left)
@@ -282,16 +282,16 @@ module _ (tabstop : ℕ) (some : 0 < tabstop) where
   line-width sels view o column at (c ∷ cs) =
       let w : ℕ = cells_of c column tabstop in
       let d : List ℕ = char_drawn view column w c in
-      let rest : List Shown = shown_from tabstop sels view (o + 1) (column + w) cs in
+      let rest : List ShownChar = shown_from tabstop sels view (o + 1) (column + w) cs in
       let e : column_behind tabstop at d ≡ at + cells_inside view column w = drawn-width view column at w c refl in
-      ap (column_behind tabstop at) (chars-append (shown_in (face_at sels o c) d) rest ∙ ap (λ x. x ++ chars_of rest) (chars-shown_in (face_at sels o c) d))
-      ∙ column_behind-append tabstop at d (chars_of rest)
-      ∙ ap (λ n. column_behind tabstop n (chars_of rest)) e
+      ap (column_behind tabstop at) (chars-append (shown_in (face_at sels o c) d) rest ∙ ap (λ x. x ++ shown_chars rest) (chars-shown_in (face_at sels o c) d))
+      ∙ column_behind-append tabstop at d (shown_chars rest)
+      ∙ ap (λ n. column_behind tabstop n (shown_chars rest)) e
       ∙ line-width sels view (o + 1) (column + w) (at + cells_inside view column w) cs
       ∙ fits at column w (right_of view) view.left (column_behind tabstop (column + w) cs) (behind-le (column + w) cs)
 
   behind_first : (view : View) (column at w c : ℕ) (face : Face) → cells_of c column tabstop ≡ w → at ≡ max column view.left - view.left → column + w ≤ right_of view
-      → column_behind tabstop at (chars_of (shown_in face (char_drawn view column w c))) ≡ max (column + w) view.left - view.left
+      → column_behind tabstop at (shown_chars (shown_in face (char_drawn view column w c))) ≡ max (column + w) view.left - view.left
   behind_first view column at w c face k e h =
       ap (column_behind tabstop at) (chars-shown_in face (char_drawn view column w c))
       ∙ drawn-width view column at w c k ∙ next-at at column w (right_of view) view.left e h
@@ -305,7 +305,7 @@ module _ (tabstop : ℕ) (some : 0 < tabstop) where
     left : view.left ≤ cell
     right : cell < right_of view
 
-  shows-whole : (view : View) (column at w c cell : ℕ) (face : Face) (rest : List Shown) → IsHeld view column at w c cell → view.left ≤ column → column + w ≤ right_of view
+  shows-whole : (view : View) (column at w c cell : ℕ) (face : Face) (rest : List ShownChar) → IsHeld view column at w c cell → view.left ≤ column → column + w ≤ right_of view
       → InCellFrom at (shown_in face (char_drawn view column w c) ++ rest) (cell - view.left) (record { char = look_of c; face = face })
   shows-whole view column at w c cell face rest h l r =
       let P : List ℕ → Type 0 = λ d. InCellFrom at (shown_in face d ++ rest) (cell - view.left) (record { char = look_of c; face = face }) in
@@ -325,7 +325,7 @@ module _ (tabstop : ℕ) (some : 0 < tabstop) where
       all_inside : (right left column w : ℕ) → left ≤ column → column + w ≤ right → min (column + w) right - max column left ≡ w
       all_inside right left column w l r = omega (arith, l, r)
 
-  shows-cut : (view : View) (column at w c cell : ℕ) (face : Face) (rest : List Shown) → IsHeld view column at w c cell → (cells_inside view column w ≡ w → ⊥)
+  shows-cut : (view : View) (column at w c cell : ℕ) (face : Face) (rest : List ShownChar) → IsHeld view column at w c cell → (cells_inside view column w ≡ w → ⊥)
       → InCellFrom at (shown_in face (char_drawn view column w c) ++ rest) (cell - view.left) (record { char = 32; face = face })
   shows-cut view column at w c cell face rest h cut =
       let P : List ℕ → Type 0 = λ d. InCellFrom at (shown_in face d ++ rest) (cell - view.left) (record { char = 32; face = face }) in
@@ -339,7 +339,7 @@ module _ (tabstop : ℕ) (some : 0 < tabstop) where
       high : (at column left cell w right : ℕ) → at ≡ max column left - left → cell < column + w → left ≤ cell → cell < right → cell - left < at + (min (column + w) right - max column left)
       high at column left cell w right e h k r = omega (arith, e, h, k, r)
 
-  shows-first : (view : View) (column at w c cell : ℕ) (face : Face) (rest : List Shown) → IsHeld view column at w c cell
+  shows-first : (view : View) (column at w c cell : ℕ) (face : Face) (rest : List ShownChar) → IsHeld view column at w c cell
       → InCellFrom at (shown_in face (char_drawn view column w c) ++ rest) (cell - view.left) (record { char = seen_as view column (column + w) c; face = face })
   shows-first view column at w c cell face rest h =
       let P : ℕ → Type 0 = λ x. InCellFrom at (shown_in face (char_drawn view column w c) ++ rest) (cell - view.left) (record { char = x; face = face }) in
@@ -358,7 +358,7 @@ module _ (tabstop : ℕ) (some : 0 < tabstop) where
       cut_right right left column w l h s k = omega (arith, l, h, s, k)
 
   -- the n-th of some characters, the first of which begins at a column, as a window shows it
-  abbrev seen_from : Selected → View → ℕ → ℕ → List ℕ → ℕ → Shown
+  abbrev seen_from : Selected → View → ℕ → ℕ → List ℕ → ℕ → ShownChar
   seen_from sels view o column cs n = record {
     char = seen_as view (column_behind tabstop column (take n cs)) (column_behind tabstop column (take (suc n) cs)) (get_or cs n 0);
     face = face_at sels (o + n) (get_or cs n 0);
@@ -375,8 +375,8 @@ module _ (tabstop : ℕ) (some : 0 < tabstop) where
       (shows-first view column at w c cell (face_at sels o c) (shown_from tabstop sels view (o + 1) (column + w) cs) (record { cells = refl; begins = e; from = h.begins; to = h.ends; left = l; right = r }))
   shown-in_cells sels view o column at (c ∷ cs) (suc m) cell e h l r =
       let w : ℕ = cells_of c column tabstop in
-      let first : List Shown = shown_in (face_at sels o c) (char_drawn view column w c) in
-      let rest : List Shown = shown_from tabstop sels view (o + 1) (column + w) cs in
+      let first : List ShownChar = shown_in (face_at sels o c) (char_drawn view column w c) in
+      let rest : List ShownChar = shown_from tabstop sels view (o + 1) (column + w) cs in
       let down : HoldsFrom (column + w) cs m cell = holds-down column c cs m cell h in
       let before : column + w ≤ right_of view = omega (arith, behind-le (column + w) (take m cs), down.begins, r) in
       let f : (o + 1) + m ≡ o + suc m = omega arith in
@@ -384,7 +384,7 @@ module _ (tabstop : ℕ) (some : 0 < tabstop) where
       (record { char = seen_as view (column_behind tabstop (column + w) (take m cs)) (column_behind tabstop (column + w) (take (suc m) cs)) (get_or cs m 0); face = face_at sels k (get_or cs m 0) }) in
       subst P f
       (in_cell-behind at first rest (cell - view.left) (seen_from sels view (o + 1) (column + w) cs m)
-      (shown-in_cells sels view (o + 1) (column + w) (column_behind tabstop at (chars_of first)) cs m cell (behind_first view column at w c (face_at sels o c) refl e before) down l r))
+      (shown-in_cells sels view (o + 1) (column + w) (column_behind tabstop at (shown_chars first)) cs m cell (behind_first view column at w c (face_at sels o c) refl e before) down l r))
 
   shown-marks : (sels : Selected) (view : View) (o column at : ℕ) (cs : List ℕ) (n begin : ℕ) → at ≡ max column view.left - view.left → n < length cs → begin ≡ column_behind tabstop column (take n cs)
       → column_behind tabstop column (take (suc n) cs) ≡ begin → view.left ≤ begin → begin < right_of view → AtColumnFrom at (shown_from tabstop sels view o column cs) (begin - view.left) (mark_from sels o cs n)
@@ -393,7 +393,7 @@ module _ (tabstop : ℕ) (some : 0 < tabstop) where
       let w : ℕ = cells_of c column tabstop in
       let none : w ≡ 0 = omega (arith, z, b) in
       let n : o + 0 ≡ o = omega arith in
-      let rest : List Shown = shown_from tabstop sels view (o + 1) (column + w) cs in
+      let rest : List ShownChar = shown_from tabstop sels view (o + 1) (column + w) cs in
       let P : ℕ → Type 0 = λ k. AtColumnFrom at (shown_from tabstop sels view o column (c ∷ cs)) (begin - view.left) (record { char = c; face = face_at sels k c }) in
       let Q : List ℕ → Type 0 = λ d. AtColumnFrom at (shown_in (face_at sels o c) d ++ rest) (begin - view.left) (record { char = c; face = face_at sels o c }) in
       subst P (sym n)
@@ -401,22 +401,22 @@ module _ (tabstop : ℕ) (some : 0 < tabstop) where
       (record { place = 0; begins = omega (arith, e, b, l); is = refl }))
   shown-marks sels view o column at (c ∷ cs) (suc m) begin e h b z l r =
       let w : ℕ = cells_of c column tabstop in
-      let first : List Shown = shown_in (face_at sels o c) (char_drawn view column w c) in
-      let rest : List Shown = shown_from tabstop sels view (o + 1) (column + w) cs in
+      let first : List ShownChar = shown_in (face_at sels o c) (char_drawn view column w c) in
+      let rest : List ShownChar = shown_from tabstop sels view (o + 1) (column + w) cs in
       let before : column + w ≤ right_of view = omega (arith, behind-le (column + w) (take m cs), b, r) in
       let f : (o + 1) + m ≡ o + suc m = omega arith in
       let P : ℕ → Type 0 = λ k. AtColumnFrom at (first ++ rest) (begin - view.left) (record { char = get_or cs m 0; face = face_at sels k (get_or cs m 0) }) in
       subst P f
       (at_column-behind at first rest (begin - view.left) (mark_from sels (o + 1) cs m)
-      (shown-marks sels view (o + 1) (column + w) (column_behind tabstop at (chars_of first)) cs m begin (behind_first view column at w c (face_at sels o c) refl e before) (omega (arith, h)) b z l r))
+      (shown-marks sels view (o + 1) (column + w) (column_behind tabstop at (shown_chars first)) cs m begin (behind_first view column at w c (face_at sels o c) refl e before) (omega (arith, h)) b z l r))
 
-  from_start : (shown : List Shown) (cell : ℕ) (s : Shown) → InCellFrom 0 shown cell s → ShowsInCell tabstop shown cell s
+  from_start : (shown : List ShownChar) (cell : ℕ) (s : ShownChar) → InCellFrom 0 shown cell s → ShowsInCell tabstop shown cell s
   from_start shown cell s f = record {
     place = f.place;
     holds = record {
       inside = f.holds.inside;
       begins = f.holds.begins;
-      ends = subst (λ k. cell < column_behind tabstop 0 (take k (chars_of shown))) (sym (add-one f.place)) f.holds.ends;
+      ends = subst (λ k. cell < column_behind tabstop 0 (take k (shown_chars shown))) (sym (add-one f.place)) f.holds.ends;
     };
     is = f.is;
   }
@@ -435,7 +435,7 @@ module _ (tabstop : ℕ) (some : 0 < tabstop) where
   pub mark : (sels : Selected) (view : View) (o : ℕ) (line : List ℕ) (n : ℕ) → n < length line → is_mark_inside tabstop view line n ≡ true
       → ShowsAtColumn tabstop (shown_from tabstop sels view o 0 line) (display_column line n tabstop - view.left) (itself_of sels o line n)
   mark sels view o line n h t =
-      let p = and_parts (is_mark tabstop (get_or line n 0)) (is_inside view (display_column line n tabstop)) t in
+      let p = and_parts (has_no_cells tabstop (get_or line n 0)) (is_inside view (display_column line n tabstop)) t in
       let q = and_parts (leb view.left (display_column line n tabstop)) (ltb (display_column line n tabstop) (right_of view)) p.1 in
       let l : view.left ≤ display_column line n tabstop = leb-true view.left (display_column line n tabstop) q.0 in
       let r : display_column line n tabstop < right_of view = ltb-true (display_column line n tabstop) (right_of view) q.1 in
@@ -447,7 +447,7 @@ module _ (tabstop : ℕ) (some : 0 < tabstop) where
       shown-marks sels view o 0 0 line n (display_column line n tabstop) (start view.left) h refl none l r in
       record { place = f.place; begins = f.begins; is = f.is }
 
-  pub width : (sels : Selected) (view : View) (o : ℕ) (line : List ℕ) → column_behind tabstop 0 (chars_of (shown_from tabstop sels view o 0 line)) ≡ cells_inside view 0 (column_behind tabstop 0 line)
+  pub width : (sels : Selected) (view : View) (o : ℕ) (line : List ℕ) → column_behind tabstop 0 (shown_chars (shown_from tabstop sels view o 0 line)) ≡ cells_inside view 0 (column_behind tabstop 0 line)
   width sels view o line =
       let e : 0 + (min (column_behind tabstop 0 line) (right_of view) - max 0 view.left) ≡ cells_inside view 0 (column_behind tabstop 0 line) = same (column_behind tabstop 0 line) (right_of view) view.left in
       line-width sels view o 0 0 line ∙ e

@@ -9,7 +9,7 @@ use Rattle.kak_faces.specs.declared.colour.Attributes.{Attributes}
 use Rattle.kak_faces.specs.declared.face.Face.{Face}
 use Rattle.kak_faces.specs.Same.{palette_place, same_colour, same_word, same_attributes, same_face}
 use Rattle.drawings.specs.declared.drawing.Atom.{Atom}
-use Rattle.line_painting.specs.Atoms.{Shown, shown_in, atom_of, longer, with_shown, with_all_shown, atoms_of}
+use Rattle.line_painting.specs.Atoms.{ShownChar, shown_in, atom_of, atom_longer, with_shown, with_all_shown, atoms_of}
 use Rattle.line_painting.specs.Laws.{spelled, AreRuns}
 
 and_left : (a b : Bool) → (a && b) ≡ true → a ≡ true
@@ -119,47 +119,47 @@ equal_faces a b h =
     ) refl
 
 -- one more character keeps the runs
-runs-one : (a : Atom) (s : Shown) (t : Bool) → same_face a.face s.face ≡ t → 0 < length a.contents → AreRuns (cond t (longer a s.char ∷ []) (a ∷ atom_of s ∷ []))
+runs-one : (a : Atom) (s : ShownChar) (t : Bool) → same_face a.face s.face ≡ t → 0 < length a.contents → AreRuns (cond t (atom_longer a s.char ∷ []) (a ∷ atom_of s ∷ []))
 runs-one a s true e h = omega (arith, length-append a.contents (s.char ∷ []))
 runs-one a s false e h = (h, e, omega arith)
 
-runs-two : (a b : Atom) (s : Shown) (t : Bool) → same_face b.face s.face ≡ t → AreRuns (a ∷ b ∷ []) → AreRuns (a ∷ cond t (longer b s.char ∷ []) (b ∷ atom_of s ∷ []))
+runs-two : (a b : Atom) (s : ShownChar) (t : Bool) → same_face b.face s.face ≡ t → AreRuns (a ∷ b ∷ []) → AreRuns (a ∷ cond t (atom_longer b s.char ∷ []) (b ∷ atom_of s ∷ []))
 runs-two a b s true e h = (h.0, h.1, runs-one b s true e h.2)
 runs-two a b s false e h = (h.0, h.1, runs-one b s false e h.2)
 
-runs-more : (atoms : List Atom) (s : Shown) → AreRuns atoms → AreRuns (with_shown atoms s)
+runs-more : (atoms : List Atom) (s : ShownChar) → AreRuns atoms → AreRuns (with_shown atoms s)
 runs-more [] s h = omega arith
 runs-more (a ∷ []) s h = runs-one a s (same_face a.face s.face) refl h
 runs-more (a ∷ b ∷ []) s h = runs-two a b s (same_face b.face s.face) refl h
 runs-more (a ∷ b ∷ x ∷ atoms) s h = (h.0, h.1, runs-more (b ∷ x ∷ atoms) s h.2)
 
-runs-all : (atoms : List Atom) (shown : List Shown) → AreRuns atoms → AreRuns (with_all_shown atoms shown)
+runs-all : (atoms : List Atom) (shown : List ShownChar) → AreRuns atoms → AreRuns (with_all_shown atoms shown)
 runs-all atoms [] h = h
 runs-all atoms (s ∷ shown) h = runs-all (with_shown atoms s) shown (runs-more atoms s h)
 
 -- atoms are maximal runs
-pub atoms_of-runs : (shown : List Shown) → AreRuns (atoms_of shown)
+pub atoms_of-runs : (shown : List ShownChar) → AreRuns (atoms_of shown)
 atoms_of-runs shown = runs-all [] shown tt
 
 -- one more character is spelled behind the others
-spelled-one : (a : Atom) (s : Shown) (t : Bool) → same_face a.face s.face ≡ t → spelled (cond t (longer a s.char ∷ []) (a ∷ atom_of s ∷ [])) ≡ spelled (a ∷ []) ++ s ∷ []
+spelled-one : (a : Atom) (s : ShownChar) (t : Bool) → same_face a.face s.face ≡ t → spelled (cond t (atom_longer a s.char ∷ []) (a ∷ atom_of s ∷ [])) ≡ spelled (a ∷ []) ++ s ∷ []
 spelled-one a s true e =
-    ap (λ (r : List Shown). r ++ []) (map-append (λ (c : ℕ). let x : Shown = record { char = c; face = a.face } in x) a.contents (s.char ∷ []))
+    ap (λ (r : List ShownChar). r ++ []) (map-append (λ (c : ℕ). let x : ShownChar = record { char = c; face = a.face } in x) a.contents (s.char ∷ []))
     ∙ append-nil (shown_in a.face a.contents ++ record { char = s.char; face = a.face } ∷ [])
-    ∙ ap₂ (λ (r : List Shown) (f : Face). r ++ record { char = s.char; face = f } ∷ []) (sym (append-nil (shown_in a.face a.contents))) (equal_faces a.face s.face e)
-spelled-one a s false e = ap (λ (r : List Shown). r ++ s ∷ []) (sym (append-nil (shown_in a.face a.contents)))
+    ∙ ap₂ (λ (r : List ShownChar) (f : Face). r ++ record { char = s.char; face = f } ∷ []) (sym (append-nil (shown_in a.face a.contents))) (equal_faces a.face s.face e)
+spelled-one a s false e = ap (λ (r : List ShownChar). r ++ s ∷ []) (sym (append-nil (shown_in a.face a.contents)))
 
-spelled-more : (atoms : List Atom) (s : Shown) → spelled (with_shown atoms s) ≡ spelled atoms ++ s ∷ []
+spelled-more : (atoms : List Atom) (s : ShownChar) → spelled (with_shown atoms s) ≡ spelled atoms ++ s ∷ []
 spelled-more [] s = refl
 spelled-more (a ∷ []) s = spelled-one a s (same_face a.face s.face) refl
 spelled-more (a ∷ b ∷ atoms) s =
     ap (λ r. shown_in a.face a.contents ++ r) (spelled-more (b ∷ atoms) s) ∙ sym (append_assoc (shown_in a.face a.contents) (spelled (b ∷ atoms)) (s ∷ []))
 
-spelled-all : (atoms : List Atom) (shown : List Shown) → spelled (with_all_shown atoms shown) ≡ spelled atoms ++ shown
+spelled-all : (atoms : List Atom) (shown : List ShownChar) → spelled (with_all_shown atoms shown) ≡ spelled atoms ++ shown
 spelled-all atoms [] = sym (append-nil (spelled atoms))
 spelled-all atoms (s ∷ shown) =
     spelled-all (with_shown atoms s) shown ∙ ap (λ r. r ++ shown) (spelled-more atoms s) ∙ append_assoc (spelled atoms) (s ∷ []) shown
 
 -- atoms spell the characters that they were made of
-pub spelled-atoms_of : (shown : List Shown) → spelled (atoms_of shown) ≡ shown
+pub spelled-atoms_of : (shown : List ShownChar) → spelled (atoms_of shown) ≡ shown
 spelled-atoms_of shown = spelled-all [] shown

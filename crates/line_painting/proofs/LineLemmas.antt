@@ -3,7 +3,7 @@ use Rattle.std.proofs.Common.{◌≡◌, ℕ, ◌+◌, ◌≤◌, List, [], ◌�
 use Rattle.list_model.specs.Ranges.{Selected}
 use Rattle.kak_text.specs.Cells.{cells_of, column_behind}
 use Rattle.window_view.specs.View.{View}
-use Rattle.line_painting.specs.Atoms.{Shown, shown_in}
+use Rattle.line_painting.specs.Atoms.{ShownChar, shown_in}
 use Rattle.line_painting.specs.Cells.{right_of, char_drawn}
 use Rattle.line_painting.specs.Lines.{face_at, shown_from}
 use Rattle.line_painting.proofs.CellLemmas.{drawn-behind}
@@ -19,7 +19,7 @@ module _ (tabstop : ℕ) where
   shown_from-append sels view o column (c ∷ a) b =
       let e : o + 1 + length a ≡ o + length (c ∷ a) = omega arith in
       let next : ℕ = column + cells_of c column tabstop in
-      let first : List Shown = shown_in (face_at sels o c) (char_drawn view column (cells_of c column tabstop) c) in
+      let first : List ShownChar = shown_in (face_at sels o c) (char_drawn view column (cells_of c column tabstop) c) in
       ap (λ r. first ++ r) (shown_from-append sels view (o + 1) next a b)
       ∙ sym (append_assoc first (shown_from tabstop sels view (o + 1) next a) (shown_from tabstop sels view (o + 1 + length a) (column_behind tabstop next a) b))
       ∙ ap (λ k. (first ++ shown_from tabstop sels view (o + 1) next a) ++ shown_from tabstop sels view k (column_behind tabstop next a) b) e

@@ -9,15 +9,15 @@ use Rattle.list_model.specs.Ranges.{Selected}
 use Rattle.kak_text.specs.Cells.{cells_of, display_column}
 use Rattle.window_view.specs.View.{View}
 use Rattle.kak_faces.specs.declared.face.Face.{Face}
-use Rattle.line_painting.specs.Atoms.{Shown, shown_in}
+use Rattle.line_painting.specs.Atoms.{ShownChar, shown_in}
 use Rattle.line_painting.specs.Cells.{is_inside, cells_inside, whole_drawn, char_drawn}
 use Rattle.line_painting.specs.Lines.{face_at, shown_from}
-use Rattle.line_painting.specs.Laws.{look_of, itself_of, is_mark, is_mark_inside, WindowsShowCells}
+use Rattle.line_painting.specs.Laws.{look_of, itself_of, has_no_cells, is_mark_inside, WindowsShowCells}
 use Rattle.line_painting.proofs.LineLemmas.{shown_from-append}
 use Rattle.line_painting.proofs.HolderLemmas.{mark-cells, cells-tab, cells-other, look-cells, space_cells, whole-tab, whole-other, drawn-some, holder, mark, width}
 
 -- the marks of what is drawn of a character: itself, where it is one and begins inside
-abbrev kept : Bool → Bool → Shown → List Shown
+abbrev kept : Bool → Bool → ShownChar → List ShownChar
 kept a b s = if a && b then s ∷ [] else []
 
 -- numbers up to one more
@@ -28,8 +28,8 @@ range-more a (suc n) =
     ap (λ r. a ∷ r) (range-more (a + 1) n ∙ ap (λ x. range_with_len (a + 1) n ++ x ∷ []) e)
 
 module _ (tabstop : ℕ) (some : 0 < tabstop) where
-  abbrev shows_mark : Shown → Bool
-  shows_mark s = is_mark tabstop s.char
+  abbrev shows_mark : ShownChar → Bool
+  shows_mark s = has_no_cells tabstop s.char
 
   -- a character with cells has some wherever it begins, and one without has none
   some_cells : (c column at : ℕ) → 0 < cells_of c column tabstop → 0 < cells_of c at tabstop
@@ -39,14 +39,14 @@ module _ (tabstop : ℕ) (some : 0 < tabstop) where
         | inr t ↦ omega (arith, cells-other tabstop some c at t, cells-other tabstop some c column t, h)
       ]
 
-  no_mark : (c column : ℕ) → 0 < cells_of c column tabstop → is_mark tabstop c ≡ false
+  no_mark : (c column : ℕ) → 0 < cells_of c column tabstop → has_no_cells tabstop c ≡ false
   no_mark c column h = ne_eqb (cells_of c 0 tabstop) 0 (λ e. omega (arith, e, some_cells c column 0 h))
 
-  a_mark : (c column : ℕ) → cells_of c column tabstop ≡ 0 → is_mark tabstop c ≡ true
+  a_mark : (c column : ℕ) → cells_of c column tabstop ≡ 0 → has_no_cells tabstop c ≡ true
   a_mark c column e = eq-eqb (cells_of c 0 tabstop) 0 (mark-cells tabstop some c column 0 e)
 
   -- what is drawn of a character with cells has no marks
-  not_kept : (s : Shown) (rest : List Shown) → is_mark tabstop s.char ≡ false → filter shows_mark (s ∷ rest) ≡ filter shows_mark rest
+  not_kept : (s : ShownChar) (rest : List ShownChar) → has_no_cells tabstop s.char ≡ false → filter shows_mark (s ∷ rest) ≡ filter shows_mark rest
   not_kept s rest e = ap (λ t. if t then s ∷ filter shows_mark rest else filter shows_mark rest) e
 
   spaces-unmarked : (face : Face) (n : ℕ) → filter shows_mark (shown_in face (replicate n 32)) ≡ []
@@ -75,25 +75,25 @@ module _ (tabstop : ℕ) (some : 0 < tabstop) where
       choose false a b p q = q
 
   drawn-marks : (face : Face) (view : View) (column w c : ℕ) → cells_of c column tabstop ≡ w
-      → filter shows_mark (shown_in face (char_drawn view column w c)) ≡ kept (is_mark tabstop c) (is_inside view column) (record { char = c; face = face })
+      → filter shows_mark (shown_in face (char_drawn view column w c)) ≡ kept (has_no_cells tabstop c) (is_inside view column) (record { char = c; face = face })
   drawn-marks face view column zero c e =
-      let s : Shown = record { char = c; face = face } in
+      let s : ShownChar = record { char = c; face = face } in
       inside (is_inside view column) ∙ ap (λ t. kept t (is_inside view column) s) (sym (a_mark c column e))
     where
       inside : (b : Bool) → filter shows_mark (shown_in face (if b then c ∷ [] else [])) ≡ kept true b (record { char = c; face = face })
-      inside true = ap (λ t. if t then (let s : Shown = record { char = c; face = face } in s) ∷ [] else []) (a_mark c column e)
+      inside true = ap (λ t. if t then (let s : ShownChar = record { char = c; face = face } in s) ∷ [] else []) (a_mark c column e)
       inside false = refl
   drawn-marks face view column (suc w) c e =
-      let s : Shown = record { char = c; face = face } in
+      let s : ShownChar = record { char = c; face = face } in
       drawn-unmarked face view column (suc w) c e (omega arith)
       ∙ ap (λ t. kept t (is_inside view column) s) (sym (no_mark c column (omega (arith, e))))
 
   -- the marks that a window shows of the first characters of a line
-  abbrev marks_to : Selected → View → ℕ → List ℕ → ℕ → List Shown
+  abbrev marks_to : Selected → View → ℕ → List ℕ → ℕ → List ShownChar
   marks_to sels view o line k = map (itself_of sels o line) (filter (is_mark_inside tabstop view line) (range_with_len 0 k))
 
   one-more : (sels : Selected) (view : View) (o : ℕ) (line : List ℕ) (k : ℕ)
-      → marks_to sels view o line (suc k) ≡ marks_to sels view o line k ++ kept (is_mark tabstop (get_or line k 0)) (is_inside view (display_column line k tabstop)) (itself_of sels o line k)
+      → marks_to sels view o line (suc k) ≡ marks_to sels view o line k ++ kept (has_no_cells tabstop (get_or line k 0)) (is_inside view (display_column line k tabstop)) (itself_of sels o line k)
   one-more sels view o line k =
       let e : 0 + k ≡ k = omega arith in
       ap (λ r. map (itself_of sels o line) (filter (is_mark_inside tabstop view line) r)) (range-more 0 k ∙ ap (λ x. range_with_len 0 k ++ x ∷ []) e)
@@ -111,7 +111,7 @@ module _ (tabstop : ℕ) (some : 0 < tabstop) where
       let c : ℕ = get_or line k 0 in
       let column : ℕ = display_column line k tabstop in
       let drawn : List ℕ = char_drawn view column (cells_of c column tabstop) c in
-      let front : List Shown = shown_from tabstop sels view o 0 (take k line) in
+      let front : List ShownChar = shown_from tabstop sels view o 0 (take k line) in
       let size : length (take k line) ≡ k = omega (arith, length-take k line, h) in
       ap (λ t. filter shows_mark (shown_from tabstop sels view o 0 t)) (ap (λ j. take j line) (sym (add-one k)) ∙ take_more line k 0 (omega (arith, h)))
       ∙ ap (filter shows_mark) (shown_from-append tabstop sels view o 0 (take k line) (c ∷ []))

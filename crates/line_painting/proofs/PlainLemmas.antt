@@ -9,10 +9,10 @@ use Rattle.unicode_width.specs.Width.{char_width}
 use Rattle.kak_text.specs.Cells.{cells_of, width_of}
 use Rattle.kak_text.proofs.CellLemmas.{printable-width}
 use Rattle.window_view.specs.View.{View, text_columns}
-use Rattle.line_painting.specs.Atoms.{Shown, shown_in}
+use Rattle.line_painting.specs.Atoms.{ShownChar, shown_in}
 use Rattle.line_painting.specs.Cells.{right_of, cells_inside, whole_drawn, char_drawn}
 use Rattle.line_painting.specs.Lines.{face_at, shown_from}
-use Rattle.line_painting.specs.Laws.{IsPlain, faced_from, PlainLinesAreCut, AsciiIsPlain}
+use Rattle.line_painting.specs.Laws.{IsPlainChar, faced_from, PlainLinesAreCut, AsciiIsPlain}
 use Rattle.line_painting.proofs.LineLemmas.{shown_from-behind}
 
 plain-before : (view : View) (column c : ℕ) → column < view.left → char_drawn view column 1 c ≡ []
@@ -25,7 +25,7 @@ plain-within view column c h k itself =
     let z : cells_inside view column 1 ≡ 1 = omega arith in
     ap (λ n. if n == 1 then whole_drawn c 1 else replicate n 32) z ∙ itself
 
-nothing_left : (n m : ℕ) (none : List Shown) → none ≡ [] → take n (drop m none) ≡ []
+nothing_left : (n m : ℕ) (none : List ShownChar) → none ≡ [] → take n (drop m none) ≡ []
 nothing_left zero m none e = refl
 nothing_left (suc n) zero none e = ap (take (suc n)) e
 nothing_left (suc n) (suc m) none e = ap (λ l. take (suc n) (drop (suc m) l)) e
@@ -40,12 +40,12 @@ printable_itself c h k =
     rw (tab, newline, zero, low, high) refl
 
 module _ (tabstop : ℕ) where
-  plain-from : (sels : Selected) (view : View) (o column : ℕ) (line : List ℕ) → AllByRecursion IsPlain line
+  plain-from : (sels : Selected) (view : View) (o column : ℕ) (line : List ℕ) → AllByRecursion IsPlainChar line
       → shown_from tabstop sels view o column line ≡ take (right_of view - max column view.left) (drop (view.left - column) (faced_from sels o line))
   plain-from sels view o column [] h = sym (nothing_left (right_of view - max column view.left) (view.left - column) [] refl)
   plain-from sels view o column (c ∷ cs) h =
-      let f : Shown = record { char = c; face = face_at sels o c } in
-      let fs : List Shown = faced_from sels (o + 1) cs in
+      let f : ShownChar = record { char = c; face = face_at sels o c } in
+      let fs : List ShownChar = faced_from sels (o + 1) cs in
       let right : ℕ = right_of view in
       let first : shown_from tabstop sels view o column (c ∷ cs) ≡ shown_in (face_at sels o c) (char_drawn view column 1 c) ++ shown_from tabstop sels view (o + 1) (column + 1) cs =
       ap (λ w. shown_in (face_at sels o c) (char_drawn view column w c) ++ shown_from tabstop sels view (o + 1) (column + w) cs) (h.0.one_cell column tabstop) in

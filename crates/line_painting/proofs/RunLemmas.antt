@@ -7,7 +7,7 @@ use Rattle.kak_faces.specs.declared.face.Face.{Face}
 use Rattle.kak_faces.specs.Same.{palette_place, same_colour, same_word, same_face}
 use Rattle.drawings.specs.declared.drawing.Atom.{Atom}
 use Rattle.std.proofs.lemmas.List.{map-append}
-use Rattle.line_painting.specs.Atoms.{Shown, shown_in, atom_of, longer, with_all_shown}
+use Rattle.line_painting.specs.Atoms.{ShownChar, shown_in, atom_of, atom_longer, with_all_shown}
 use Rattle.line_painting.specs.Painting.{Grown, grown_by}
 use Rattle.line_painting.proofs.AtomLemmas.{with_shown-same, with_shown-other, with_all_shown-append}
 use Rattle.line_painting.proofs.LawLemmas.{equal_faces}
@@ -32,16 +32,16 @@ pub run-same : (front : List Atom) (a : Atom) (face : Face) (cs : List ℕ) → 
     → with_all_shown (front ++ a ∷ []) (shown_in face cs) ≡ front ++ record { contents = a.contents ++ cs; face = a.face } ∷ []
 run-same front a face [] h = ap (λ (t : List ℕ). front ++ record { contents = t; face = a.face } ∷ []) (sym (append-nil a.contents))
 run-same front a face (c ∷ cs) h =
-    let s : Shown = record { char = c; face = face } in
+    let s : ShownChar = record { char = c; face = face } in
     ap (λ r. with_all_shown r (shown_in face cs)) (with_shown-same front a s h)
-    ∙ run-same front (longer a c) face cs h
+    ∙ run-same front (atom_longer a c) face cs h
     ∙ ap (λ (t : List ℕ). front ++ record { contents = t; face = a.face } ∷ []) (append_assoc a.contents (c ∷ []) cs)
 
 -- the last atom has another face: they make an atom of their own
 pub run-other : (front : List Atom) (a : Atom) (face : Face) (c : ℕ) (cs : List ℕ) → same_face a.face face ≡ false
     → with_all_shown (front ++ a ∷ []) (shown_in face (c ∷ cs)) ≡ front ++ a ∷ [] ++ record { contents = c ∷ cs; face = face } ∷ []
 run-other front a face c cs h =
-    let s : Shown = record { char = c; face = face } in
+    let s : ShownChar = record { char = c; face = face } in
     ap (λ r. with_all_shown r (shown_in face cs)) (with_shown-other front a s h)
     ∙ run-same (front ++ a ∷ []) (atom_of s) face cs (same_face-itself face)
 
@@ -70,7 +70,7 @@ pub grown-more : (done : List Atom) (face : Face) (waiting new more : List ℕ) 
     → with_all_shown done (shown_in face new) ≡ with_all_shown (with_all_shown done (shown_in face waiting)) (shown_in face more)
 grown-more done face waiting new more h =
     ap (λ t. with_all_shown done (shown_in face t)) h
-    ∙ ap (with_all_shown done) (map-append (λ (d : ℕ). let x : Shown = record { char = d; face = face } in x) waiting more)
+    ∙ ap (with_all_shown done) (map-append (λ (d : ℕ). let x : ShownChar = record { char = d; face = face } in x) waiting more)
     ∙ with_all_shown-append done (shown_in face waiting) (shown_in face more)
 
 -- atoms with those that wait, and the face

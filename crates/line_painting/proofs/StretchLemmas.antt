@@ -8,9 +8,9 @@ use Rattle.kak_text.specs.Cells.{cells_of, column_behind}
 use Rattle.window_view.specs.View.{View}
 use Rattle.kak_faces.specs.declared.face.Face.{Face}
 use Rattle.drawings.specs.declared.drawing.Atom.{Atom}
-use Rattle.line_painting.specs.Atoms.{Shown, shown_in, with_all_shown}
+use Rattle.line_painting.specs.Atoms.{ShownChar, shown_in, with_all_shown}
 use Rattle.line_painting.specs.Cells.{right_of, char_drawn}
-use Rattle.line_painting.specs.Laws.{IsPlain}
+use Rattle.line_painting.specs.Laws.{IsPlainChar}
 use Rattle.line_painting.specs.Painting.{Grown, chars_drawn}
 use Rattle.line_painting.proofs.AtomLemmas.{with_all_shown-append}
 use Rattle.line_painting.proofs.CellLemmas.{drawn-behind}
@@ -32,7 +32,7 @@ take-slice (x ∷ xs) (suc a) zero h = absurd (omega arith)
 take-slice (x ∷ xs) (suc a) (suc b) h = let e : b - a ≡ suc b - suc a = omega arith in ap (λ r. x ∷ r) (take-slice xs a b (omega arith) ∙ ap (λ n. take a xs ++ take n (drop a xs)) e)
 
 shown_in-append : (face : Face) (a b : List ℕ) → shown_in face (a ++ b) ≡ shown_in face a ++ shown_in face b
-shown_in-append face a b = map-append (λ (c : ℕ). let x : Shown = record { char = c; face = face } in x) a b
+shown_in-append face a b = map-append (λ (c : ℕ). let x : ShownChar = record { char = c; face = face } in x) a b
 
 -- the characters up to the end
 pub rest-is : (chars : List ℕ) (done : ℕ) → slice_range chars done (length chars) ≡ drop done chars
@@ -81,20 +81,20 @@ module _ (tabstop : ℕ) where
       ]
 
   -- plain characters
-  pub column_behind-plain : (column : ℕ) (cs : List ℕ) → AllByRecursion IsPlain cs → column_behind tabstop column cs ≡ column + length cs
+  pub column_behind-plain : (column : ℕ) (cs : List ℕ) → AllByRecursion IsPlainChar cs → column_behind tabstop column cs ≡ column + length cs
   column_behind-plain column [] h = omega arith
   column_behind-plain column (c ∷ cs) h =
       let e : column + 1 + length cs ≡ column + suc (length cs) = omega arith in
       ap (λ w. column_behind tabstop (column + w) cs) (h.0.one_cell column tabstop) ∙ column_behind-plain (column + 1) cs h.1 ∙ e
 
-  pub chars_drawn-plain : (view : View) (column : ℕ) (cs : List ℕ) → AllByRecursion IsPlain cs → view.left ≤ column → column + length cs ≤ right_of view → chars_drawn tabstop view column cs ≡ cs
+  pub chars_drawn-plain : (view : View) (column : ℕ) (cs : List ℕ) → AllByRecursion IsPlainChar cs → view.left ≤ column → column + length cs ≤ right_of view → chars_drawn tabstop view column cs ≡ cs
   chars_drawn-plain view column [] h l r = refl
   chars_drawn-plain view column (c ∷ cs) h l r =
       ap (λ w. char_drawn view column w c ++ chars_drawn tabstop view (column + w) cs) (h.0.one_cell column tabstop)
       ∙ ap₂ (λ x y. x ++ y) (plain-within view column c l (omega arith) h.0.itself) (chars_drawn-plain view (column + 1) cs h.1 (omega arith) (omega arith))
 
   -- a run of plain characters of which some are there
-  run-drawn : (view : View) (column : ℕ) (cs : List ℕ) → AllByRecursion IsPlain cs → (0 < length cs → view.left ≤ column) → (0 < length cs → column + length cs ≤ right_of view) → chars_drawn tabstop view column cs ≡ cs
+  run-drawn : (view : View) (column : ℕ) (cs : List ℕ) → AllByRecursion IsPlainChar cs → (0 < length cs → view.left ≤ column) → (0 < length cs → column + length cs ≤ right_of view) → chars_drawn tabstop view column cs ≡ cs
   run-drawn view column [] h l r = refl
   run-drawn view column (c ∷ cs) h l r = chars_drawn-plain view column (c ∷ cs) h (l (omega arith)) (r (omega arith))
 
@@ -135,7 +135,7 @@ module _ (tabstop : ℕ) where
 
   -- a run of plain characters is
   pub pushed-run : (view : View) (old mid new : Grown) (face : Face) (chars rest run : List ℕ) (column behind next done count : ℕ) → IsPushedTo view old mid face chars column behind done
-      → rest ≡ drop done chars → run ≡ slice_range chars done (done + count) → count ≤ length rest → AllByRecursion IsPlain (take count rest) → (0 < count → view.left ≤ behind) → (0 < count → behind + count ≤ right_of view)
+      → rest ≡ drop done chars → run ≡ slice_range chars done (done + count) → count ≤ length rest → AllByRecursion IsPlainChar (take count rest) → (0 < count → view.left ≤ behind) → (0 < count → behind + count ≤ right_of view)
       → new ≡ record { atoms = with_all_shown mid.atoms (shown_in mid.face run); face = mid.face }
       → next ≡ behind + count → IsPushedTo view old new face chars column next (done + count)
   pushed-run view old mid new face chars rest run column behind next done count p r s k a left right n b =
@@ -152,8 +152,8 @@ module _ (tabstop : ℕ) where
       inside : done + count ≤ length chars
       inside = omega (arith, p.inside, k, ap length r, length-drop done chars)
 
-      plain : AllByRecursion IsPlain run
-      plain = subst (AllByRecursion IsPlain) (sym same) a
+      plain : AllByRecursion IsPlainChar run
+      plain = subst (AllByRecursion IsPlainChar) (sym same) a
 
   -- another character is
   pub pushed-one : (view : View) (old mid new : Grown) (face : Face) (chars : List ℕ) (column behind next done c : ℕ) → IsPushedTo view old mid face chars column behind done

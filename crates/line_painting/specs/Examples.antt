@@ -17,16 +17,16 @@ abbrev pub atom : List ℕ → NamedColour → NamedColour → Atom
 atom contents fg bg = record { contents = contents; face = plain_face fg bg }
 
 -- an atom of ASCII characters in the default face
-abbrev pub bare : List ℕ → Atom
-bare contents = record { contents = contents; face = default_face }
+abbrev pub bare_atom : List ℕ → Atom
+bare_atom contents = record { contents = contents; face = default_face }
 
 -- a line of atoms
-abbrev pub line : List Atom → DrawnLine
-line atoms = record { atoms = atoms }
+abbrev pub atoms_line : List Atom → DrawnLine
+atoms_line atoms = record { atoms = atoms }
 
 -- an atom under the main cursor
-abbrev pub under_cursor : List ℕ → Atom
-under_cursor contents = atom contents named.Black named.White
+abbrev pub cursor_atom : List ℕ → Atom
+cursor_atom contents = atom contents named.Black named.White
 
 -- a straight selection
 abbrev pub between : ℕ → ℕ → Range
@@ -65,29 +65,29 @@ pub record CharExamples : Type 0 where
   pub mark_right_behind : in_narrow 0 3 0 0x0301 ≡ []
 
 -- the lines of a window, with a tab stop at each eighth column
-abbrev pub drawn : List ℕ → Selected → View → List DrawnLine
-drawn text sels view = drawn_lines 8 text sels view
+abbrev pub drawn_at_eighths : List ℕ → Selected → View → List DrawnLine
+drawn_at_eighths text sels view = drawn_lines 8 text sels view
 
 -- of lines
 pub record LineExamples : Type 0 where
-  pub tab : drawn (codes "a\tb\n") (alone true (only 0)) whole ≡ line (under_cursor (codes "a") ∷ bare (codes "       b\n") ∷ []) ∷ []
-  pub cursor_on_a_tab : drawn (codes "a\tb\n") (alone true (only 1)) whole ≡ line (bare (codes "a") ∷ under_cursor (codes "       ") ∷ bare (codes "b\n") ∷ []) ∷ []
+  pub tab : drawn_at_eighths (codes "a\tb\n") (alone true (only 0)) whole ≡ atoms_line (cursor_atom (codes "a") ∷ bare_atom (codes "       b\n") ∷ []) ∷ []
+  pub cursor_on_a_tab : drawn_at_eighths (codes "a\tb\n") (alone true (only 1)) whole ≡ atoms_line (bare_atom (codes "a") ∷ cursor_atom (codes "       ") ∷ bare_atom (codes "b\n") ∷ []) ∷ []
   -- the cursor, on the tab, reaches into the window from the left
-  pub tab_cut_at_the_left : drawn (codes "a\tbc\n") (alone true (only 1)) (narrow 0 6) ≡ line (under_cursor (codes "  ") ∷ bare (codes "b") ∷ []) ∷ []
-  pub tab_cut_at_the_right : drawn (codes "a\tb\n") (alone true (only 1)) (narrow 0 0) ≡ line (bare (codes "a") ∷ under_cursor (codes "  ") ∷ []) ∷ []
-  pub newline_behind_a_tab : drawn (codes "\t\n") (alone true (only 1)) whole ≡ line (bare (codes "        ") ∷ atom (codes "\n") named.Black named.Cyan ∷ []) ∷ []
-  pub wide : drawn (0x6F22 ∷ 0x61 ∷ 10 ∷ []) (alone true (only 1)) (narrow 0 0) ≡ line (bare (0x6F22 ∷ []) ∷ under_cursor (codes "a") ∷ []) ∷ []
-  pub wide_cut_at_the_left : drawn (0x6F22 ∷ 0x61 ∷ 10 ∷ []) (alone true (only 0)) (narrow 0 1) ≡ line (under_cursor (codes " ") ∷ bare (codes "a\n") ∷ []) ∷ []
-  pub wide_cut_at_the_right : drawn (0x61 ∷ 0x62 ∷ 0x6F22 ∷ 10 ∷ []) (alone true (between 1 2)) (narrow 0 0)
-      ≡ line (bare (codes "a") ∷ atom (codes "b") named.White named.Blue ∷ under_cursor (codes " ") ∷ []) ∷ []
-  pub cursor_on_a_mark : drawn (0x65 ∷ 0x0301 ∷ 0x61 ∷ 10 ∷ []) (alone true (only 1)) (narrow 0 0)
-      ≡ line (bare (0x65 ∷ []) ∷ under_cursor (0x0301 ∷ []) ∷ bare (0x61 ∷ 10 ∷ []) ∷ []) ∷ []
+  pub tab_cut_at_the_left : drawn_at_eighths (codes "a\tbc\n") (alone true (only 1)) (narrow 0 6) ≡ atoms_line (cursor_atom (codes "  ") ∷ bare_atom (codes "b") ∷ []) ∷ []
+  pub tab_cut_at_the_right : drawn_at_eighths (codes "a\tb\n") (alone true (only 1)) (narrow 0 0) ≡ atoms_line (bare_atom (codes "a") ∷ cursor_atom (codes "  ") ∷ []) ∷ []
+  pub newline_behind_a_tab : drawn_at_eighths (codes "\t\n") (alone true (only 1)) whole ≡ atoms_line (bare_atom (codes "        ") ∷ atom (codes "\n") named.Black named.Cyan ∷ []) ∷ []
+  pub wide : drawn_at_eighths (0x6F22 ∷ 0x61 ∷ 10 ∷ []) (alone true (only 1)) (narrow 0 0) ≡ atoms_line (bare_atom (0x6F22 ∷ []) ∷ cursor_atom (codes "a") ∷ []) ∷ []
+  pub wide_cut_at_the_left : drawn_at_eighths (0x6F22 ∷ 0x61 ∷ 10 ∷ []) (alone true (only 0)) (narrow 0 1) ≡ atoms_line (cursor_atom (codes " ") ∷ bare_atom (codes "a\n") ∷ []) ∷ []
+  pub wide_cut_at_the_right : drawn_at_eighths (0x61 ∷ 0x62 ∷ 0x6F22 ∷ 10 ∷ []) (alone true (between 1 2)) (narrow 0 0)
+      ≡ atoms_line (bare_atom (codes "a") ∷ atom (codes "b") named.White named.Blue ∷ cursor_atom (codes " ") ∷ []) ∷ []
+  pub cursor_on_a_mark : drawn_at_eighths (0x65 ∷ 0x0301 ∷ 0x61 ∷ 10 ∷ []) (alone true (only 1)) (narrow 0 0)
+      ≡ atoms_line (bare_atom (0x65 ∷ []) ∷ cursor_atom (0x0301 ∷ []) ∷ bare_atom (0x61 ∷ 10 ∷ []) ∷ []) ∷ []
   -- the mark begins at the window's first display column, and its letter left of it
-  pub mark_at_the_left : drawn (0x65 ∷ 0x0301 ∷ 0x61 ∷ 10 ∷ []) (alone true (only 2)) (narrow 0 1)
-      ≡ line (bare (0x0301 ∷ []) ∷ under_cursor (0x61 ∷ []) ∷ bare (10 ∷ []) ∷ []) ∷ []
+  pub mark_at_the_left : drawn_at_eighths (0x65 ∷ 0x0301 ∷ 0x61 ∷ 10 ∷ []) (alone true (only 2)) (narrow 0 1)
+      ≡ atoms_line (bare_atom (0x0301 ∷ []) ∷ cursor_atom (0x61 ∷ []) ∷ bare_atom (10 ∷ []) ∷ []) ∷ []
   -- the last letter fills the window, and its mark begins right behind it
-  pub mark_at_the_right : drawn (0x61 ∷ 0x62 ∷ 0x65 ∷ 0x0301 ∷ 10 ∷ []) (alone true (only 0)) (narrow 0 0) ≡ line (under_cursor (codes "a") ∷ bare (codes "be") ∷ []) ∷ []
-  pub control : drawn (0x61 ∷ 0x1B ∷ 0x62 ∷ 10 ∷ []) (alone true (only 0)) whole ≡ line (under_cursor (codes "a") ∷ bare (0xFFFD ∷ 0x62 ∷ 10 ∷ []) ∷ []) ∷ []
+  pub mark_at_the_right : drawn_at_eighths (0x61 ∷ 0x62 ∷ 0x65 ∷ 0x0301 ∷ 10 ∷ []) (alone true (only 0)) (narrow 0 0) ≡ atoms_line (cursor_atom (codes "a") ∷ bare_atom (codes "be") ∷ []) ∷ []
+  pub control : drawn_at_eighths (0x61 ∷ 0x1B ∷ 0x62 ∷ 10 ∷ []) (alone true (only 0)) whole ≡ atoms_line (cursor_atom (codes "a") ∷ bare_atom (0xFFFD ∷ 0x62 ∷ 10 ∷ []) ∷ []) ∷ []
 
 -- what a window of 3 columns whose first is that display column shows in each cell of the n-th character of a line
 abbrev pub seen_in_narrow : ℕ → List ℕ → ℕ → ℕ
@@ -127,42 +127,42 @@ in_other contents = atom contents named.Black named.Blue
 
 -- of lists of selections
 pub record ListExamples : Type 0 where
-  pub first_is_main : drawn (codes "abcdef\n") (two (between 0 1) (between 3 4) 0) whole
-      ≡ line (in_main (codes "a") ∷ under_cursor (codes "b") ∷ bare (codes "c") ∷ in_other (codes "d") ∷ under_cursor (codes "e") ∷ bare (codes "f\n") ∷ []) ∷ []
-  pub turned_other : drawn (codes "abcdef\n") (two (turned_between 0 2) (between 4 4) 1) whole
-      ≡ line (under_cursor (codes "a") ∷ in_other (codes "bc") ∷ bare (codes "d") ∷ under_cursor (codes "e") ∷ bare (codes "f\n") ∷ []) ∷ []
-  pub turned_main : drawn (codes "abcdef\n") (two (between 0 1) (turned_between 3 5) 1) whole
-      ≡ line (in_other (codes "a") ∷ under_cursor (codes "b") ∷ bare (codes "c") ∷ under_cursor (codes "d") ∷ in_main (codes "ef") ∷ bare (codes "\n") ∷ []) ∷ []
+  pub first_is_main : drawn_at_eighths (codes "abcdef\n") (two (between 0 1) (between 3 4) 0) whole
+      ≡ atoms_line (in_main (codes "a") ∷ cursor_atom (codes "b") ∷ bare_atom (codes "c") ∷ in_other (codes "d") ∷ cursor_atom (codes "e") ∷ bare_atom (codes "f\n") ∷ []) ∷ []
+  pub turned_other : drawn_at_eighths (codes "abcdef\n") (two (turned_between 0 2) (between 4 4) 1) whole
+      ≡ atoms_line (cursor_atom (codes "a") ∷ in_other (codes "bc") ∷ bare_atom (codes "d") ∷ cursor_atom (codes "e") ∷ bare_atom (codes "f\n") ∷ []) ∷ []
+  pub turned_main : drawn_at_eighths (codes "abcdef\n") (two (between 0 1) (turned_between 3 5) 1) whole
+      ≡ atoms_line (in_other (codes "a") ∷ cursor_atom (codes "b") ∷ bare_atom (codes "c") ∷ cursor_atom (codes "d") ∷ in_main (codes "ef") ∷ bare_atom (codes "\n") ∷ []) ∷ []
   -- selections that touch
-  pub neighbours : drawn (codes "abcd\n") (two (between 0 1) (between 2 3) 1) whole
-      ≡ line (in_other (codes "a") ∷ under_cursor (codes "b") ∷ in_main (codes "c") ∷ under_cursor (codes "d") ∷ bare (codes "\n") ∷ []) ∷ []
+  pub neighbours : drawn_at_eighths (codes "abcd\n") (two (between 0 1) (between 2 3) 1) whole
+      ≡ atoms_line (in_other (codes "a") ∷ cursor_atom (codes "b") ∷ in_main (codes "c") ∷ cursor_atom (codes "d") ∷ bare_atom (codes "\n") ∷ []) ∷ []
   -- two cursors beside each other make one atom, since they have the same face
-  pub cursors_that_touch : drawn (codes "abcd\n") (two (only 1) (only 2) 0) whole ≡ line (bare (codes "a") ∷ under_cursor (codes "bc") ∷ bare (codes "d\n") ∷ []) ∷ []
-  pub both_on_newlines : drawn (codes "ab\nc\n") (two (between 1 2) (only 4) 1) whole
-      ≡ line (bare (codes "a") ∷ in_other (codes "b") ∷ atom (codes "\n") named.Black named.Cyan ∷ []) ∷ line (bare (codes "c") ∷ atom (codes "\n") named.Black named.Cyan ∷ []) ∷ []
+  pub cursors_that_touch : drawn_at_eighths (codes "abcd\n") (two (only 1) (only 2) 0) whole ≡ atoms_line (bare_atom (codes "a") ∷ cursor_atom (codes "bc") ∷ bare_atom (codes "d\n") ∷ []) ∷ []
+  pub both_on_newlines : drawn_at_eighths (codes "ab\nc\n") (two (between 1 2) (only 4) 1) whole
+      ≡ atoms_line (bare_atom (codes "a") ∷ in_other (codes "b") ∷ atom (codes "\n") named.Black named.Cyan ∷ []) ∷ atoms_line (bare_atom (codes "c") ∷ atom (codes "\n") named.Black named.Cyan ∷ []) ∷ []
   -- each over a line's end; the main one is the second
-  pub over_lines : drawn (codes "ab\ncd\nef\n") (two (between 1 3) (turned_between 5 7) 1) whole
-      ≡ line (bare (codes "a") ∷ in_other (codes "b\n") ∷ [])
-      ∷ line (under_cursor (codes "c") ∷ bare (codes "d") ∷ atom (codes "\n") named.Black named.Cyan ∷ [])
-      ∷ line (in_main (codes "ef") ∷ bare (codes "\n") ∷ []) ∷ []
+  pub over_lines : drawn_at_eighths (codes "ab\ncd\nef\n") (two (between 1 3) (turned_between 5 7) 1) whole
+      ≡ atoms_line (bare_atom (codes "a") ∷ in_other (codes "b\n") ∷ [])
+      ∷ atoms_line (cursor_atom (codes "c") ∷ bare_atom (codes "d") ∷ atom (codes "\n") named.Black named.Cyan ∷ [])
+      ∷ atoms_line (in_main (codes "ef") ∷ bare_atom (codes "\n") ∷ []) ∷ []
   -- the first ends on the line on which the second begins, which goes over a whole line
-  pub over_a_whole_line : drawn (codes "ab\ncd\nef\n") (three (between 0 1) (between 2 6) (only 7) 1) whole
-      ≡ line (in_other (codes "a") ∷ under_cursor (codes "b") ∷ in_main (codes "\n") ∷ [])
-      ∷ line (in_main (codes "cd\n") ∷ [])
-      ∷ line (under_cursor (codes "ef") ∷ bare (codes "\n") ∷ []) ∷ []
+  pub over_a_whole_line : drawn_at_eighths (codes "ab\ncd\nef\n") (three (between 0 1) (between 2 6) (only 7) 1) whole
+      ≡ atoms_line (in_other (codes "a") ∷ cursor_atom (codes "b") ∷ in_main (codes "\n") ∷ [])
+      ∷ atoms_line (in_main (codes "cd\n") ∷ [])
+      ∷ atoms_line (cursor_atom (codes "ef") ∷ bare_atom (codes "\n") ∷ []) ∷ []
   -- the first selection is above the window, and the last one below it
-  pub one_in_the_window : drawn (codes "a\nb\nc\nd\n") (three (only 0) (between 3 4) (only 6) 0) (narrow 1 0)
-      ≡ line (bare (codes "b") ∷ in_other (codes "\n") ∷ []) ∷ line (under_cursor (codes "c") ∷ bare (codes "\n") ∷ []) ∷ []
+  pub one_in_the_window : drawn_at_eighths (codes "a\nb\nc\nd\n") (three (only 0) (between 3 4) (only 6) 0) (narrow 1 0)
+      ≡ atoms_line (bare_atom (codes "b") ∷ in_other (codes "\n") ∷ []) ∷ atoms_line (cursor_atom (codes "c") ∷ bare_atom (codes "\n") ∷ []) ∷ []
   -- the first selection is left of the window, and the last one right of it
-  pub cut_by_the_window : drawn (codes "abcdefgh\n") (three (between 0 1) (between 3 5) (only 7) 1) (narrow 0 4)
-      ≡ line (in_main (codes "e") ∷ under_cursor (codes "f") ∷ bare (codes "g") ∷ []) ∷ []
+  pub cut_by_the_window : drawn_at_eighths (codes "abcdefgh\n") (three (between 0 1) (between 3 5) (only 7) 1) (narrow 0 4)
+      ≡ atoms_line (in_main (codes "e") ∷ cursor_atom (codes "f") ∷ bare_atom (codes "g") ∷ []) ∷ []
 
 -- of lines with other tab stops
 pub record TabExamples : Type 0 where
-  pub at_each_fourth : drawn_lines 4 (codes "a\tb\n") (alone true (only 0)) whole ≡ line (under_cursor (codes "a") ∷ bare (codes "   b\n") ∷ []) ∷ []
-  pub at_each_column : drawn_lines 1 (codes "a\tb\n") (alone true (only 0)) whole ≡ line (under_cursor (codes "a") ∷ bare (codes " b\n") ∷ []) ∷ []
-  pub cut_at_the_left : drawn_lines 4 (codes "a\tbc\n") (alone true (only 1)) (narrow 0 2) ≡ line (under_cursor (codes "  ") ∷ bare (codes "b") ∷ []) ∷ []
-  pub behind_a_tab_stop : drawn_lines 4 (codes "abcd\te\n") (alone true (only 4)) (narrow 0 6) ≡ line (under_cursor (codes "  ") ∷ bare (codes "e") ∷ []) ∷ []
+  pub at_each_fourth : drawn_lines 4 (codes "a\tb\n") (alone true (only 0)) whole ≡ atoms_line (cursor_atom (codes "a") ∷ bare_atom (codes "   b\n") ∷ []) ∷ []
+  pub at_each_column : drawn_lines 1 (codes "a\tb\n") (alone true (only 0)) whole ≡ atoms_line (cursor_atom (codes "a") ∷ bare_atom (codes " b\n") ∷ []) ∷ []
+  pub cut_at_the_left : drawn_lines 4 (codes "a\tbc\n") (alone true (only 1)) (narrow 0 2) ≡ atoms_line (cursor_atom (codes "  ") ∷ bare_atom (codes "b") ∷ []) ∷ []
+  pub behind_a_tab_stop : drawn_lines 4 (codes "abcd\te\n") (alone true (only 4)) (narrow 0 6) ≡ atoms_line (cursor_atom (codes "  ") ∷ bare_atom (codes "e") ∷ []) ∷ []
 
 pub record Examples : Type 0 where
   pub chars : CharExamples
@@ -170,18 +170,18 @@ pub record Examples : Type 0 where
   pub tabs : TabExamples
   pub seen : SeenExamples
   pub lists : ListExamples
-  pub cursor_in_the_middle : drawn (codes "abc\n") (alone true (only 1)) whole
-      ≡ line (bare (codes "a") ∷ under_cursor (codes "b") ∷ bare (codes "c\n") ∷ []) ∷ []
+  pub cursor_in_the_middle : drawn_at_eighths (codes "abc\n") (alone true (only 1)) whole
+      ≡ atoms_line (bare_atom (codes "a") ∷ cursor_atom (codes "b") ∷ bare_atom (codes "c\n") ∷ []) ∷ []
   -- a selection over two lines, with its cursor at its begin
-  pub turned_selection : drawn (codes "ab\ncd\n") (alone true (record (between 1 3) { turned = true })) whole
-      ≡ line (bare (codes "a") ∷ under_cursor (codes "b") ∷ atom (codes "\n") named.White named.Blue ∷ [])
-      ∷ line (atom (codes "c") named.White named.Blue ∷ bare (codes "d\n") ∷ []) ∷ []
+  pub turned_selection : drawn_at_eighths (codes "ab\ncd\n") (alone true (record (between 1 3) { turned = true })) whole
+      ≡ atoms_line (bare_atom (codes "a") ∷ cursor_atom (codes "b") ∷ atom (codes "\n") named.White named.Blue ∷ [])
+      ∷ atoms_line (atom (codes "c") named.White named.Blue ∷ bare_atom (codes "d\n") ∷ []) ∷ []
   -- the second selection is the main one
-  pub two_selections : drawn (codes "abcdef\n") (record { list = between 0 1 ∷ between 3 4 ∷ []; main = 1 }) whole
-      ≡ line (atom (codes "a") named.Black named.Blue ∷ under_cursor (codes "b") ∷ bare (codes "c")
-      ∷ atom (codes "d") named.White named.Blue ∷ under_cursor (codes "e") ∷ bare (codes "f\n") ∷ []) ∷ []
-  pub cut_at_both_sides : drawn (codes "abcdefg\n") (alone true (only 3)) (narrow 0 2)
-      ≡ line (bare (codes "c") ∷ under_cursor (codes "d") ∷ bare (codes "e") ∷ []) ∷ []
-  pub cut_whole : drawn (codes "ab\ncdefg\n") (alone true (only 6)) (narrow 0 3) ≡ line [] ∷ line (under_cursor (codes "f") ∷ bare (codes "g\n") ∷ []) ∷ []
-  pub from_the_top : drawn (codes "a\nb\nc\nd\n") (alone true (only 4)) (narrow 1 0) ≡ line (bare (codes "b\n") ∷ []) ∷ line (under_cursor (codes "c") ∷ bare (codes "\n") ∷ []) ∷ []
-  pub below_the_end : drawn (codes "a\n") (alone true (only 0)) (narrow 1 0) ≡ []
+  pub two_selections : drawn_at_eighths (codes "abcdef\n") (record { list = between 0 1 ∷ between 3 4 ∷ []; main = 1 }) whole
+      ≡ atoms_line (atom (codes "a") named.Black named.Blue ∷ cursor_atom (codes "b") ∷ bare_atom (codes "c")
+      ∷ atom (codes "d") named.White named.Blue ∷ cursor_atom (codes "e") ∷ bare_atom (codes "f\n") ∷ []) ∷ []
+  pub cut_at_both_sides : drawn_at_eighths (codes "abcdefg\n") (alone true (only 3)) (narrow 0 2)
+      ≡ atoms_line (bare_atom (codes "c") ∷ cursor_atom (codes "d") ∷ bare_atom (codes "e") ∷ []) ∷ []
+  pub cut_whole : drawn_at_eighths (codes "ab\ncdefg\n") (alone true (only 6)) (narrow 0 3) ≡ atoms_line [] ∷ atoms_line (cursor_atom (codes "f") ∷ bare_atom (codes "g\n") ∷ []) ∷ []
+  pub from_the_top : drawn_at_eighths (codes "a\nb\nc\nd\n") (alone true (only 4)) (narrow 1 0) ≡ atoms_line (bare_atom (codes "b\n") ∷ []) ∷ atoms_line (cursor_atom (codes "c") ∷ bare_atom (codes "\n") ∷ []) ∷ []
+  pub below_the_end : drawn_at_eighths (codes "a\n") (alone true (only 0)) (narrow 1 0) ≡ []

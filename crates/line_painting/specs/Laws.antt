@@ -8,12 +8,12 @@ use Rattle.window_view.specs.View.{View, text_columns}
 use Rattle.window_view.specs.Holding.{HoldsCell}
 use Rattle.kak_faces.specs.Same.{same_face}
 use Rattle.drawings.specs.declared.drawing.Atom.{Atom}
-use Rattle.line_painting.specs.Atoms.{Shown, shown_in}
+use Rattle.line_painting.specs.Atoms.{ShownChar, shown_in}
 use Rattle.line_painting.specs.Cells.{right_of, is_inside, cells_inside, whole_drawn}
 use Rattle.line_painting.specs.Lines.{face_at, shown_from}
 
 -- the characters of atoms, each in its face
-abbrev pub spelled : List Atom → List Shown
+abbrev pub spelled : List Atom → List ShownChar
 spelled [] = []
 spelled (a ∷ atoms) = shown_in a.face a.contents ++ spelled atoms
 
@@ -24,39 +24,39 @@ AreRuns (a ∷ []) = 0 < length a.contents
 AreRuns (a ∷ b ∷ atoms) = (0 < length a.contents) × (same_face a.face b.face ≡ false) × AreRuns (b ∷ atoms)
 
 -- a character that has one cell wherever it begins and the tab stops are, and is drawn as itself
-pub record IsPlain (c : ℕ) : Type 0 where
+pub record IsPlainChar (c : ℕ) : Type 0 where
   pub one_cell : (column tabstop : ℕ) → cells_of c column tabstop ≡ 1
   pub itself : whole_drawn c 1 ≡ c ∷ []
 
 -- characters that begin at an offset, each as itself in its face
-abbrev pub faced_from : Selected → ℕ → List ℕ → List Shown
+abbrev pub faced_from : Selected → ℕ → List ℕ → List ShownChar
 faced_from sels o [] = []
 faced_from sels o (c ∷ cs) = record { char = c; face = face_at sels o c } ∷ faced_from sels (o + 1) cs
 
 -- of a line of plain characters a window shows as many as it has columns, from its first column on
 abbrev pub PlainLinesAreCut : Type 0
-PlainLinesAreCut = (tabstop : ℕ) (sels : Selected) (view : View) (o : ℕ) (line : List ℕ) → AllByRecursion IsPlain line
+PlainLinesAreCut = (tabstop : ℕ) (sels : Selected) (view : View) (o : ℕ) (line : List ℕ) → AllByRecursion IsPlainChar line
     → shown_from tabstop sels view o 0 line ≡ take (text_columns view 0) (drop view.left (faced_from sels o line))
 
 -- the printable characters of ASCII, and the newline
 pub record AsciiIsPlain : Type 0 where
-  pub printable : (c : ℕ) → 0x20 ≤ c → c < 0x7F → IsPlain c
-  pub newline : IsPlain 10
+  pub printable : (c : ℕ) → 0x20 ≤ c → c < 0x7F → IsPlainChar c
+  pub newline : IsPlainChar 10
 
 -- the characters that are shown, without their faces
-abbrev pub chars_of : List Shown → List ℕ
-chars_of shown = map (λ s. s.char) shown
+abbrev pub shown_chars : List ShownChar → List ℕ
+shown_chars shown = map (λ s. s.char) shown
 
 -- a character in its face that holds a cell of what is shown
-pub record ShowsInCell (tabstop : ℕ) (shown : List Shown) (cell : ℕ) (s : Shown) : Type 0 where
+pub record ShowsInCell (tabstop : ℕ) (shown : List ShownChar) (cell : ℕ) (s : ShownChar) : Type 0 where
   pub place : ℕ
-  pub holds : HoldsCell (chars_of shown) tabstop place cell
+  pub holds : HoldsCell (shown_chars shown) tabstop place cell
   pub is : slice_get shown place ≡ Some s
 
 -- a character in its face that begins at a column of what is shown
-pub record ShowsAtColumn (tabstop : ℕ) (shown : List Shown) (column : ℕ) (s : Shown) : Type 0 where
+pub record ShowsAtColumn (tabstop : ℕ) (shown : List ShownChar) (column : ℕ) (s : ShownChar) : Type 0 where
   pub place : ℕ
-  pub begins : display_column (chars_of shown) place tabstop ≡ column
+  pub begins : display_column (shown_chars shown) place tabstop ≡ column
   pub is : slice_get shown place ≡ Some s
 
 -- what stands in each cell of a character: for a tab (9) a space (32), for a newline (10) itself, for another control
@@ -70,25 +70,25 @@ abbrev pub seen_as : View → ℕ → ℕ → ℕ → ℕ
 seen_as view begin behind c = if nat_le view.left begin && nat_le behind (right_of view) then look_of c else 32
 
 -- a character in the face of the n-th one of a line that begins at an offset
-abbrev pub in_face_of : Selected → ℕ → List ℕ → ℕ → ℕ → Shown
+abbrev pub in_face_of : Selected → ℕ → List ℕ → ℕ → ℕ → ShownChar
 in_face_of sels o line n c = record { char = c; face = face_at sels (o + n) (slice_index line n) }
 
 -- what a window shows in the cells of the n-th character of a line that begins at an offset
-abbrev pub seen_of : ℕ → Selected → View → ℕ → List ℕ → ℕ → Shown
+abbrev pub seen_of : ℕ → Selected → View → ℕ → List ℕ → ℕ → ShownChar
 seen_of tabstop sels view o line n =
     in_face_of sels o line n (seen_as view (display_column line n tabstop) (display_column line (n + 1) tabstop) (slice_index line n))
 
 -- the n-th character of a line that begins at an offset, as itself
-abbrev pub itself_of : Selected → ℕ → List ℕ → ℕ → Shown
+abbrev pub itself_of : Selected → ℕ → List ℕ → ℕ → ShownChar
 itself_of sels o line n = in_face_of sels o line n (slice_index line n)
 
 -- whether a character has no cells
-abbrev pub is_mark : ℕ → ℕ → Bool
-is_mark tabstop c = cells_of c 0 tabstop == 0
+abbrev pub has_no_cells : ℕ → ℕ → Bool
+has_no_cells tabstop c = cells_of c 0 tabstop == 0
 
 -- whether the n-th character of a line has none, and begins in a window
 abbrev pub is_mark_inside : ℕ → View → List ℕ → ℕ → Bool
-is_mark_inside tabstop view line n = is_mark tabstop (slice_index line n) && is_inside view (display_column line n tabstop)
+is_mark_inside tabstop view line n = has_no_cells tabstop (slice_index line n) && is_inside view (display_column line n tabstop)
 
 -- what a window shows of a line, cell by cell, with the tab stops of so many columns
 pub record WindowsShowCells (tabstop : ℕ) : Type 0 where
@@ -97,10 +97,10 @@ pub record WindowsShowCells (tabstop : ℕ) : Type 0 where
       → ShowsInCell tabstop (shown_from tabstop sels view o 0 line) (cell - view.left) (seen_of tabstop sels view o line n)
   -- there are as many cells as of the line's cells lie in the window
   pub width : (sels : Selected) (view : View) (o : ℕ) (line : List ℕ)
-      → column_behind tabstop 0 (chars_of (shown_from tabstop sels view o 0 line)) ≡ cells_inside view 0 (column_behind tabstop 0 line)
+      → column_behind tabstop 0 (shown_chars (shown_from tabstop sels view o 0 line)) ≡ cells_inside view 0 (column_behind tabstop 0 line)
   -- the characters without cells are those of the line that begin in the window, in their order
   pub marks : (sels : Selected) (view : View) (o : ℕ) (line : List ℕ)
-      → filter (λ s. is_mark tabstop s.char) (shown_from tabstop sels view o 0 line) ≡ map (itself_of sels o line) (filter (is_mark_inside tabstop view line) (range_with_len 0 (length line)))
+      → filter (λ s. has_no_cells tabstop s.char) (shown_from tabstop sels view o 0 line) ≡ map (itself_of sels o line) (filter (is_mark_inside tabstop view line) (range_with_len 0 (length line)))
   -- and each of them is shown where it begins
   pub mark : (sels : Selected) (view : View) (o : ℕ) (line : List ℕ) (n : ℕ) → n < length line → is_mark_inside tabstop view line n ≡ true
       → ShowsAtColumn tabstop (shown_from tabstop sels view o 0 line) (display_column line n tabstop - view.left) (itself_of sels o line n)

@@ -10,7 +10,7 @@ use Rattle.kak_faces.specs.declared.standard.StandardFace.TheVariants as name
 use Rattle.kak_faces.specs.Faces.{merged}
 use Rattle.kak_faces.specs.Standard.{standard_face}
 use Rattle.drawings.specs.declared.drawing.DrawnLine.{DrawnLine}
-use Rattle.line_painting.specs.Atoms.{Shown, shown_in, atoms_of}
+use Rattle.line_painting.specs.Atoms.{ShownChar, shown_in, atoms_of}
 use Rattle.line_painting.specs.Cells.{char_drawn}
 
 -- the face of a selection, of the main one or another
@@ -48,14 +48,14 @@ face_at sels o c =
 
 -- what a window shows of characters of a line, of which the first is at an offset and begins at a display column: each
 -- in its face, as far as its cells are in the window
-abbrev pub shown_from : ℕ → Selected → View → ℕ → ℕ → List ℕ → List Shown
+abbrev pub shown_from : ℕ → Selected → View → ℕ → ℕ → List ℕ → List ShownChar
 shown_from tabstop sels view o column [] = []
 shown_from tabstop sels view o column (c ∷ cs) =
     shown_in (face_at sels o c) (char_drawn view column (cells_of c column tabstop) c)
     ++ shown_from tabstop sels view (o + 1) (column + cells_of c column tabstop) cs
 
 -- what a window shows of a line of a text, by its number
-abbrev pub line_shown : ℕ → Selected → View → List ℕ → ℕ → List Shown
+abbrev pub line_shown : ℕ → Selected → View → List ℕ → ℕ → List ShownChar
 line_shown tabstop sels view text n = shown_from tabstop sels view (length (joined (take n (lines_of text)))) 0 (nth_line text n)
 
 -- lines as they are drawn, of which the first begins at an offset

@@ -122,8 +122,8 @@ abbrev pub SameColumn : View → ℕ → ℕ → Type 0
 SameColumn view a b = min (right_of view) a ≡ min (right_of view) b
 
 -- a column is that behind characters, or both lie right of the window
-abbrev pub IsBehind : ℕ → View → ℕ → List ℕ → ℕ → Type 0
-IsBehind tabstop view column cs behind = SameColumn view behind (column_behind tabstop column cs)
+abbrev pub IsColumnBehind : ℕ → View → ℕ → List ℕ → ℕ → Type 0
+IsColumnBehind tabstop view column cs behind = SameColumn view behind (column_behind tabstop column cs)
 
 -- a line that begins at an offset is drawn before a place, and the character there begins at that display column, or
 -- both lie right of the window

@@ -1,14 +1,14 @@
 //! What a window shows of a character.
 
 ghost use Rattle.std.specs.Prelude.{◌≡◌, replicate};
-ghost use Rattle.window_view.specs.Views.{view_of as window_seen};
+ghost use Rattle.window_view.specs.Views.{window_seen};
 ghost use Rattle.line_painting.specs.Cells.{cells_inside, whole_drawn, char_drawn, right_of};
 
 use window_view::Window;
 
 // So many times the same character.
 #[derive(Clone, Copy, Debug)]
-pub struct Repeated {
+pub struct RepeatedChar {
     pub c: char,
     pub count: u64,
 }
@@ -29,33 +29,33 @@ fn inside(window: Window, column: u32, cells: u32) -> u64
 }
 
 // How a character of so many cells is drawn where it is seen whole.
-fn whole(c: char, cells: u32) -> Repeated
+fn whole(c: char, cells: u32) -> RepeatedChar
     ensures { replicate result.count result.c ≡ whole_drawn c cells }
 {
     if c == '\t' {
-        return Repeated {
+        return RepeatedChar {
             c: ' ',
             count: u64::from(cells),
         };
     }
     if c == '\n' {
-        return Repeated { c, count: 1 };
+        return RepeatedChar { c, count: 1 };
     }
     if c.is_control() {
-        return Repeated {
+        return RepeatedChar {
             c: '\u{FFFD}',
             count: 1,
         };
     }
-    Repeated { c, count: 1 }
+    RepeatedChar { c, count: 1 }
 }
 
 // What is drawn of a character that begins at a display column and has so many cells.
-pub fn char_drawn(window: Window, column: u32, cells: u32, c: char) -> Repeated
+pub fn char_drawn(window: Window, column: u32, cells: u32, c: char) -> RepeatedChar
     ensures { replicate result.count result.c ≡ char_drawn (window_seen window) column cells c }
 {
     if cells == 0 {
-        return Repeated {
+        return RepeatedChar {
             c,
             count: inside(window, column, 1),
         };
@@ -64,7 +64,7 @@ pub fn char_drawn(window: Window, column: u32, cells: u32, c: char) -> Repeated
     if seen == u64::from(cells) {
         return whole(c, cells);
     }
-    Repeated {
+    RepeatedChar {
         c: ' ',
         count: seen,
     }

@@ -1,15 +1,15 @@
 //! The laws, and the worked examples of the definitions.
 
 ghost use Rattle.std.specs.Prelude.{◌≡◌, ◌<◌, ℕ, List};
-ghost use Rattle.line_painting.specs.Atoms.{Shown, atoms_of};
+ghost use Rattle.line_painting.specs.Atoms.{ShownChar, atoms_of};
 ghost use Rattle.line_painting.specs.Laws.{spelled, AreRuns, PlainLinesAreCut, AsciiIsPlain, WindowsShowCells};
 ghost use Rattle.line_painting.specs.Examples.{Examples};
 
 /// The atoms of characters, spelled out again, are these characters; no atom is empty, and neighbours have different
 /// faces. The function does nothing; its clauses are the laws.
 pub fn atoms_are_runs()
-    ensures same { (shown : List Shown) → spelled (atoms_of shown) ≡ shown }
-    ensures runs { (shown : List Shown) → AreRuns (atoms_of shown) }
+    ensures same { (shown : List ShownChar) → spelled (atoms_of shown) ≡ shown }
+    ensures runs { (shown : List ShownChar) → AreRuns (atoms_of shown) }
 {}
 
 /// Of a line of characters that have one cell each and are drawn as themselves, a window shows as many as it has

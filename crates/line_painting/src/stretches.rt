@@ -5,10 +5,10 @@ ghost use Rattle.std.specs.List.{AllByRecursion};
 ghost use Rattle.kak_text.specs.Cells.{cells_of};
 ghost use Rattle.kak_text.specs.declared.widths.TheConstants.{MAX_TABSTOP};
 ghost use Rattle.compact_chars.specs.Rows.{chars_of};
-ghost use Rattle.window_view.specs.Views.{view_of as window_seen};
+ghost use Rattle.window_view.specs.Views.{window_seen};
 ghost use Rattle.line_painting.specs.Cells.{right_of, char_drawn};
-ghost use Rattle.line_painting.specs.Laws.{IsPlain};
-ghost use Rattle.line_painting.specs.Painting.{grown_by, with_stretch, IsBehind};
+ghost use Rattle.line_painting.specs.Laws.{IsPlainChar};
+ghost use Rattle.line_painting.specs.Painting.{grown_by, with_stretch, IsColumnBehind};
 
 use crate::cells::{char_drawn, right};
 use crate::growing::Growing;
@@ -20,7 +20,7 @@ use window_view::Window;
 
 // The window by which lines are cut, and after how many columns its tab stops are.
 #[derive(Clone, Copy, Debug)]
-pub struct Frame {
+pub struct WindowFrame {
     pub window: Window,
     pub tabstop: u32,
     pub ghost some: { 1 ≤ tabstop },
@@ -29,7 +29,7 @@ pub struct Frame {
 
 // Whether a character is printable ASCII or a newline, which has one cell and is drawn as itself.
 fn is_plain(c: char) -> bool
-    ensures { result ≡ true → IsPlain c }
+    ensures { result ≡ true → IsPlainChar c }
 {
     if matches!(c, ' '..='~') {
         return true;
@@ -40,7 +40,7 @@ fn is_plain(c: char) -> bool
 // How many of the first characters are plain ones inside the window, if the first begins at a display column.
 fn plain_ahead(chars: CharsRef<'_>, window: Window, column: u32) -> usize
     ensures few { result ≤ length (chars_of chars.entry) }
-    ensures plain { AllByRecursion IsPlain (take result (chars_of chars.entry)) }
+    ensures plain { AllByRecursion IsPlainChar (take result (chars_of chars.entry)) }
     ensures left { 0 < result → window.left ≤ column }
     ensures right { 0 < result → column + result ≤ right_of (window_seen window) }
 {
@@ -58,7 +58,12 @@ fn plain_ahead(chars: CharsRef<'_>, window: Window, column: u32) -> usize
 }
 
 // Adds what a window shows of a character that begins at a display column: the column behind it.
-fn push_one(atoms: &mut Growing, c: char, frame: Frame, column: u32) -> Result<u32, AllocError>
+fn push_one(
+    atoms: &mut Growing,
+    c: char,
+    frame: WindowFrame,
+    column: u32,
+) -> Result<u32, AllocError>
     requires { column < 2 ^ 31 }
     ensures drawn { OnOk result (atoms.new ≡ grown_by atoms.old (char_drawn (window_seen frame.window) column (cells_of c column frame.tabstop) c)) }
     ensures column { IfOk result (λ behind. behind ≡ column + cells_of c column frame.tabstop) }
@@ -76,13 +81,13 @@ fn push_one(atoms: &mut Growing, c: char, frame: Frame, column: u32) -> Result<u
 pub fn push_stretch(
     atoms: &mut Growing,
     chars: CharsRef<'_>,
-    frame: Frame,
+    frame: WindowFrame,
     column: u32,
     face: Face,
 ) -> Result<u32, AllocError>
     requires { column + MAX_TABSTOP * length (chars_of chars) < 2 ^ 31 }
     ensures drawn { OnOk result (atoms.new.atoms ≡ with_stretch frame.tabstop (window_seen frame.window) atoms.old.atoms face column (chars_of chars.entry)) }
-    ensures column { IfOk result (IsBehind frame.tabstop (window_seen frame.window) column (chars_of chars.entry)) }
+    ensures column { IfOk result (IsColumnBehind frame.tabstop (window_seen frame.window) column (chars_of chars.entry)) }
     ensures small { IfOk result (λ behind. behind ≤ column + MAX_TABSTOP * length (chars_of chars.entry)) }
 {
     if chars.is_empty() {

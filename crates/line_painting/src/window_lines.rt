@@ -6,17 +6,17 @@ ghost use Rattle.text_model.specs.declared.TheConstants.{MAX_CHARS};
 ghost use Rattle.text_model.specs.Texts.{line_count};
 ghost use Rattle.compact_chars.specs.Rows.{chars_of};
 ghost use Rattle.selection_set.specs.declared.sel.Sel.{Sel as SelModel};
-ghost use Rattle.window_view.specs.Views.{view_of as window_seen};
+ghost use Rattle.window_view.specs.Views.{window_seen};
 ghost use Rattle.selection_set.specs.Held.{selected, IsHeld};
 ghost use Rattle.line_painting.specs.Atoms.{atoms_of, with_all_shown};
 ghost use Rattle.line_painting.specs.Lines.{line_shown, drawn_lines as lines_drawn};
-ghost use Rattle.line_painting.specs.Painting.{painted, first_face, with_stretch, EndsBefore, IsBehind, PartsAreDrawn};
+ghost use Rattle.line_painting.specs.Painting.{painted, first_face, with_stretch, EndsBefore, IsColumnBehind, PartsAreDrawn};
 
 use crate::cells::right;
 use crate::growing::Growing;
 use crate::paint::{Colors, Paint};
 use crate::parts::Parts;
-use crate::stretches::{Frame, push_stretch};
+use crate::stretches::{WindowFrame, push_stretch};
 use compact_chars::CharsRef;
 use drawings::{Atoms, DrawnLine, DrawnLines};
 use kak_text::{Coord, MAX_TABSTOP};
@@ -42,13 +42,13 @@ fn first_reaching(sels: &[Sel], from: usize, line: u32) -> usize
 fn push_cursor(
     atoms: &mut Growing,
     chars: CharsRef<'_>,
-    frame: Frame,
+    frame: WindowFrame,
     column: u32,
     colors: &Colors,
 ) -> Result<u32, AllocError>
     requires { column + MAX_TABSTOP * length (chars_of chars) < 2 ^ 31 }
     ensures drawn { OnOk result (atoms.new.atoms ≡ with_stretch frame.tabstop (window_seen frame.window) atoms.old.atoms (first_face colors.now (chars_of chars.entry)) column (chars_of chars.entry)) }
-    ensures column { IfOk result (IsBehind frame.tabstop (window_seen frame.window) column (chars_of chars.entry)) }
+    ensures column { IfOk result (IsColumnBehind frame.tabstop (window_seen frame.window) column (chars_of chars.entry)) }
     ensures small { IfOk result (λ behind. behind ≤ column + MAX_TABSTOP * length (chars_of chars.entry)) }
 {
     if chars.is_empty() {
@@ -61,7 +61,7 @@ fn push_cursor(
 fn push_parts(
     atoms: &mut Growing,
     line: CharsRef<'_>,
-    frame: Frame,
+    frame: WindowFrame,
     column: u32,
     parts: Parts,
     colors: &Colors,
@@ -89,7 +89,7 @@ fn push_line(
     atoms: &mut Growing,
     lines: &Lines,
     n: u32,
-    frame: Frame,
+    frame: WindowFrame,
     sels: &Sels,
     first: usize,
     paint: &Paint,
@@ -133,7 +133,7 @@ fn draw_line(
     atoms: &mut Growing,
     lines: &Lines,
     n: u32,
-    frame: Frame,
+    frame: WindowFrame,
     sels: &Sels,
     first: usize,
     paint: &Paint,
@@ -167,7 +167,7 @@ pub fn draw_lines(
     ensures { IfOk result (λ drawn. drawn ≡ lines_drawn tabstop lines.now (selected lines.now sels.now) (window_seen window)) }
 {
     let paint = Paint::standard();
-    let frame = Frame { window, tabstop };
+    let frame = WindowFrame { window, tabstop };
     let count = lines.line_count();
     let top = count.min(window.top as usize);
     let below = count.min(top + usize::from(window.rows));

@@ -9,7 +9,7 @@ use Rattle.session_turns.specs.Lines.{HasNoNewline}
 use Rattle.client_links.specs.Wires.{Wire, HearsNothing, StaysUntold, TellsNoMore}
 use Rattle.line_reading.specs.declared.limits.TheConstants.{MAX_INPUT}
 use Rattle.line_reading.specs.declared.reader.Came.{Came}
-use Rattle.line_reading.specs.Reading.{Reading, Gives, GivesLast, HasEnded, KeepsPart}
+use Rattle.line_reading.specs.Reading.{Reading, GivesNext, GivesLast, HasEnded, KeepsPart}
 use Rattle.line_reading.specs.Hearing.{inlet_of, next_of, HearsLine}
 use Rattle.line_reading.proofs.CutLemmas.{none-append}
 use Rattle.line_reading.proofs.TakenLemmas.{HasTaken}
@@ -28,7 +28,7 @@ told-trans a b c d e = record {
 
 -- what was received so far for a line, and what is told of it
 pub line-heard : {E : Type 0} (answer : Result Came E) (old new : Reading) (before now more : Wire) (line piece : List ℕ) (count : ℕ) → (s : HasTaken old (inlet_of before) (inlet_of now) line piece count) → Appends before.received now.received s.bytes → HearsNothing now more
-    → new.taken ≡ count → Gives (next_of answer) old new (inlet_of before) s.bytes → HearsLine answer old new before more
+    → new.taken ≡ count → GivesNext (next_of answer) old new (inlet_of before) s.bytes → HearsLine answer old new before more
 line-heard answer old new before now more line piece count s r h e g = record {
   reads = record { bytes = s.bytes; takes = subst (λ q. Consumes before.left q s.bytes) (sym h.1) s.takes; counted = e ∙ s.counted; few = omega (arith, e, s.few); needed = s.needed; gives = g };
   received = subst (λ q. Appends before.received q s.bytes) (sym h.0) r;

@@ -5,7 +5,7 @@ use Rattle.std.proofs.KnownBytes.{Consumes-trans}
 use Rattle.kak_ports.specs.Ports.{Inlet}
 use Rattle.session_turns.specs.Lines.{HasNoNewline}
 use Rattle.line_reading.specs.declared.limits.TheConstants.{MAX_INPUT, MAX_PIECE}
-use Rattle.line_reading.specs.Pieces.{IsTaken}
+use Rattle.line_reading.specs.Pieces.{IsPieceTaken}
 use Rattle.line_reading.specs.Reading.{Reading, IsNeeded}
 use Rattle.line_reading.proofs.CutLemmas.{none-append}
 
@@ -22,7 +22,7 @@ pub record HasTaken (old : Reading) (left rest : Inlet) (line piece : List ℕ) 
   pub faults : rest.faults ≡ left.faults
 
 -- the piece had no newline, and one more was taken
-abbrev pub more-taken : (old : Reading) (left rest more : Inlet) (line piece longer next : List ℕ) (taken count room : ℕ) → longer ≡ line ++ piece → HasNoNewline piece → IsTaken count rest more room next → room ≤ MAX_PIECE → taken + room ≤ MAX_INPUT
+abbrev pub more-taken : (old : Reading) (left rest more : Inlet) (line piece longer next : List ℕ) (taken count room : ℕ) → longer ≡ line ++ piece → HasNoNewline piece → IsPieceTaken count rest more room next → room ≤ MAX_PIECE → taken + room ≤ MAX_INPUT
     → more.most ≡ rest.most → more.faults ≡ rest.faults → HasTaken old left rest line piece taken → HasTaken old left more longer next (taken + count)
 more-taken old left rest more line piece longer next taken count room e h t one few most faults s =
     let none : HasNoNewline longer = subst HasNoNewline (sym e) (none-append line piece s.none h) in

@@ -9,7 +9,7 @@ use Rattle.session_turns.specs.Lines.{HasNoNewline}
 
 -- The piece is what a take gave: these are the next bytes of what was left, at least one, and no more than there was
 -- room for and than one take gives.
-pub record IsTaken (count : ℕ) (old new : Inlet) (room : ℕ) (piece : List ℕ) : Type 0 where
+pub record IsPieceTaken (count : ℕ) (old new : Inlet) (room : ℕ) (piece : List ℕ) : Type 0 where
   pub some : 0 < count
   pub size : length piece ≡ count
   pub inside : count ≤ room
@@ -18,7 +18,7 @@ pub record IsTaken (count : ℕ) (old new : Inlet) (room : ℕ) (piece : List �
 
 -- a take filled the piece, or gave nothing
 abbrev pub Fills : Took → Inlet → Inlet → ℕ → List ℕ → Type 0
-Fills (Got count) old new room piece = IsTaken count old new room piece
+Fills (Got count) old new room piece = IsPieceTaken count old new room piece
 Fills End old new room piece = IsAtEnd old.left × Keeps old.left new.left × (piece ≡ [])
 Fills Failed old new room piece = Keeps old.left new.left × (piece ≡ [])
 

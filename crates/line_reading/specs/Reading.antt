@@ -5,8 +5,8 @@ use Rattle.std.specs.Io.KnownBytes.{Consumes}
 use Rattle.kak_ports.specs.Ports.{Inlet, Rose}
 use Rattle.session_turns.specs.Lines.{HasNoNewline}
 use Rattle.line_reading.specs.declared.limits.TheConstants.{MAX_INPUT, MAX_PIECE}
-use Rattle.line_reading.specs.declared.reader.Next.{Next}
-use Rattle.line_reading.specs.declared.reader.Next.TheVariants.{Line, Last, Ended, ReadFault, Full}
+use Rattle.line_reading.specs.declared.reader.NextLine.{NextLine}
+use Rattle.line_reading.specs.declared.reader.NextLine.TheVariants.{Line, Last, Ended, ReadFault, Full}
 
 -- What a reader is seen as.
 pub record Reading : Type 0 where
@@ -60,24 +60,24 @@ pub record KeepsPart (old new : Reading) (bytes : List ℕ) : Type 0 where
   pub kept : new.pending ≡ old.pending ++ bytes
 
 -- what each answer says: at the limit all that may be taken was taken; without memory nothing is lost
-abbrev pub Gives : {E : Type 0} → Result Next E → Reading → Reading → Inlet → List ℕ → Type 0
-Gives (Ok Line) old new left bytes = GivesLine old new bytes
-Gives (Ok Last) old new left bytes = GivesLast old new left bytes
-Gives (Ok Ended) old new left bytes = HasEnded old new left bytes
-Gives (Ok ReadFault) old new left bytes = KeepsPart old new bytes
-Gives (Ok Full) old new left bytes = KeepsPart old new bytes × (new.taken ≡ MAX_INPUT)
-Gives (Err _) old new left bytes = new.pending ≡ old.pending ++ bytes
+abbrev pub GivesNext : {E : Type 0} → Result NextLine E → Reading → Reading → Inlet → List ℕ → Type 0
+GivesNext (Ok Line) old new left bytes = GivesLine old new bytes
+GivesNext (Ok Last) old new left bytes = GivesLast old new left bytes
+GivesNext (Ok Ended) old new left bytes = HasEnded old new left bytes
+GivesNext (Ok ReadFault) old new left bytes = KeepsPart old new bytes
+GivesNext (Ok Full) old new left bytes = KeepsPart old new bytes × (new.taken ≡ MAX_INPUT)
+GivesNext (Err _) old new left bytes = new.pending ≡ old.pending ++ bytes
 
 -- These bytes were taken, and are counted: no more than the line needs, and no more than may be taken at all.
-pub record Reads {E : Type 0} (answer : Result Next E) (old new : Reading) (left rest : Inlet) : Type 0 where
+pub record ReadsCounted {E : Type 0} (answer : Result NextLine E) (old new : Reading) (left rest : Inlet) : Type 0 where
   pub bytes : List ℕ
   pub takes : Consumes left.left rest.left bytes
   pub counted : new.taken ≡ old.taken + length bytes
   pub few : new.taken ≤ MAX_INPUT
   pub needed : IsNeeded old.pending left bytes
-  pub gives : Gives answer old new left bytes
+  pub gives : GivesNext answer old new left bytes
 
 -- a fault is told where one was met, and only there
-abbrev pub FaultIsTold : {E : Type 0} → Result Next E → Inlet → Inlet → Type 0
+abbrev pub FaultIsTold : {E : Type 0} → Result NextLine E → Inlet → Inlet → Type 0
 FaultIsTold (Ok ReadFault) left rest = Rose left.faults rest.faults
 FaultIsTold _ left rest = rest.faults ≡ left.faults

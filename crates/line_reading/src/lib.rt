@@ -8,4 +8,4 @@ mod pieces;
 pub mod reader;
 
 pub use limits::{MAX_INPUT, MAX_PIECE};
-pub use reader::{Came, LineReader, Next};
+pub use reader::{Came, LineReader, NextLine};

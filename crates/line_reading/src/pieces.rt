@@ -13,13 +13,13 @@ use std::sync::Wait;
 
 /// Bytes that were taken at once and not looked at yet, seen as their list.
 #[derive(Drop)]
-pub(crate) struct Piece {
+pub(crate) struct TakenPiece {
     bytes: [u8; 4096],
     from: usize,
     to: usize,
 }
 
-impl Model for Piece {
+impl Model for TakenPiece {
     ghost use Rattle.std.specs.Prelude.{List, ℕ, ◌≤◌, slice_range};
 
     ghost Value = { List ℕ };
@@ -29,12 +29,12 @@ impl Model for Piece {
     ghost invariant = { λ p. (p.from ≤ p.to) × (p.to ≤ 4096) };
 }
 
-impl Piece {
+impl TakenPiece {
     /// No bytes.
-    pub(crate) fn new() -> Piece
+    pub(crate) fn new() -> TakenPiece
         ensures { result ≡ [] }
     {
-        Piece {
+        TakenPiece {
             bytes: [0; 4096],
             from: 0,
             to: 0,

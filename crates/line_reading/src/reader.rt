@@ -4,11 +4,11 @@ ghost use Rattle.std.specs.Prelude.{◌≡◌, ◌==◌, ◌<◌, ◌≤◌, ◌
 ghost use Rattle.line_reading.specs.Pieces.{Moves};
 ghost use Rattle.client_links.specs.Wires.{TellsNoMore};
 ghost use Rattle.line_reading.specs.declared.limits.TheConstants.{MAX_INPUT, MAX_PIECE};
-ghost use Rattle.line_reading.specs.Reading.{Reads, FaultIsTold};
+ghost use Rattle.line_reading.specs.Reading.{ReadsCounted, FaultIsTold};
 ghost use Rattle.line_reading.specs.Hearing.{HearsLine, ReadFaultIsTold};
 
 use crate::limits::{MAX_INPUT, MAX_PIECE};
-use crate::pieces::Piece;
+use crate::pieces::TakenPiece;
 use client_links::{Heard, Link};
 use kak_ports::{Source, Took};
 use std::alloc::{AllocError, Global};
@@ -17,7 +17,7 @@ use std::sync::Wait;
 
 /// What came of the next line.
 #[derive(Clone, Copy, PartialEq, Eq, Debug)]
-pub enum Next {
+pub enum NextLine {
     /// A line came, and its newline.
     Line,
     /// The input ended behind a last line without a newline, which isn't empty.
@@ -50,7 +50,7 @@ pub enum Came {
 /// Reads the lines of one input, each at most once. No line has its newline.
 #[derive(Drop)]
 pub struct LineReader {
-    piece: Piece,
+    piece: TakenPiece,
     line: Vec<u8>,
     // whether the line was given out, and the next one begins anew
     given: bool,
@@ -89,7 +89,7 @@ fn newline_at(bytes: &[u8]) -> Option<usize>
 
 // Moves the bytes before the first newline behind a line, and leaves the newline out. Without a newline all bytes are
 // moved. Tells whether there was one.
-fn move_line(line: &mut Vec<u8>, piece: &mut Piece) -> Result<bool, AllocError>
+fn move_line(line: &mut Vec<u8>, piece: &mut TakenPiece) -> Result<bool, AllocError>
     ensures { Moves result line.old.items line.new.items piece.old piece.new }
 {
     let bytes = piece.as_slice();
@@ -134,7 +134,7 @@ impl LineReader {
         ensures line { result.line ≡ [] }
     {
         LineReader {
-            piece: Piece::new(),
+            piece: TakenPiece::new(),
             line: Vec::new(alloc),
             given: false,
             taken: 0,
@@ -149,8 +149,8 @@ impl LineReader {
     }
 
     /// Reads the next line. Where memory is wanting, nothing that was taken is lost.
-    pub fn next<I: Source>(&mut self, source: &mut I) -> Result<Next, AllocError>
-        ensures reads { Reads result self.old self.new (I.inlet source.old) (I.inlet source.new) }
+    pub fn next<I: Source>(&mut self, source: &mut I) -> Result<NextLine, AllocError>
+        ensures reads { ReadsCounted result self.old self.new (I.inlet source.old) (I.inlet source.new) }
         ensures fault { FaultIsTold result (I.inlet source.old) (I.inlet source.new) }
         ensures most { (I.inlet source.new).most ≡ (I.inlet source.old).most }
     {
@@ -159,19 +159,19 @@ impl LineReader {
         'pieces: loop {
             if move_line(&mut self.line, &mut self.piece)? {
                 self.given = true;
-                return Ok(Next::Line);
+                return Ok(NextLine::Line);
             }
             let Some(room) = room_behind(self.taken) else {
-                return Ok(Next::Full);
+                return Ok(NextLine::Full);
             };
             match self.piece.fill(source, room) {
                 Took::Got(count) => self.taken += count as u64,
-                Took::End if is_empty(&self.line) => return Ok(Next::Ended),
+                Took::End if is_empty(&self.line) => return Ok(NextLine::Ended),
                 Took::End => {
                     self.given = true;
-                    return Ok(Next::Last);
+                    return Ok(NextLine::Last);
                 }
-                Took::Failed => return Ok(Next::ReadFault),
+                Took::Failed => return Ok(NextLine::ReadFault),
             }
         }
     }

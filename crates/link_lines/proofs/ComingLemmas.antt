@@ -6,7 +6,7 @@ use Rattle.std.proofs.KnownBytes.{Appends-nil, Consumes-nil}
 use Rattle.std.proofs.lemmas.Bool.{eq-eqb}
 use Rattle.kak_ports.specs.Ports.{Inlet, Outlet}
 use Rattle.session_turns.specs.Histories.{own, answers}
-use Rattle.session_turns.specs.Turns.{Opening, plays, size}
+use Rattle.session_turns.specs.Turns.{Opening, plays, phase_size}
 use Rattle.session_turns.specs.Headline.{Stands, IsServed, Refused, Lost}
 use Rattle.session_turns.proofs.HistoryLemmas.{own-append, answers_behind-others, leave-own}
 use Rattle.session_turns.proofs.TurnLemmas.{phase_stops, phase_breaks}
@@ -25,10 +25,10 @@ use Rattle.session_lines.specs.declared.playing.Stop.{Stop}
 use Rattle.session_lines.specs.declared.playing.Stop.TheVariants as stop
 use Rattle.session_lines.specs.Session.{protocol}
 use Rattle.session_lines.specs.Serving.{Service}
-use Rattle.session_lines.specs.Connections.{end_of, WasServed}
+use Rattle.session_lines.specs.Connections.{connection_end, WasServed}
 use Rattle.link_lines.specs.declared.ended.Ended.{Ended}
 use Rattle.link_lines.specs.declared.ended.Ended.TheVariants.{Left, Closed, LinkRead, LinkWrite, InputFull, HistoryFull, Full, Broken, NoMemory}
-use Rattle.link_lines.specs.Endings.{result_of, Parts, WasServedOver, JoinsNot}
+use Rattle.link_lines.specs.Endings.{result_of, PartsHistory, WasServedOver, JoinsNot}
 
 -- entries of others behind those of a client that has none
 pub never-yet : (g : Gives) (x y : Seated) → IsSameSeat x y → own (rules g) x.number x.seen ≡ [] → Sees g x y → own (rules g) y.number y.seen ≡ []
@@ -69,7 +69,7 @@ refused-stands : (g : Service) (k : ℕ) (h : List Entry) → own (rules g.gives
 refused-stands g k h e =
     never-stands (protocol g.opens) (rules g.gives) k h [] [] (phase_stops (protocol g.opens) Opening [] (plays (protocol g.opens) Opening, refl) some) (record { answered = none-answered g.gives k h e; stood = e })
   where
-    some : 0 < size (protocol g.opens) Opening
+    some : 0 < phase_size (protocol g.opens) Opening
     some = omega arith
 
 lost-stands : (g : Service) (k : ℕ) (h : List Entry) → own (rules g.gives) k h ≡ [] → Stands (protocol g.opens) (rules g.gives) Lost k h [] []
@@ -93,7 +93,7 @@ nothing-full g k h a left none = (
   refl,
 )
 
-nothing-lost : (g : Service) (k : ℕ) (h : List Entry) (a : Outlet) (left : Inlet) (why : Stop) → end_of (Err why) ≡ Lost → own (rules g.gives) k h ≡ [] → (w : WasServed true g k h a a left left (Err why)) × (w.bytes ≡ [])
+nothing-lost : (g : Service) (k : ℕ) (h : List Entry) (a : Outlet) (left : Inlet) (why : Stop) → connection_end (Err why) ≡ Lost → own (rules g.gives) k h ≡ [] → (w : WasServed true g k h a a left left (Err why)) × (w.bytes ≡ [])
 nothing-lost g k h a left why lost none = (
   record {
     bytes = [];
@@ -110,7 +110,7 @@ nothing-lost g k h a left why lost none = (
 )
 
 -- that is a serving
-bare-row : (g : Service) (k : ℕ) (h : List Entry) (a : Wire) (e : Ended) → Parts g.gives e k h h → (w : WasServed true g k h a.outlet a.outlet (inlet_of a) (inlet_of a) (result_of e)) × (w.bytes ≡ []) → WasServedOver g k h a a e
+bare-row : (g : Service) (k : ℕ) (h : List Entry) (a : Wire) (e : Ended) → PartsHistory g.gives e k h h → (w : WasServed true g k h a.outlet a.outlet (inlet_of a) (inlet_of a) (result_of e)) × (w.bytes ≡ []) → WasServedOver g k h a a e
 bare-row g k h a e parts w = record { front = h; served = w.0; received = subst (λ bs. Appends a.received a.received bs) (sym w.1) (Appends-nil a.received); parting = parts }
 
 -- how a serving ended where the client couldn't come

@@ -10,13 +10,13 @@ use Rattle.json_ui.specs.declared.request.Request.TheVariants.{Nothing, Keys}
 use Rattle.json_ui.specs.Requests.{read_request}
 use Rattle.drawings.specs.declared.refusal.Refusal.{Refusal}
 use Rattle.session_turns.specs.Histories.{Answer, own, events_of, is_leaving}
-use Rattle.session_turns.specs.Turns.{Phase, Opening, During, Line, Idle, plays, size, due}
+use Rattle.session_turns.specs.Turns.{Phase, Opening, During, Line, Idle, plays, phase_size, due}
 use Rattle.session_turns.specs.Growth.{Begins, How, Whole, Over, Short, Unsent, Lost, Fits}
 use Rattle.session_events.specs.declared.event.Event.{Event}
 use Rattle.session_events.specs.declared.event.Event.TheVariants.{Refresh, Leave}
 use Rattle.session_events.specs.declared.event.Entry.{Entry}
 use Rattle.session_events.specs.Entries.{entry_with}
-use Rattle.session_events.specs.Legal.{Presence, Away, is_here, moved_by, presence_from}
+use Rattle.session_events.specs.Legal.{Presence, Away, is_here, presence_after, presence_from}
 use Rattle.session_events.specs.Meaning.{Gives, rules}
 use Rattle.session_events.specs.Seats.{Seated, Sees}
 use Rattle.session_events.proofs.LegalLemmas.{presence-append}
@@ -29,7 +29,7 @@ use Rattle.session_lines.specs.Serving.{Service, Serves, HasGone, how_of, line_p
 use Rattle.link_lines.specs.declared.ended.Ended.{Ended}
 use Rattle.link_lines.specs.declared.ended.Ended.TheVariants.{Left, Closed, LinkRead, LinkWrite, InputFull, HistoryFull, Full, Broken, NoMemory}
 use Rattle.link_lines.specs.Endings.{JoinsNot}
-use Rattle.link_lines.specs.Talking.{IsDrawn, DrawsMissed}
+use Rattle.link_lines.specs.Talking.{IsDrawnUnasked, DrawsMissed}
 use Rattle.link_lines.specs.Drawings.{is_unasked, DrawsMissedBehind, DrawsOnlyMissed}
 use Rattle.link_lines.proofs.LostLemmas.{unsent-lost}
 
@@ -76,7 +76,7 @@ missed-foreign k b n other m =
     both (is_here (presence_from k Away b)) (has_news k b) (is_here (presence_from k Away (b ++ n ∷ []))) (has_news k (b ++ n ∷ [])) (ap is_here (presence-append k Away b (n ∷ []) ∙ away (n.who == k) (presence_from k Away b) other))
     (by (is_drawing n.event) refl) m
   where
-    away : (t : Bool) (p : Presence) → t ≡ false → (if t then moved_by n.event p else p) ≡ p
+    away : (t : Bool) (p : Presence) → t ≡ false → (if t then presence_after n.event p else p) ≡ p
     away true p e = cc
     away false p e = refl
 
@@ -103,7 +103,7 @@ drawn-once g k b (n ∷ more) rest m e = by (n.who == k) refl (λ missed f. draw
 
 -- what phases play of which there is one, or a beginning of it
 due-one : (opens : List Key) (phase : Phase) (got : List (Answer Event)) → due (protocol opens) (phase ∷ []) got ≡ plays (protocol opens) phase
-due-one opens phase got = none-behind (is_leaving (take (size (protocol opens) phase) got)) (plays (protocol opens) phase) ∙ append-nil (plays (protocol opens) phase)
+due-one opens phase got = none-behind (is_leaving (take (phase_size (protocol opens) phase) got)) (plays (protocol opens) phase) ∙ append-nil (plays (protocol opens) phase)
   where
     none-behind : (t : Bool) (es : List Event) → es ++ flat_map (plays (protocol opens)) (if t then [] else []) ≡ es ++ []
     none-behind true es = refl
@@ -151,7 +151,7 @@ pub sees-draws : (g : Gives) (x y : Seated) (k : ℕ) → x.number ≡ k → See
 sees-draws g x y k e s d = grown g k x.number x.seen y.seen s.between e s.stands (none-asked _ s.foreign) d
 
 -- and the client was drawn what it had missed
-drawn-draws : (g : Service) (x y : Seated) (a b : Outlet) (how : How) (k : ℕ) → x.number ≡ k → IsDrawn g x y a b how → DrawsOnlyMissed k x.seen → DrawsOnlyMissed k y.seen
+drawn-draws : (g : Service) (x y : Seated) (a b : Outlet) (how : How) (k : ℕ) → x.number ≡ k → IsDrawnUnasked g x y a b how → DrawsOnlyMissed k x.seen → DrawsOnlyMissed k y.seen
 drawn-draws g x y a b how k e w d =
     let n : w.looked.number ≡ k = w.same.number ∙ e in
     let s = w.serves in

@@ -22,7 +22,7 @@ use Rattle.session_lines.proofs.ConnectionLemmas.{all-left, leaving-lost, unwrit
 use Rattle.link_lines.specs.declared.ended.Ended.{Ended}
 use Rattle.link_lines.specs.declared.ended.Ended.TheVariants.{Left, Closed, LinkRead, LinkWrite, InputFull, HistoryFull, Broken, NoMemory}
 use Rattle.link_lines.specs.Talking.{PlaysOver}
-use Rattle.link_lines.specs.Endings.{ended_of, result_of, HasParted, Parts, WasServedOver}
+use Rattle.link_lines.specs.Endings.{ended_of, result_of, HasParted, PartsHistory, WasServedOver}
 use Rattle.link_lines.proofs.LostLemmas.{plays-lost}
 
 -- the client by its number
@@ -30,7 +30,7 @@ pub as-who : (g : Service) (k n : ℕ) (h : List Entry) (before now : Wire) (e :
 as-who g k n h before now e same w = subst (λ m. WasServedOver g m h before now e) same w
 
 -- what was served, and what was received meanwhile
-row : (g : Service) (k : ℕ) (h front : List Entry) (before now : Wire) (e : Ended) (bytes : List ℕ) → Parts g.gives e k front h → Appends before.received now.received bytes
+row : (g : Service) (k : ℕ) (h front : List Entry) (before now : Wire) (e : Ended) (bytes : List ℕ) → PartsHistory g.gives e k front h → Appends before.received now.received bytes
     → (w : WasServed true g k front before.outlet now.outlet (inlet_of before) (inlet_of now) (result_of e)) × (w.bytes ≡ bytes) → WasServedOver g k h before now e
 row g k h front before now e bytes parts r w = record { front = front; served = w.0; received = subst (λ bs. Appends before.received now.received bs) (sym w.1) r; parting = parts }
 

@@ -12,7 +12,7 @@ use Rattle.session_turns.specs.Growth.{How, Whole}
 use Rattle.session_events.specs.Seats.{Seated, IsSameSeat}
 use Rattle.client_links.specs.Wires.{Wire, IsSameHearing}
 use Rattle.line_reading.specs.declared.limits.TheConstants.{MAX_PIECE}
-use Rattle.line_reading.specs.declared.reader.Next.TheVariants as next
+use Rattle.line_reading.specs.declared.reader.NextLine.TheVariants as next
 use Rattle.line_reading.specs.declared.reader.Came.{Came}
 use Rattle.line_reading.specs.declared.reader.Came.TheVariants as came
 use Rattle.line_reading.specs.Reading.{Reading}

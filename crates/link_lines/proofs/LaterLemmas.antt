@@ -18,10 +18,10 @@ use Rattle.session_lines.specs.declared.reading.InputEnd.{InputEnd}
 use Rattle.session_lines.specs.Session.{protocol}
 use Rattle.session_lines.specs.Serving.{Service}
 use Rattle.session_lines.specs.Reading.{EndIs}
-use Rattle.session_lines.specs.Connections.{end_of, WasServed}
+use Rattle.session_lines.specs.Connections.{connection_end, WasServed}
 use Rattle.link_lines.specs.declared.ended.Ended.{Ended}
 use Rattle.link_lines.specs.declared.ended.Ended.TheVariants.{Left, Closed, LinkRead, LinkWrite, InputFull, HistoryFull, Full, Broken, NoMemory}
-use Rattle.link_lines.specs.Endings.{result_of, HasParted, Parts, WasServedOver}
+use Rattle.link_lines.specs.Endings.{result_of, HasParted, PartsHistory, WasServedOver}
 
 -- entries of others give the client nothing and are none of its own
 own-later : (g : Gives) (k : ℕ) (h more : List Entry) → own (rules g) k more ≡ [] → own (rules g) k (h ++ more) ≡ own (rules g) k h
@@ -42,14 +42,14 @@ served-by u g k h later a b left rest r w o e = (
     asked = w.asked;
     out = w.out;
     sends = w.sends;
-    served = record { lines = w.served.lines; stands = stands-later (protocol g.opens) (rules g.gives) (end_of r) k h later w.turns w.out o e w.served.stands };
+    served = record { lines = w.served.lines; stands = stands-later (protocol g.opens) (rules g.gives) (connection_end r) k h later w.turns w.out o e w.served.stands };
     end_is = subst (λ got. EndIs g.opens (Opening ∷ []) w.turns got r left w.bytes) (sym e) w.end_is;
   },
   refl,
 )
 
 -- where the headline speaks of the whole history
-whole-later : (g : Service) (k : ℕ) (h more : List Entry) (before now : Wire) (e : Ended) (w : WasServedOver g k h before now e) → own (rules g.gives) k more ≡ [] → h ≡ w.front → Parts g.gives e k (h ++ more) (h ++ more) → WasServedOver g k (h ++ more) before now e
+whole-later : (g : Service) (k : ℕ) (h more : List Entry) (before now : Wire) (e : Ended) (w : WasServedOver g k h before now e) → own (rules g.gives) k more ≡ [] → h ≡ w.front → PartsHistory g.gives e k (h ++ more) (h ++ more) → WasServedOver g k (h ++ more) before now e
 whole-later g k h more before now e w none all parts =
     let v = served-by true g k w.front (h ++ more) before.outlet now.outlet (inlet_of before) (inlet_of now) (result_of e) w.served
     (own-later g.gives k h more none ∙ ap (own (rules g.gives) k) all) (answers-later g.gives k h more none ∙ ap (answers (rules g.gives) k) all) in

@@ -6,7 +6,7 @@ use Rattle.std.proofs.lemmas.Bool.{le-ltb}
 use Rattle.std.proofs.lemmas.List.{take_all}
 use Rattle.kak_ports.specs.Ports.{Inlet, Outlet}
 use Rattle.session_turns.specs.Histories.{Answer, events_of, bytes_of, is_leaving}
-use Rattle.session_turns.specs.Turns.{Phase, Protocol, later, plays, says, size, played, due, all_sent, sent}
+use Rattle.session_turns.specs.Turns.{Phase, Protocol, later, plays, says, phase_size, played, due, all_sent, sent}
 use Rattle.session_turns.specs.Growth.{Begins, IsUnsent, IsLost}
 use Rattle.session_turns.proofs.Lists.{events_of-append, length-events_of}
 use Rattle.session_turns.proofs.TurnLemmas.{due-append, sent-append, unsent-more}
@@ -17,19 +17,19 @@ use Rattle.session_lines.specs.Serving.{Service}
 use Rattle.session_lines.specs.Connections.{Plays}
 
 -- what a phase that was answered whole sends, and those behind it
-one-first : {E : Type 0} (p : Protocol E) (t : Phase) (ts : List Phase) (a : List (Answer E)) → events_of a ≡ plays p t → all_sent p (t ∷ ts) a ≡ (bytes_of a ++ says p t) ++ all_sent p ts (drop (size p t) a)
+one-first : {E : Type 0} (p : Protocol E) (t : Phase) (ts : List Phase) (a : List (Answer E)) → events_of a ≡ plays p t → all_sent p (t ∷ ts) a ≡ (bytes_of a ++ says p t) ++ all_sent p ts (drop (phase_size p t) a)
 one-first p t ts a e =
-    let count : length a ≡ size p t = sym (length-events_of a) ∙ ap length e in
-    let m : size p t ≤ length a = omega (arith, count) in
-    let all : take (size p t) a ≡ a = take_all (size p t) a (omega (arith, count)) in
-    rw (le-ltb (length a) (size p t) m, all) refl
+    let count : length a ≡ phase_size p t = sym (length-events_of a) ∙ ap length e in
+    let m : phase_size p t ≤ length a = omega (arith, count) in
+    let all : take (phase_size p t) a ≡ a = take_all (phase_size p t) a (omega (arith, count)) in
+    rw (le-ltb (length a) (phase_size p t) m, all) refl
 
 joined : {A : Type 0} (whole first front rest a b : List A) → whole ≡ first ++ (b ++ rest) → a ≡ first ++ b → whole ≡ a ++ rest
 joined whole first front rest a b w e = w ∙ sym (append_assoc first b rest) ∙ ap (λ q. q ++ rest) (sym e)
 
 unsent-due : {E : Type 0} (p : Protocol E) (ts : List Phase) (a : List (Answer E)) (x : List ℕ) → IsUnsent p ts a x → Begins (due p ts a) (events_of a)
 unsent-due p ts a x u =
-    let rest : List _ = flat_map (plays p) (if is_leaving (take (size p u.at) u.late) then [] else played p u.behind (drop (size p u.at) u.late)) in (
+    let rest : List _ = flat_map (plays p) (if is_leaving (take (phase_size p u.at) u.late) then [] else played p u.behind (drop (phase_size p u.at) u.late)) in (
       rest,
       joined (due p ts a) (events_of u.early) [] rest (events_of a) (events_of u.late)
           (ap (λ q. due p q a) u.split ∙ ap (due p (u.before ++ u.at ∷ u.behind)) u.answers
@@ -40,8 +40,8 @@ unsent-due p ts a x u =
 
 unsent-sent : {E : Type 0} (p : Protocol E) (ts : List Phase) (a : List (Answer E)) (x : List ℕ) → IsUnsent p ts a x → Begins (sent p ts a) x
 unsent-sent p ts a x u =
-    let behind : List Phase = if is_leaving (take (size p u.at) u.late) then [] else played p u.behind (drop (size p u.at) u.late) in
-    let more : List ℕ = all_sent p behind (drop (size p u.at) u.late) in (
+    let behind : List Phase = if is_leaving (take (phase_size p u.at) u.late) then [] else played p u.behind (drop (phase_size p u.at) u.late) in
+    let more : List ℕ = all_sent p behind (drop (phase_size p u.at) u.late) in (
       u.begins.0 ++ more,
       joined (sent p ts a) u.first [] (u.begins.0 ++ more) x u.front
           (ap (λ q. sent p q a) u.split ∙ ap (sent p (u.before ++ u.at ∷ u.behind)) u.answers

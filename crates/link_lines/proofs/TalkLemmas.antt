@@ -19,14 +19,14 @@ use Rattle.session_lines.specs.Serving.{Service, Serves, AreCut, IsAnswered, tel
 use Rattle.session_lines.specs.Stops.{StopsFor}
 use Rattle.session_lines.proofs.TakingLemmas.{sees-add}
 use Rattle.session_lines.proofs.ServingLemmas.{serves-append, serves-cut, answered-told, answered-untold}
-use Rattle.link_lines.specs.Talking.{IsDrawn, DrawsMissed}
+use Rattle.link_lines.specs.Talking.{IsDrawnUnasked, DrawsMissed}
 
 -- a line is served by the name under which it was read
 pub as-line : (g : Service) (x y : Seated) (a b : Outlet) (how : How) (said line : List ℕ) → said ≡ line → Serves g x y a b how (line_phases (said ∷ [])) → Serves g x y a b how (line_phases (line ∷ []))
 as-line g x y a b how said line e s = subst (λ q. Serves g x y a b how (line_phases (q ∷ []))) e s
 
 -- a drawing stopped, or its sending did
-as-stopped : (A : Type 0) (g : Service) (old new : Seated) (a b : Outlet) (why : Stop) → IsDrawn g old new a b (how_of (Err why)) → DrawsMissed {A = A} g old new a b (Err why)
+as-stopped : (A : Type 0) (g : Service) (old new : Seated) (a b : Outlet) (why : Stop) → IsDrawnUnasked g old new a b (how_of (Err why)) → DrawsMissed {A = A} g old new a b (Err why)
 as-stopped A g old new a b stop.HistoryFull d = d
 as-stopped A g old new a b (stop.Broken at) d = inr d
 as-stopped A g old new a b stop.NoMemory d = d
@@ -81,7 +81,7 @@ sees-lost g old new a b s e = record {
   fits = record { events = λ more. (due (protocol g.opens) more [], refl); bytes = λ more. (sent (protocol g.opens) more [], refl) };
 }
 
-drawn-serves : (g : Service) (old new : Seated) (a b : Outlet) (how : How) → IsDrawn g old new a b how → Serves g old new a b how (later (Idle ∷ []))
+drawn-serves : (g : Service) (old new : Seated) (a b : Outlet) (how : How) → IsDrawnUnasked g old new a b how → Serves g old new a b how (later (Idle ∷ []))
 drawn-serves g old new a b how d = serves-append g old d.looked new a a b how [] (During Idle ∷ []) d.same (sees-serves g old d.looked a a d.sees refl) d.serves
 
 pub unasked : {A : Type 0} (r : Result A Stop) (g : Service) (old new : Seated) (a b : Outlet) → DrawsMissed g old new a b r → DrawsUnasked g old new a b r

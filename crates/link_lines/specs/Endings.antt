@@ -56,9 +56,9 @@ pub record HasParted (gives : Gives) (who : ℕ) (front history : List Entry) : 
 
 -- The part of the history that a headline speaks of: where sending failed, what stands before the client's leaving, which
 -- is no part of what is due then; else all.
-abbrev pub Parts : Gives → Ended → ℕ → List Entry → List Entry → Type 0
-Parts gives LinkWrite who front history = HasParted gives who front history
-Parts gives _ who front history = history ≡ front
+abbrev pub PartsHistory : Gives → Ended → ℕ → List Entry → List Entry → Type 0
+PartsHistory gives LinkWrite who front history = HasParted gives who front history
+PartsHistory gives _ who front history = history ≡ front
 
 -- A connection was served over a link: the bytes that were received stand behind those received before, and the history,
 -- or its part before the leaving where sending failed, is what serving their lines makes.
@@ -66,7 +66,7 @@ pub record WasServedOver (with : Service) (who : ℕ) (history : List Entry) (be
   pub front : List Entry
   pub served : WasServed true with who front before.outlet now.outlet (inlet_of before) (inlet_of now) (result_of ended)
   pub received : Appends before.received now.received served.bytes
-  pub parting : Parts with.gives ended who front history
+  pub parting : PartsHistory with.gives ended who front history
 
 -- the client has no entry
 abbrev pub NeverCame : Gives → ℕ → List Entry → Type 0

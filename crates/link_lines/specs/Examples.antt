@@ -6,17 +6,17 @@ use Rattle.session_events.specs.declared.event.Entry.{Entry}
 use Rattle.session_events.specs.Entries.{entry_of}
 use Rattle.link_lines.specs.Drawings.{DrawsOnlyMissed}
 
-abbrev pub drawn : List Entry
-drawn = entry_of 1 Join ∷ entry_of 0 Join ∷ entry_of 0 (Refresh true) ∷ []
+abbrev pub drawn_once : List Entry
+drawn_once = entry_of 1 Join ∷ entry_of 0 Join ∷ entry_of 0 (Refresh true) ∷ []
 
 pub record Examples : Type 0 where
   -- it has missed a key of the other client
-  pub key_of_other : (key : Key) → DrawsOnlyMissed 0 (drawn ++ entry_of 1 (Struck key) ∷ entry_of 0 (Refresh false) ∷ [])
+  pub key_of_other : (key : Key) → DrawsOnlyMissed 0 (drawn_once ++ entry_of 1 (Struck key) ∷ entry_of 0 (Refresh false) ∷ [])
   -- behind its own drawing nothing is missed
-  pub nothing_missed : DrawsOnlyMissed 0 (drawn ++ entry_of 0 (Refresh false) ∷ []) → ⊥
+  pub nothing_missed : DrawsOnlyMissed 0 (drawn_once ++ entry_of 0 (Refresh false) ∷ []) → ⊥
   -- nor behind the drawing that showed it what it had missed
-  pub drawn_twice : (key : Key) → DrawsOnlyMissed 0 (drawn ++ entry_of 1 (Struck key) ∷ entry_of 0 (Refresh false) ∷ entry_of 0 (Refresh false) ∷ []) → ⊥
+  pub drawn_twice : (key : Key) → DrawsOnlyMissed 0 (drawn_once ++ entry_of 1 (Struck key) ∷ entry_of 0 (Refresh false) ∷ entry_of 0 (Refresh false) ∷ []) → ⊥
   -- whoever asks is drawn
-  pub asked : DrawsOnlyMissed 0 (drawn ++ entry_of 0 (Refresh true) ∷ [])
+  pub asked : DrawsOnlyMissed 0 (drawn_once ++ entry_of 0 (Refresh true) ∷ [])
   -- drawings of others say nothing of it
-  pub other_drawn : DrawsOnlyMissed 0 (drawn ++ entry_of 1 (Refresh false) ∷ entry_of 1 (Refresh false) ∷ [])
+  pub other_drawn : DrawsOnlyMissed 0 (drawn_once ++ entry_of 1 (Refresh false) ∷ entry_of 1 (Refresh false) ∷ [])

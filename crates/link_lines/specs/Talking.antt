@@ -28,7 +28,7 @@ pub record SeesBroken (gives : Gives) (old new : Seated) (before now : Outlet) :
   pub silent : now ≡ before
 
 -- The client was seen to have missed something, and was drawn once without having asked for it.
-pub record IsDrawn (with : Service) (old new : Seated) (before now : Outlet) (how : How) : Type 0 where
+pub record IsDrawnUnasked (with : Service) (old new : Seated) (before now : Outlet) (how : How) : Type 0 where
   pub looked : Seated
   pub same : IsSameSeat old looked
   pub sees : Sees with.gives old looked
@@ -37,9 +37,9 @@ pub record IsDrawn (with : Service) (old new : Seated) (before now : Outlet) (ho
 
 -- the client is drawn where it has missed something, and only there
 abbrev pub DrawsMissed : {A : Type 0} → Service → Seated → Seated → Outlet → Outlet → Result A Stop → Type 0
-DrawsMissed with old new before now (Ok _) = MissesNothing with.gives old new before now ⊎ IsDrawn with old new before now Whole
-DrawsMissed with old new before now (Err (Broken at)) = SeesBroken with.gives old new before now ⊎ IsDrawn with old new before now (how_of (Err (Broken at)))
-DrawsMissed with old new before now (Err why) = IsDrawn with old new before now (how_of (Err why))
+DrawsMissed with old new before now (Ok _) = MissesNothing with.gives old new before now ⊎ IsDrawnUnasked with old new before now Whole
+DrawsMissed with old new before now (Err (Broken at)) = SeesBroken with.gives old new before now ⊎ IsDrawnUnasked with old new before now (how_of (Err (Broken at)))
+DrawsMissed with old new before now (Err why) = IsDrawnUnasked with old new before now (how_of (Err why))
 
 -- Behind some first phases turns were played, whose lines are those of what was received.
 pub record PlaysOver (first : List Phase) (with : Service) (old new : Seated) (before now : Wire) (result : Result InputEnd Stop) : Type 0 where

@@ -15,12 +15,12 @@ use Rattle.motion_keys.specs.Landmarks.{line_begin}
 use Rattle.motion_keys.proofs.ExtremeLemmas.{least-here, least-later}
 use Rattle.motion_keys.specs.declared.direction.Direction.{Direction}
 use Rattle.motion_keys.specs.declared.direction.Direction.TheVariants.{Forward, Backward}
-use Rattle.list_keys.specs.Copies.{away, is_there, copy_of}
+use Rattle.list_keys.specs.Copies.{away, is_copy_there, copy_of}
 use Rattle.list_keys.proofs.FoundLemmas.{only-least}
 
 -- whether two coordinates have their places so many lines away
 abbrev pub has_both : Direction → List ℕ → Coord → Coord → ℕ → Bool
-has_both direction text low high d = is_there direction text d low && is_there direction text d high
+has_both direction text low high d = is_copy_there direction text d low && is_copy_there direction text d high
 
 -- the range between them
 abbrev pub range_away : Direction → List ℕ → Coord → Coord → Bool → ℕ → Range
@@ -83,7 +83,7 @@ IsUpto Forward d at = Unit {0}
 IsUpto Backward d at = d ≤ at.line
 
 -- whether the column is there, once the line is
-there-is : (text : List ℕ) (direction : Direction) (at : Coord) (d : ℕ) → IsUpto direction d at → is_there direction text d at ≡ ltb (away direction d at).column (length (nth_line text (away direction d at).line))
+there-is : (text : List ℕ) (direction : Direction) (at : Coord) (d : ℕ) → IsUpto direction d at → is_copy_there direction text d at ≡ ltb (away direction d at).column (length (nth_line text (away direction d at).line))
 there-is text Forward at d h = refl
 there-is text Backward at d h = ap (λ b. b && ltb at.column (length (nth_line text (at.line - d)))) (le-leb d at.line h)
 
@@ -96,7 +96,7 @@ upto_high text Forward sel d h = tt
 upto_high text Backward sel d h = omega (arith, h.0, h.1)
 
 -- a test of what was read
-tested : (text : List ℕ) (direction : Direction) (at moved : Coord) (d : ℕ) (b : Bool) → IsUpto direction d at → moved ≡ away direction d at → ltb moved.column (length (nth_line text moved.line)) ≡ b → is_there direction text d at ≡ b
+tested : (text : List ℕ) (direction : Direction) (at moved : Coord) (d : ℕ) (b : Bool) → IsUpto direction d at → moved ≡ away direction d at → ltb moved.column (length (nth_line text moved.line)) ≡ b → is_copy_there direction text d at ≡ b
 tested text direction at moved d b h m e = there-is text direction at d h ∙ ap (λ (c : Coord). ltb c.column (length (nth_line text c.line))) (sym m) ∙ e
 
 -- a place so many lines away
@@ -150,7 +150,7 @@ pub copy-later-low : (text : List ℕ) (direction : Direction) (sel : Sel) (d : 
     → whole ≡ copy_from direction text sel.low sel.high sel.turned d → whole ≡ copy_from direction text sel.low sel.high sel.turned (d + 1)
 copy-later-low text direction sel d low whole n e t w =
     w ∙ ap (option_map (range_away direction text sel.low sel.high sel.turned)) (least-later (has_both direction text sel.low sel.high) d (line_count text) (near-count text direction sel d n)
-    (ap (λ a. a && is_there direction text d sel.high) (tested text direction sel.low low d false (upto_low text direction sel d n) e t)))
+    (ap (λ a. a && is_copy_there direction text d sel.high) (tested text direction sel.low low d false (upto_low text direction sel d n) e t)))
 
 and-false : (a b : Bool) → b ≡ false → a && b ≡ false
 and-false true b k = k
@@ -160,7 +160,7 @@ pub copy-later-high : (text : List ℕ) (direction : Direction) (sel : Sel) (d :
     → whole ≡ copy_from direction text sel.low sel.high sel.turned d → whole ≡ copy_from direction text sel.low sel.high sel.turned (d + 1)
 copy-later-high text direction sel d high whole n e t w =
     w ∙ ap (option_map (range_away direction text sel.low sel.high sel.turned)) (least-later (has_both direction text sel.low sel.high) d (line_count text) (near-count text direction sel d n)
-    (and-false (is_there direction text d sel.low) (is_there direction text d sel.high) (tested text direction sel.high high d false (upto_high text direction sel d n) e t)))
+    (and-false (is_copy_there direction text d sel.low) (is_copy_there direction text d sel.high) (tested text direction sel.high high d false (upto_high text direction sel d n) e t)))
 
 -- beyond the lines there is none
 no_line : (text : List ℕ) (n column : ℕ) → line_count text ≤ n → ltb column (length (nth_line text n)) ≡ false
@@ -172,5 +172,5 @@ copy-over text direction sel d limit whole e f l w =
     w ∙ ap (option_map (range_away direction text sel.low sel.high sel.turned)) (only-least (has_both direction text sel.low sel.high) d (line_count text) None (λ k g b. none direction e f k g))
   where
     none : (b : Direction) → (b ≡ Forward → limit ≡ line_count text - sel.high.line) → (b ≡ Backward → limit ≡ sel.low.line + 1) → (k : ℕ) → d ≤ k → has_both b text sel.low sel.high k ≡ false
-    none Forward e f k g = and-false (is_there Forward text k sel.low) (is_there Forward text k sel.high) (no_line text (sel.high.line + k) sel.high.column (omega (arith, e refl)))
-    none Backward e f k g = ap (λ (b : Bool). (b && ltb sel.low.column (length (nth_line text (sel.low.line - k)))) && is_there Backward text k sel.high) (leb_false k sel.low.line (omega (arith, f refl)))
+    none Forward e f k g = and-false (is_copy_there Forward text k sel.low) (is_copy_there Forward text k sel.high) (no_line text (sel.high.line + k) sel.high.column (omega (arith, e refl)))
+    none Backward e f k g = ap (λ (b : Bool). (b && ltb sel.low.column (length (nth_line text (sel.low.line - k)))) && is_copy_there Backward text k sel.high) (leb_false k sel.low.line (omega (arith, f refl)))

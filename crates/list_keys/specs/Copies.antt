@@ -14,9 +14,9 @@ away Forward d at = record { line = at.line + d; column = at.column }
 away Backward d at = record { line = at.line - d; column = at.column }
 
 -- whether that line is there, and has a character in that column; its newline is one
-abbrev pub is_there : Direction → List ℕ → ℕ → Coord → Bool
-is_there Forward text d at = nat_lt at.column (length (nth_line text (at.line + d)))
-is_there Backward text d at = nat_le d at.line && nat_lt at.column (length (nth_line text (at.line - d)))
+abbrev pub is_copy_there : Direction → List ℕ → ℕ → Coord → Bool
+is_copy_there Forward text d at = nat_lt at.column (length (nth_line text (at.line + d)))
+is_copy_there Backward text d at = nat_le d at.line && nat_lt at.column (length (nth_line text (at.line - d)))
 
 -- how many lines a selection spans
 abbrev pub span : List ℕ → Range → ℕ
@@ -24,7 +24,7 @@ span text r = (coord_at text r.high).line - (coord_at text r.low).line + 1
 
 -- whether both ends of a selection have their places so many lines away
 abbrev pub has_copy : Direction → List ℕ → Range → ℕ → Bool
-has_copy direction text r d = is_there direction text d (coord_at text r.low) && is_there direction text d (coord_at text r.high)
+has_copy direction text r d = is_copy_there direction text d (coord_at text r.low) && is_copy_there direction text d (coord_at text r.high)
 
 -- the selection so many lines away, with its flag and without a target
 abbrev pub copy_at : Direction → List ℕ → Range → ℕ → Range

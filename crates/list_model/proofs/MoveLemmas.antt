@@ -6,7 +6,7 @@ use Rattle.text_model.specs.Mapping.{shifted}
 use Rattle.text_model.proofs.PlaceLemmas.{leb_true, leb_false}
 use Rattle.text_model.proofs.MappingLemmas.{shifted-mono}
 use Rattle.list_model.specs.Ranges.{Range, Selected, IsRange}
-use Rattle.list_model.specs.Settling.{sweep, sweep_place, joined, ranges, placed, sorted, slot, past_slot, sorted_place, swept, swept_place, settled, each_settled, carried}
+use Rattle.list_model.specs.Settling.{sweep, sweep_place, joined_range, ranges, placed, sorted, slot, past_slot, sorted_place, swept, swept_place, settled, each_settled, carried}
 use Rattle.list_model.specs.Settled.{HoldsAtPlace, Holds, AreApart, IsSettled, IsSettledList}
 use Rattle.list_model.specs.Moving.{all_shifted, IsMovedAtEach, moved_at_once, IsMove}
 use Rattle.list_model.proofs.ListLemmas.{all_weaker, place_weaker, all_map, place_map, place_of_below, below_of_place}
@@ -19,31 +19,31 @@ use Rattle.list_model.proofs.UniqueLemmas.{same_range, settled-unique}
 pub ranges_join : JoinsWell ranges
 ranges_join = record {
   later = λ a b c. refl;
-  longer = λ a b c e. leb_true c.low (joined a b).high (omega (arith, leb-true c.low b.high e, joined_holds_second a b));
-  assoc = λ a b c. same_range (joined (joined a b) c) (joined a (joined b c)) refl (highs a b c) refl refl;
+  longer = λ a b c e. leb_true c.low (joined_range a b).high (omega (arith, leb-true c.low b.high e, joined_holds_second a b));
+  assoc = λ a b c. same_range (joined_range (joined_range a b) c) (joined_range a (joined_range b c)) refl (highs a b c) refl refl;
 }
   where
-    highs : (a b c : Range) → (joined (joined a b) c).high ≡ (joined a (joined b c)).high
+    highs : (a b c : Range) → (joined_range (joined_range a b) c).high ≡ (joined_range a (joined_range b c)).high
     highs a b c =
         elim (joined_cases a b) [
-          | inl u ↦ elim (joined_cases (joined a b) c) [
+          | inl u ↦ elim (joined_cases (joined_range a b) c) [
             | inl v ↦ elim (joined_cases b c) [
-              | inl w ↦ elim (joined_cases a (joined b c)) [ inl x ↦ omega (arith, u.0, u.1, v.0, v.1, w.0, w.1, x.0, x.1) | inr x ↦ omega (arith, u.0, u.1, v.0, v.1, w.0, w.1, x.0, x.1) ]
-              | inr w ↦ elim (joined_cases a (joined b c)) [ inl x ↦ omega (arith, u.0, u.1, v.0, v.1, w.0, w.1, x.0, x.1) | inr x ↦ omega (arith, u.0, u.1, v.0, v.1, w.0, w.1, x.0, x.1) ]
+              | inl w ↦ elim (joined_cases a (joined_range b c)) [ inl x ↦ omega (arith, u.0, u.1, v.0, v.1, w.0, w.1, x.0, x.1) | inr x ↦ omega (arith, u.0, u.1, v.0, v.1, w.0, w.1, x.0, x.1) ]
+              | inr w ↦ elim (joined_cases a (joined_range b c)) [ inl x ↦ omega (arith, u.0, u.1, v.0, v.1, w.0, w.1, x.0, x.1) | inr x ↦ omega (arith, u.0, u.1, v.0, v.1, w.0, w.1, x.0, x.1) ]
             ]
             | inr v ↦ elim (joined_cases b c) [
-              | inl w ↦ elim (joined_cases a (joined b c)) [ inl x ↦ omega (arith, u.0, u.1, v.0, v.1, w.0, w.1, x.0, x.1) | inr x ↦ omega (arith, u.0, u.1, v.0, v.1, w.0, w.1, x.0, x.1) ]
-              | inr w ↦ elim (joined_cases a (joined b c)) [ inl x ↦ omega (arith, u.0, u.1, v.0, v.1, w.0, w.1, x.0, x.1) | inr x ↦ omega (arith, u.0, u.1, v.0, v.1, w.0, w.1, x.0, x.1) ]
+              | inl w ↦ elim (joined_cases a (joined_range b c)) [ inl x ↦ omega (arith, u.0, u.1, v.0, v.1, w.0, w.1, x.0, x.1) | inr x ↦ omega (arith, u.0, u.1, v.0, v.1, w.0, w.1, x.0, x.1) ]
+              | inr w ↦ elim (joined_cases a (joined_range b c)) [ inl x ↦ omega (arith, u.0, u.1, v.0, v.1, w.0, w.1, x.0, x.1) | inr x ↦ omega (arith, u.0, u.1, v.0, v.1, w.0, w.1, x.0, x.1) ]
             ]
           ]
-          | inr u ↦ elim (joined_cases (joined a b) c) [
+          | inr u ↦ elim (joined_cases (joined_range a b) c) [
             | inl v ↦ elim (joined_cases b c) [
-              | inl w ↦ elim (joined_cases a (joined b c)) [ inl x ↦ omega (arith, u.0, u.1, v.0, v.1, w.0, w.1, x.0, x.1) | inr x ↦ omega (arith, u.0, u.1, v.0, v.1, w.0, w.1, x.0, x.1) ]
-              | inr w ↦ elim (joined_cases a (joined b c)) [ inl x ↦ omega (arith, u.0, u.1, v.0, v.1, w.0, w.1, x.0, x.1) | inr x ↦ omega (arith, u.0, u.1, v.0, v.1, w.0, w.1, x.0, x.1) ]
+              | inl w ↦ elim (joined_cases a (joined_range b c)) [ inl x ↦ omega (arith, u.0, u.1, v.0, v.1, w.0, w.1, x.0, x.1) | inr x ↦ omega (arith, u.0, u.1, v.0, v.1, w.0, w.1, x.0, x.1) ]
+              | inr w ↦ elim (joined_cases a (joined_range b c)) [ inl x ↦ omega (arith, u.0, u.1, v.0, v.1, w.0, w.1, x.0, x.1) | inr x ↦ omega (arith, u.0, u.1, v.0, v.1, w.0, w.1, x.0, x.1) ]
             ]
             | inr v ↦ elim (joined_cases b c) [
-              | inl w ↦ elim (joined_cases a (joined b c)) [ inl x ↦ omega (arith, u.0, u.1, v.0, v.1, w.0, w.1, x.0, x.1) | inr x ↦ omega (arith, u.0, u.1, v.0, v.1, w.0, w.1, x.0, x.1) ]
-              | inr w ↦ elim (joined_cases a (joined b c)) [ inl x ↦ omega (arith, u.0, u.1, v.0, v.1, w.0, w.1, x.0, x.1) | inr x ↦ omega (arith, u.0, u.1, v.0, v.1, w.0, w.1, x.0, x.1) ]
+              | inl w ↦ elim (joined_cases a (joined_range b c)) [ inl x ↦ omega (arith, u.0, u.1, v.0, v.1, w.0, w.1, x.0, x.1) | inr x ↦ omega (arith, u.0, u.1, v.0, v.1, w.0, w.1, x.0, x.1) ]
+              | inr w ↦ elim (joined_cases a (joined_range b c)) [ inl x ↦ omega (arith, u.0, u.1, v.0, v.1, w.0, w.1, x.0, x.1) | inr x ↦ omega (arith, u.0, u.1, v.0, v.1, w.0, w.1, x.0, x.1) ]
             ]
           ]
         ]
@@ -55,10 +55,10 @@ KeepsOrder f = (a b : ℕ) → a ≤ b → f a ≤ f b
 pub carried_goes_along : (f : ℕ → ℕ) → KeepsOrder f → GoesAlong ranges (carried f)
 carried_goes_along f k = record {
   due = λ a b e. leb_true (f b.low) (f a.high) (k b.low a.high (leb-true b.low a.high e));
-  join = λ a b. same_range (carried f (joined a b)) (joined (carried f a) (carried f b)) refl (highs a b) refl refl;
+  join = λ a b. same_range (carried f (joined_range a b)) (joined_range (carried f a) (carried f b)) refl (highs a b) refl refl;
 }
   where
-    highs : (a b : Range) → f (joined a b).high ≡ (joined (carried f a) (carried f b)).high
+    highs : (a b : Range) → f (joined_range a b).high ≡ (joined_range (carried f a) (carried f b)).high
     highs a b =
         elim (joined_cases a b) [
           | inl u ↦ elim (joined_cases (carried f a) (carried f b)) [

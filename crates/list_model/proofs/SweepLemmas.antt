@@ -2,42 +2,42 @@
 use Rattle.std.proofs.Common.{◌≡◌, ℕ, zero, suc, ◌<◌, true, false, cond, List, [], ◌∷◌, length, map, refl, sym, ap, ap₂, ◌∙◌, arith, inl, inr, ◌⊎◌}
 use Rattle.std.proofs.lemmas.List.{length-map}
 use Rattle.text_model.proofs.CoordLemmas.{test_cases}
-use Rattle.list_model.specs.Settling.{Kind, sweep, sweep_place}
+use Rattle.list_model.specs.Settling.{JoinRule, sweep, sweep_place}
 
 -- what joining keeps: whether one is due to an earlier one, and to whom a later one is due; the order doesn't matter
-pub record JoinsWell {S : Type 0} (k : Kind S) : Type 0 where
+pub record JoinsWell {S : Type 0} (k : JoinRule S) : Type 0 where
   pub later : (a b c : S) → k.due a (k.join b c) ≡ k.due a b
   pub longer : (a b c : S) → k.due b c ≡ true → k.due (k.join a b) c ≡ true
   pub assoc : (a b c : S) → k.join (k.join a b) c ≡ k.join a (k.join b c)
 
 -- what a function that goes along with the sweep keeps
-pub record GoesAlong {S : Type 0} (k : Kind S) (f : S → S) : Type 0 where
+pub record GoesAlong {S : Type 0} (k : JoinRule S) (f : S → S) : Type 0 where
   pub due : (a b : S) → k.due a b ≡ true → k.due (f a) (f b) ≡ true
   pub join : (a b : S) → f (k.join a b) ≡ k.join (f a) (f b)
 
 -- a list swept, and the place of its n-th element then
-abbrev pub swept_by : {S : Type 0} → Kind S → List S → List S
+abbrev pub swept_by : {S : Type 0} → JoinRule S → List S → List S
 swept_by k [] = []
 swept_by k (x ∷ xs) = sweep k x xs
 
-abbrev pub swept_place_by : {S : Type 0} → Kind S → List S → ℕ → ℕ
+abbrev pub swept_place_by : {S : Type 0} → JoinRule S → List S → ℕ → ℕ
 swept_place_by k [] n = 0
 swept_place_by k (x ∷ xs) n = sweep_place k x xs n
 
-pub sweep-due : {S : Type 0} (k : Kind S) (a s : S) (ss : List S) → k.due a s ≡ true → sweep k a (s ∷ ss) ≡ sweep k (k.join a s) ss
+pub sweep-due : {S : Type 0} (k : JoinRule S) (a s : S) (ss : List S) → k.due a s ≡ true → sweep k a (s ∷ ss) ≡ sweep k (k.join a s) ss
 sweep-due k a s ss e = ap (λ v. cond v (sweep k (k.join a s) ss) (a ∷ sweep k s ss)) e
 
-pub sweep-apart : {S : Type 0} (k : Kind S) (a s : S) (ss : List S) → k.due a s ≡ false → sweep k a (s ∷ ss) ≡ a ∷ sweep k s ss
+pub sweep-apart : {S : Type 0} (k : JoinRule S) (a s : S) (ss : List S) → k.due a s ≡ false → sweep k a (s ∷ ss) ≡ a ∷ sweep k s ss
 sweep-apart k a s ss e = ap (λ v. cond v (sweep k (k.join a s) ss) (a ∷ sweep k s ss)) e
 
-pub place-due : {S : Type 0} (k : Kind S) (a s : S) (ss : List S) (n : ℕ) → k.due a s ≡ true → sweep_place k a (s ∷ ss) (suc n) ≡ sweep_place k (k.join a s) ss n
+pub place-due : {S : Type 0} (k : JoinRule S) (a s : S) (ss : List S) (n : ℕ) → k.due a s ≡ true → sweep_place k a (s ∷ ss) (suc n) ≡ sweep_place k (k.join a s) ss n
 place-due k a s ss n e = ap (λ v. cond v (sweep_place k (k.join a s) ss n) (suc (sweep_place k s ss n))) e
 
-pub place-apart : {S : Type 0} (k : Kind S) (a s : S) (ss : List S) (n : ℕ) → k.due a s ≡ false → sweep_place k a (s ∷ ss) (suc n) ≡ suc (sweep_place k s ss n)
+pub place-apart : {S : Type 0} (k : JoinRule S) (a s : S) (ss : List S) (n : ℕ) → k.due a s ≡ false → sweep_place k a (s ∷ ss) (suc n) ≡ suc (sweep_place k s ss n)
 place-apart k a s ss n e = ap (λ v. cond v (sweep_place k (k.join a s) ss n) (suc (sweep_place k s ss n))) e
 
 -- what is swept first may be swept again with an earlier one before it
-pub resweep : {S : Type 0} (k : Kind S) → JoinsWell k → (a y : S) (ys : List S) → sweep k a (sweep k y ys) ≡ sweep k a (y ∷ ys)
+pub resweep : {S : Type 0} (k : JoinRule S) → JoinsWell k → (a y : S) (ys : List S) → sweep k a (sweep k y ys) ≡ sweep k a (y ∷ ys)
 resweep k h a y [] = refl
 resweep {S} k h a y (z ∷ zs) =
     elim (test_cases (k.due y z)) [
@@ -57,12 +57,12 @@ resweep {S} k h a y (z ∷ zs) =
     apart_case again (inr d) =
         sweep-apart k a y (sweep k z zs) d ∙ ap (λ t. a ∷ t) (again y z) ∙ sym (sweep-apart k a y (z ∷ zs) d)
 
-pub resweep_list : {S : Type 0} (k : Kind S) → JoinsWell k → (a : S) (ys : List S) → sweep k a (swept_by k ys) ≡ sweep k a ys
+pub resweep_list : {S : Type 0} (k : JoinRule S) → JoinsWell k → (a : S) (ys : List S) → sweep k a (swept_by k ys) ≡ sweep k a ys
 resweep_list k h a [] = refl
 resweep_list k h a (y ∷ ys) = resweep k h a y ys
 
 -- the sweep of a list that was swept and then changed by a function that goes along
-pub carry_swept : {S : Type 0} (k : Kind S) → JoinsWell k → (f : S → S) → GoesAlong k f → (c : S) (xs : List S) → swept_by k (map f (sweep k c xs)) ≡ sweep k (f c) (map f xs)
+pub carry_swept : {S : Type 0} (k : JoinRule S) → JoinsWell k → (f : S → S) → GoesAlong k f → (c : S) (xs : List S) → swept_by k (map f (sweep k c xs)) ≡ sweep k (f c) (map f xs)
 carry_swept k h f g c [] = refl
 carry_swept k h f g c (s ∷ ss) =
     elim (test_cases (k.due c s)) [
@@ -71,7 +71,7 @@ carry_swept k h f g c (s ∷ ss) =
     ]
 
 -- the first of a swept list is due to an earlier one just as before
-pub swept_head : {S : Type 0} (k : Kind S) → JoinsWell k → (a y : S) (ys : List S) → sweep_place k a (sweep k y ys) 1 ≡ sweep_place k a (y ∷ ys) 1
+pub swept_head : {S : Type 0} (k : JoinRule S) → JoinsWell k → (a y : S) (ys : List S) → sweep_place k a (sweep k y ys) 1 ≡ sweep_place k a (y ∷ ys) 1
 swept_head k h a y [] = refl
 swept_head k h a y (z ∷ zs) =
     elim (test_cases (k.due y z)) [
@@ -79,7 +79,7 @@ swept_head k h a y (z ∷ zs) =
       | inr e ↦ ap (λ t. sweep_place k a t 1) (sweep-apart k y z zs e)
     ]
 
-pub resweep_place : {S : Type 0} (k : Kind S) → JoinsWell k → (a y : S) (ys : List S) (n : ℕ) → sweep_place k a (sweep k y ys) (suc (sweep_place k y ys n)) ≡ sweep_place k a (y ∷ ys) (suc n)
+pub resweep_place : {S : Type 0} (k : JoinRule S) → JoinsWell k → (a y : S) (ys : List S) (n : ℕ) → sweep_place k a (sweep k y ys) (suc (sweep_place k y ys n)) ≡ sweep_place k a (y ∷ ys) (suc n)
 resweep_place k h a y ys zero = swept_head k h a y ys
 resweep_place k h a y [] (suc n) = refl
 resweep_place {S} k h a y (z ∷ zs) (suc n) =
@@ -100,7 +100,7 @@ resweep_place {S} k h a y (z ∷ zs) (suc n) =
     apart_case again (inr d) =
         place-apart k a y (sweep k z zs) (suc (sweep_place k z zs n)) d ∙ ap (λ m. suc m) (again y z) ∙ sym (place-apart k a y (z ∷ zs) (suc n) d)
 
-pub some_swept : {S : Type 0} (k : Kind S) (c : S) (xs : List S) → 0 < length (sweep k c xs)
+pub some_swept : {S : Type 0} (k : JoinRule S) (c : S) (xs : List S) → 0 < length (sweep k c xs)
 some_swept k c [] = omega arith
 some_swept k c (s ∷ ss) =
     elim (test_cases (k.due c s)) [
@@ -108,15 +108,15 @@ some_swept k c (s ∷ ss) =
       | inr e ↦ omega (arith, ap length (sweep-apart k c s ss e))
     ]
 
-pub resweep_place_list : {S : Type 0} (k : Kind S) → JoinsWell k → (a : S) (ys : List S) (n : ℕ) → 0 < length ys → sweep_place k a (swept_by k ys) (suc (swept_place_by k ys n)) ≡ sweep_place k a ys (suc n)
+pub resweep_place_list : {S : Type 0} (k : JoinRule S) → JoinsWell k → (a : S) (ys : List S) (n : ℕ) → 0 < length ys → sweep_place k a (swept_by k ys) (suc (swept_place_by k ys n)) ≡ sweep_place k a ys (suc n)
 resweep_place_list k h a [] n some = absurd (omega arith)
 resweep_place_list k h a (y ∷ ys) n some = resweep_place k h a y ys n
 
-pub swept_place_first : {S : Type 0} (k : Kind S) (ys : List S) → swept_place_by k ys 0 ≡ 0
+pub swept_place_first : {S : Type 0} (k : JoinRule S) (ys : List S) → swept_place_by k ys 0 ≡ 0
 swept_place_first k [] = refl
 swept_place_first k (y ∷ ys) = refl
 
-pub carry_place : {S : Type 0} (k : Kind S) → JoinsWell k → (f : S → S) → GoesAlong k f → (c : S) (xs : List S) (n : ℕ) → swept_place_by k (map f (sweep k c xs)) (sweep_place k c xs n) ≡ sweep_place k (f c) (map f xs) n
+pub carry_place : {S : Type 0} (k : JoinRule S) → JoinsWell k → (f : S → S) → GoesAlong k f → (c : S) (xs : List S) (n : ℕ) → swept_place_by k (map f (sweep k c xs)) (sweep_place k c xs n) ≡ sweep_place k (f c) (map f xs) n
 carry_place k h f g c xs zero = swept_place_first k (map f (sweep k c xs))
 carry_place k h f g c [] (suc n) = refl
 carry_place k h f g c (s ∷ ss) (suc n) =

@@ -3,29 +3,29 @@ use Rattle.std.specs.Prelude.{ℕ, zero, suc, Bool, if◌then◌else◌, nat_le,
 use Rattle.list_model.specs.Ranges.{Range, Selected}
 
 -- when a neighbour in a list in order belongs to the one before it, and what the two become
-pub record Kind (S : Type 0) : Type 0 where
+pub record JoinRule (S : Type 0) : Type 0 where
   pub due : S → S → Bool
   pub join : S → S → S
 
 -- neighbours joined from the left, with `current` as the first one
-abbrev pub sweep : {S : Type 0} → Kind S → S → List S → List S
+abbrev pub sweep : {S : Type 0} → JoinRule S → S → List S → List S
 sweep kind current [] = current ∷ []
 sweep kind current (s ∷ ss) = if kind.due current s then sweep kind (kind.join current s) ss else current ∷ sweep kind s ss
 
 -- where the n-th one is after the sweep: 0 is the first one, `current`
-abbrev pub sweep_place : {S : Type 0} → Kind S → S → List S → ℕ → ℕ
+abbrev pub sweep_place : {S : Type 0} → JoinRule S → S → List S → ℕ → ℕ
 sweep_place kind current ss zero = 0
 sweep_place kind current [] (suc n) = 0
 sweep_place kind current (s ∷ ss) (suc n) =
     if kind.due current s then sweep_place kind (kind.join current s) ss n else suc (sweep_place kind s ss n)
 
 -- a selection with the characters of a later one: it keeps its flag and its target
-abbrev pub joined : Range → Range → Range
-joined r s = record { low = r.low; high = if nat_le r.high s.high then s.high else r.high; turned = r.turned; target = r.target }
+abbrev pub joined_range : Range → Range → Range
+joined_range r s = record { low = r.low; high = if nat_le r.high s.high then s.high else r.high; turned = r.turned; target = r.target }
 
 -- selections are joined where the later one begins inside the earlier one
-abbrev pub ranges : Kind Range
-ranges = record { due = λ r s. nat_le s.low r.high; join = joined }
+abbrev pub ranges : JoinRule Range
+ranges = record { due = λ r s. nat_le s.low r.high; join = joined_range }
 
 -- a selection put into a list in order, before the first one that doesn't begin before it
 abbrev pub placed : Range → List Range → List Range

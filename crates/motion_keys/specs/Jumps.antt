@@ -7,7 +7,7 @@ use Rattle.selection_set.specs.Listing.{range_between, range_of_pair, IsPairInsi
 use Rattle.motion_keys.specs.declared.bracket_kinds.Bracket.{Bracket}
 use Rattle.motion_keys.specs.declared.direction.Direction.{Direction}
 use Rattle.motion_keys.specs.declared.direction.Direction.TheVariants.{Forward, Backward}
-use Rattle.motion_keys.specs.declared.char_moves.Search.{Search}
+use Rattle.motion_keys.specs.declared.char_moves.CharSearch.{CharSearch}
 use Rattle.motion_keys.specs.declared.char_moves.Until.{Until}
 use Rattle.motion_keys.specs.declared.char_moves.Until.TheVariants.{On, Before}
 use Rattle.motion_keys.specs.Motions.{direction_of}
@@ -31,7 +31,7 @@ abbrev pub until_of : Bool → Until
 until_of true = On
 until_of false = Before
 
-abbrev pub search_of : Bool → Bool → Search
+abbrev pub search_of : Bool → Bool → CharSearch
 search_of forward onto = record { direction = direction_of forward; until = until_of onto }
 
 -- the next offset that holds a character, or the one before it; backward the last one, or the one behind it
@@ -42,7 +42,7 @@ char_place text o c Backward On = last_with text c o
 char_place text o c Backward Before = option_map (λ n. n + 1) (last_with text c o)
 
 -- from the cursor to there
-abbrev pub to_char : List ℕ → Range → ℕ → Search → Option Range
+abbrev pub to_char : List ℕ → Range → ℕ → CharSearch → Option Range
 to_char text r c search = option_map (range_between (cursor r)) (char_place text (cursor r) c search.direction search.until)
 
 -- the brackets: ( 40 and ) 41, [ 91 and ] 93, { 123 and } 125, < 60 and > 62, each with the one that belongs to it

@@ -34,8 +34,8 @@ abbrev pub is_no_blank : List ℕ → ℕ → Bool
 is_no_blank text o = not (is_same (class_of (slice_index text o)) Blank)
 
 -- the least offset of a line whose character is no blank
-abbrev pub line_text : List ℕ → ℕ → Option ℕ
-line_text text n = least_between (is_no_blank text) (line_begin text n) (line_begin text (n + 1))
+abbrev pub first_no_blank : List ℕ → ℕ → Option ℕ
+first_no_blank text n = least_between (is_no_blank text) (line_begin text n) (line_begin text (n + 1))
 
 -- the offset of a place with a name, for a cursor and a window
 abbrev pub landmark : List ℕ → ℕ → View → Place → Option ℕ
@@ -44,7 +44,7 @@ landmark text o view LastLine = Some (line_start text (line_count text - 1))
 landmark text o view Last = Some (last_place text)
 landmark text o view LineStart = Some (line_start text (line_of text o))
 landmark text o view LineEnd = Some (line_last text (line_of text o))
-landmark text o view NonBlank = line_text text (line_of text o)
+landmark text o view NonBlank = first_no_blank text (line_of text o)
 landmark text o view WindowTop = Some (line_start text view.top)
 landmark text o view WindowMiddle = Some (line_start text (view.top + view.rows / 2))
 landmark text o view WindowBottom = Some (line_start text (view.top + view.rows - 1))

@@ -23,23 +23,23 @@ pub enum Until {
 
 /// On which way a character is looked for, and how far the motion goes.
 #[derive(Clone, Copy, PartialEq, Eq, Debug)]
-pub struct Search {
+pub struct CharSearch {
     /// The way from the cursor.
     pub direction: Direction,
     /// Where the motion ends.
     pub until: Until,
 }
 
-impl Search {
+impl CharSearch {
     ghost use Rattle.std.specs.Prelude.{◌≡◌};
     ghost use Rattle.motion_keys.specs.Jumps.{search_of};
 
     // A search further on or else further up, onto the character or else up to it.
-    pub(crate) fn of(forward: bool, onto: bool) -> Search
+    pub(crate) fn of(forward: bool, onto: bool) -> CharSearch
         ensures { result ≡ search_of forward onto }
     {
         let until = if onto { Until::On } else { Until::Before };
-        Search {
+        CharSearch {
             direction: Direction::of(forward),
             until,
         }
@@ -65,7 +65,7 @@ fn find_last(lines: &Lines, from: Coord, c: char) -> Option<Coord>
 }
 
 // The place of a character ahead, or the one before it; or behind, or the one after it.
-fn find_place(lines: &Lines, from: Coord, c: char, search: Search) -> Option<Coord>
+fn find_place(lines: &Lines, from: Coord, c: char, search: CharSearch) -> Option<Coord>
     requires { IsPlace lines.now from }
     ensures gives { OffsetsAre lines.now result (char_place lines.now (offset lines.now from) c search.direction search.until) }
 {
@@ -88,7 +88,7 @@ fn find_place(lines: &Lines, from: Coord, c: char, search: Search) -> Option<Coo
 }
 
 /// From the cursor to a character, or to the one that stands before it on the way.
-pub(crate) fn char_between(lines: &Lines, sel: Sel, c: char, search: Search) -> Option<Pair>
+pub(crate) fn char_between(lines: &Lines, sel: Sel, c: char, search: CharSearch) -> Option<Pair>
     requires { IsInside lines.now sel }
     ensures { RangesAre lines.now result (to_char lines.now (range_of lines.now sel) c search) }
 {
@@ -105,5 +105,5 @@ pub fn to_char(lines: &Lines, sel: &Sel, c: char, forward: bool, onto: bool) -> 
     requires { IsInside lines.now sel.now }
     ensures gives { RangesAre lines.now result (to_char lines.now (range_of lines.now sel.now) c (search_of forward onto)) }
 {
-    char_between(lines, *sel, c, Search::of(forward, onto))
+    char_between(lines, *sel, c, CharSearch::of(forward, onto))
 }

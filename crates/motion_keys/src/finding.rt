@@ -4,13 +4,13 @@ ghost use Rattle.std.specs.Prelude.{◌≡◌, ℕ, ◌≤◌, List, option_map}
 ghost use Rattle.std.specs.declared.option.Option.{Option};
 ghost use Rattle.list_model.specs.Ranges.{Range, only};
 ghost use Rattle.selection_set.specs.Inside.{range_of, IsInside};
-ghost use Rattle.window_view.specs.Views.{view_of as window_seen};
+ghost use Rattle.window_view.specs.Views.{window_seen};
 ghost use Rattle.motion_keys.specs.Places.{OffsetsAre};
 ghost use Rattle.motion_keys.specs.Jumps.{RangesAre};
 ghost use Rattle.motion_keys.specs.Finding.{lines_along, found, reached, moved, IsFound};
 
 use crate::bracket_moves::bracket;
-use crate::char_moves::{Search, char_between};
+use crate::char_moves::{CharSearch, char_between};
 use crate::direction::Direction;
 use crate::landmarks::{LinePart, Place};
 use crate::moves::vertical;
@@ -34,7 +34,7 @@ pub enum Motion {
     /// By words.
     Word(WordMove, WordKind),
     /// To a character.
-    Character(Search, char),
+    Character(CharSearch, char),
     /// To a place that has a name.
     To(Place),
     /// To an end of the line.

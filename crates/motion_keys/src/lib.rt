@@ -16,7 +16,7 @@ pub mod word_laws;
 pub mod words;
 
 pub use bracket_moves::bracket;
-pub use char_moves::{Search, Until, to_char};
+pub use char_moves::{CharSearch, Until, to_char};
 pub use direction::Direction;
 pub use finding::{Motion, Reach, find, moved};
 pub use landmarks::{LinePart, Place};

@@ -4,10 +4,10 @@ ghost use Rattle.std.specs.Prelude.{◌≡◌, ◌<◌, None, Some, IfSome, opti
 ghost use Rattle.text_model.specs.Texts.{offset, line_count, IsPlace};
 ghost use Rattle.list_model.specs.Ranges.{cursor};
 ghost use Rattle.selection_set.specs.Inside.{range_of, IsInside};
-ghost use Rattle.window_view.specs.Views.{view_of as window_seen};
+ghost use Rattle.window_view.specs.Views.{window_seen};
 ghost use Rattle.motion_keys.specs.Places.{OffsetsAre};
 ghost use Rattle.motion_keys.specs.Jumps.{RangesAre};
-ghost use Rattle.motion_keys.specs.Landmarks.{line_start, line_last, line_text, landmark, line_part};
+ghost use Rattle.motion_keys.specs.Landmarks.{line_start, line_last, first_no_blank, landmark, line_part};
 
 use crate::landmarks::{LinePart, Place};
 use kak_text::{Class, Coord, class};
@@ -44,7 +44,7 @@ fn find_end(lines: &Lines, n: u32) -> Coord
 // The first character of a line that is no blank.
 fn find_text(lines: &Lines, n: u32) -> Option<Coord>
     requires { n < line_count lines.now }
-    ensures gives { OffsetsAre lines.now result (line_text lines.now n) }
+    ensures gives { OffsetsAre lines.now result (first_no_blank lines.now n) }
 {
     let line = lines.line(n as usize);
     for column in 0..line.len() {

@@ -15,7 +15,7 @@ use Rattle.list_keys.specs.Cuts.{cut_by}
 use Rattle.list_keys.specs.Rows.{main_turned}
 use Rattle.list_keys.specs.Changes.{change_adds, made_count}
 use Rattle.list_keys.proofs.RowLemmas.{made-few}
-use Rattle.normal_keys.specs.Rows.{cleared}
+use Rattle.normal_keys.specs.Rows.{client_cleared}
 use Rattle.normal_keys.specs.declared.actions.Repeated.{Repeated}
 use Rattle.normal_keys.specs.declared.actions.Repeated.TheVariants.{Moves, TurnsMain, Travels, GoesToNode, Puts}
 use Rattle.key_rows.specs.declared.each.Each.{Each}
@@ -72,7 +72,7 @@ unit-few who before after e h = omega (arith, h, ap (λ (w : Flat). length (sels
 pub unit-stays : (who : ℕ) (before after : Flat) → after ≡ with_units (units_of after) before → is_joined who before ≡ true → is_joined who after ≡ true
 unit-stays who before after e j = ap (is_joined who) e ∙ joined_units who (units_of after) before ∙ j
 
-pub cleared-few : (who : ℕ) (before after : Flat) → after ≡ cleared who before → length (sels_of who before).list ≤ 4 → length (sels_of who after).list ≤ 4
+pub cleared-few : (who : ℕ) (before after : Flat) → after ≡ client_cleared who before → length (sels_of who before).list ≤ 4 → length (sels_of who after).list ≤ 4
 cleared-few who before after e h = omega (arith, h, ap (λ (w : Flat). length (sels_of who w).list) e, ap (λ (s : Selected). length s.list) (sels_own who who (λ o. record o { count = 0; register = None; pending = None }) before))
 
 -- a change that adds none makes no more than there were, or one

@@ -8,14 +8,14 @@ use Rattle.list_model.specs.Ranges.{Selected}
 use Rattle.undo_model.specs.declared.travel.Travel.TheVariants.{Node as NodeOf}
 use Rattle.motion_keys.specs.declared.direction.Direction.{Direction}
 use Rattle.motion_keys.specs.declared.direction.Direction.TheVariants.{Forward, Backward}
-use Rattle.motion_keys.specs.declared.char_moves.Search.{Search}
+use Rattle.motion_keys.specs.declared.char_moves.CharSearch.{CharSearch}
 use Rattle.motion_keys.specs.declared.landmarks.Place.{Place}
 use Rattle.motion_keys.specs.declared.landmarks.Place.TheVariants as place
 use Rattle.motion_keys.specs.declared.finding.Motion.TheVariants.{Character, To}
 use Rattle.motion_keys.specs.declared.finding.Reach.{Reach}
 use Rattle.list_keys.specs.Changes.{changed_list, made_count}
 use Rattle.kak_world.specs.declared.ask.EditError.TheVariants.{TooManySelections}
-use Rattle.kak_world.specs.Flat.{Flat, text_of, sels_of, node_of, units_of, with_units, pending_of}
+use Rattle.kak_world.specs.Flat.{Flat, text_of, sels_of, node_number_of, units_of, with_units, pending_of}
 use Rattle.kak_world.specs.Rows.{RowEnd, fails}
 use Rattle.kak_world.specs.Keeping.{KeepsClients}
 use Rattle.kak_world.proofs.KeepingLaws.{keeps_same, keeps_after, keeps_own, keeps_sels, keeps_units, keeps_travel_row, keeps_set_row}
@@ -26,15 +26,15 @@ use Rattle.normal_keys.specs.declared.actions.Repeated.TheVariants.{Moves, Turns
 use Rattle.normal_keys.specs.declared.prefixes.Prefix.{Prefix}
 use Rattle.text_objects.specs.declared.kinds.Object.{Object}
 use Rattle.key_rows.specs.declared.each.Extent.{Extent}
-use Rattle.key_rows.specs.Each.{moved}
+use Rattle.key_rows.specs.Each.{each_moved}
 use Rattle.key_rows.specs.Sequence.{then_row, after_unit}
 use Rattle.key_rows.specs.Naming.{register_named}
 use Rattle.key_rows.proofs.KeepingLaws.{KeepsIn, keeps_behind, keeps_leaving, keeps_put, keeps_edit, keeps_entry}
 use Rattle.normal_keys.specs.Actions.{action_of}
 use Rattle.normal_keys.specs.Running.{further_runs, runs}
-use Rattle.normal_keys.specs.Listing.{taken_if_any, taken}
+use Rattle.normal_keys.specs.Listing.{taken_if_any, taken_if_few}
 use Rattle.normal_keys.specs.Repeating.{node_below, node_row, once}
-use Rattle.normal_keys.specs.Rows.{prefix_of, cleared, waiting, go_to_line, acted, character_of, place_of, sought_character, sought_place, object_of, sought_object, filled, chosen_register, answered, row_pending, row_normal}
+use Rattle.normal_keys.specs.Rows.{prefix_of, client_cleared, waiting, go_to_line, acted, character_of, place_of, sought_character, sought_place, object_of, sought_object, filled_row, chosen_register, answered, row_pending, row_normal}
 
 -- a change of the world that keeps the clients
 abbrev Keeps : (Flat → Flat) → Type 0
@@ -57,8 +57,8 @@ keeps-below zero who flat = keeps_same flat
 keeps-below (suc n) who flat = keeps_travel_row (NodeOf n) who flat
 
 keeps-node : (direction : Direction) (who : ℕ) → KeepsIn (node_row direction who)
-keeps-node Backward who flat = keeps-below (node_of who flat) who flat
-keeps-node Forward who flat = keeps_travel_row (NodeOf (node_of who flat + 1)) who flat
+keeps-node Backward who flat = keeps-below (node_number_of who flat) who flat
+keeps-node Forward who flat = keeps_travel_row (NodeOf (node_number_of who flat + 1)) who flat
 
 pub keeps-once : (what : Repeated) (register : Option ℕ) (who : ℕ) → KeepsIn (once what register who)
 keeps-once (Moves motion reach) register who flat = keeps_sels who _ flat
@@ -79,12 +79,12 @@ keeps-any : (found : Option Selected) (who : ℕ) → KeepsIn (taken_if_any foun
 keeps-any None who flat = keeps_same flat
 keeps-any (Some sels) who flat = keeps_sels who sels flat
 
-keeps-taken : (count : ℕ) (found : Option Selected) (who : ℕ) → KeepsIn (taken count found who)
+keeps-taken : (count : ℕ) (found : Option Selected) (who : ℕ) → KeepsIn (taken_if_few count found who)
 keeps-taken count found who flat = keeps-chosen (nat_lt MAX_SELECTIONS count) flat (fails TooManySelections flat) (taken_if_any found who flat) (keeps_same flat) (keeps-any found who flat)
 
 keeps-line : (key : Key) (reach : Reach) (count who : ℕ) → Keeps (go_to_line key reach count who)
 keeps-line key reach count who flat =
-    keeps-choice (count == 0) flat (waiting key 0 who flat) (moved (To (place.Line (count - 1))) reach who flat) (keeps_own who _ flat) (keeps_sels who _ flat)
+    keeps-choice (count == 0) flat (waiting key 0 who flat) (each_moved (To (place.Line (count - 1))) reach who flat) (keeps_own who _ flat) (keeps_sels who _ flat)
 
 keeps-acted : (key : Key) (a : Action) (prefix : Prefix) (who : ℕ) → KeepsIn (acted key a prefix who)
 keeps-acted key action.Nothing prefix who flat = keeps_same flat
@@ -105,7 +105,7 @@ keeps-acted key (action.StepsToMatch toward) prefix who flat = keeps_same flat
 keeps-acted key (action.AddsMatch toward) prefix who flat = keeps_same flat
 keeps-acted key (action.Remembers bounds) prefix who flat = keeps_set_row _ _ flat
 
-keeps-character : (search : Search) (reach : Reach) (count who : ℕ) (c : Option ℕ) → KeepsIn (sought_character search reach count who c)
+keeps-character : (search : CharSearch) (reach : Reach) (count who : ℕ) (c : Option ℕ) → KeepsIn (sought_character search reach count who c)
 keeps-character search reach count who None flat = keeps_same flat
 keeps-character search reach count who (Some c) flat = keeps-runs count (once (Moves (Character search c) reach) None who) (keeps-once (Moves (Character search c) reach) None who) flat
 
@@ -117,7 +117,7 @@ keeps-object : (extent : Extent) (who : ℕ) (o : Option Object) → KeepsIn (so
 keeps-object extent who None flat = keeps_same flat
 keeps-object extent who (Some o) flat = keeps_sels who _ flat
 
-keeps-filled : (who : ℕ) (c : Option ℕ) → KeepsIn (filled who c)
+keeps-filled : (who : ℕ) (c : Option ℕ) → KeepsIn (filled_row who c)
 keeps-filled who None flat = keeps_same flat
 keeps-filled who (Some c) flat = keeps_leaving _ who flat
 
@@ -140,5 +140,5 @@ keeps-pending (Some first) key prefix who flat = keeps-answered (action_of first
 pub keeps_normal : (key : Key) (who : ℕ) (flat : Flat) → KeepsClients flat (row_normal key who flat).world
 unfolding row_normal
 keeps_normal key who flat =
-    keeps_after flat (cleared who flat) (row_normal key who flat).world (keeps_own who _ flat)
-    (keeps-pending (pending_of who flat) key (prefix_of who flat) who (cleared who flat))
+    keeps_after flat (client_cleared who flat) (row_normal key who flat).world (keeps_own who _ flat)
+    (keeps-pending (pending_of who flat) key (prefix_of who flat) who (client_cleared who flat))

@@ -31,7 +31,7 @@ use Rattle.edit_ops.specs.declared.kinds.Side.TheVariants.{Below, Above}
 use Rattle.edit_ops.specs.declared.kinds.Rotation.TheVariants.{Forward as RotateOn, Backward as RotateBack}
 use Rattle.edit_ops.specs.declared.kinds.Indent.TheVariants.{More, Less}
 use Rattle.key_rows.specs.declared.edits.Edit.TheVariants as edit
-use Rattle.key_rows.specs.declared.entries.Entry.TheVariants as entry
+use Rattle.key_rows.specs.declared.entries.InsertEntry.TheVariants as entry
 use Rattle.key_rows.specs.declared.each.Extent.TheVariants.{Inner, Around}
 use Rattle.normal_keys.specs.declared.actions.Repeated.TheVariants as repeated
 use Rattle.normal_keys.specs.declared.actions.Action.{Action}

@@ -17,12 +17,12 @@ taken_if_any None who flat = fails NothingSelected flat
 taken_if_any (Some sels) who flat = does (with_sels who sels flat)
 
 -- the same for a list that was settled from so many selections; where these are more than a list may have, the key fails
-abbrev pub taken : ℕ → Option Selected → ℕ → Flat → RowEnd
-taken count found who flat = if nat_lt MAX_SELECTIONS count then fails TooManySelections flat else taken_if_any found who flat
+abbrev pub taken_if_few : ℕ → Option Selected → ℕ → Flat → RowEnd
+taken_if_few count found who flat = if nat_lt MAX_SELECTIONS count then fails TooManySelections flat else taken_if_any found who flat
 
 -- the world after a change of a client's list
 abbrev pub list_changed : ListChange → ℕ → Flat → RowEnd
-list_changed change who flat = taken (made_count change (text_of who flat) (sels_of who flat)) (changed_list change (text_of who flat) (sels_of who flat)) who flat
+list_changed change who flat = taken_if_few (made_count change (text_of who flat) (sels_of who flat)) (changed_list change (text_of who flat) (sels_of who flat)) who flat
 
 -- another selection of a client becomes its main one: that behind the main one, or that before it, round the ends
 abbrev pub main_moved : Direction → ℕ → Flat → Flat

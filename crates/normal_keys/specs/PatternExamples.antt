@@ -13,7 +13,7 @@ use Rattle.kak_world.specs.declared.purpose.Purpose.{Purpose}
 use Rattle.kak_world.specs.declared.purpose.Purpose.TheVariants.{Pattern}
 use Rattle.kak_world.specs.Flat.{Flat, purpose_of, registers_of}
 use Rattle.kak_world.specs.Rows.{Row, Asks}
-use Rattle.normal_keys.specs.Examples.{key, alt, keys, client_on, after_keys, mode_after, row_after, one, range}
+use Rattle.normal_keys.specs.Examples.{key, alt, keys, client_on, after_keys, mode_after, row_after, one, straight_range}
 
 -- a text with one selection, where register `/` (47) holds strings
 abbrev pub looking : List (List ℕ) → List ℕ → Range → Flat
@@ -57,14 +57,14 @@ pub record AgainExamples : Type 0 where
 
 -- the main selection's text
 pub record RememberingExamples : Type 0 where
-  pub alt_star_takes_the_text : looked_for (alt 42 ∷ []) (codes "ab cd\n") (range 0 1) ≡ codes "ab" ∷ []
-  pub star_takes_the_ends_of_words : looked_for (keys (codes "*")) (codes "ab cd\n") (range 0 1) ≡ codes "\\bab\\b" ∷ []
-  pub but_not_within_one : looked_for (keys (codes "*")) (codes "abc\n") (range 1 1) ≡ codes "b" ∷ []
-  pub at_its_begin : looked_for (keys (codes "*")) (codes "abc\n") (range 0 1) ≡ codes "\\bab" ∷ []
-  pub at_its_end : looked_for (keys (codes "*")) (codes "abc\n") (range 1 2) ≡ codes "bc\\b" ∷ []
+  pub alt_star_takes_the_text : looked_for (alt 42 ∷ []) (codes "ab cd\n") (straight_range 0 1) ≡ codes "ab" ∷ []
+  pub star_takes_the_ends_of_words : looked_for (keys (codes "*")) (codes "ab cd\n") (straight_range 0 1) ≡ codes "\\bab\\b" ∷ []
+  pub but_not_within_one : looked_for (keys (codes "*")) (codes "abc\n") (straight_range 1 1) ≡ codes "b" ∷ []
+  pub at_its_begin : looked_for (keys (codes "*")) (codes "abc\n") (straight_range 0 1) ≡ codes "\\bab" ∷ []
+  pub at_its_end : looked_for (keys (codes "*")) (codes "abc\n") (straight_range 1 2) ≡ codes "bc\\b" ∷ []
   pub blanks_have_none : looked_for (keys (codes "*")) (codes "a b\n") (only 1) ≡ codes " " ∷ []
-  pub numbers_are_word_characters : looked_for (keys (codes "*")) (97 ∷ 0xbd ∷ 10 ∷ []) (range 0 1) ≡ (codes "\\ba" ++ 0xc2 ∷ 0xbd ∷ codes "\\b") ∷ []
-  pub special_ones_are_escaped : looked_for (alt 42 ∷ []) (codes "a.b+c\n") (range 0 4) ≡ codes "a\\.b\\+c" ∷ []
+  pub numbers_are_word_characters : looked_for (keys (codes "*")) (97 ∷ 0xbd ∷ 10 ∷ []) (straight_range 0 1) ≡ (codes "\\ba" ++ 0xc2 ∷ 0xbd ∷ codes "\\b") ∷ []
+  pub special_ones_are_escaped : looked_for (alt 42 ∷ []) (codes "a.b+c\n") (straight_range 0 4) ≡ codes "a\\.b\\+c" ∷ []
 
 pub record PatternExamples : Type 0 where
   pub prompts : PromptingExamples

@@ -7,7 +7,7 @@ use Rattle.key_names.specs.declared.key.Base.TheVariants as base
 use Rattle.key_names.specs.Modified.{is_modified}
 use Rattle.motion_keys.specs.declared.landmarks.Place.{Place}
 use Rattle.motion_keys.specs.declared.landmarks.Place.TheVariants as place
-use Rattle.motion_keys.specs.declared.char_moves.Search.{Search}
+use Rattle.motion_keys.specs.declared.char_moves.CharSearch.{CharSearch}
 use Rattle.motion_keys.specs.declared.finding.Motion.TheVariants.{Character, To}
 use Rattle.motion_keys.specs.declared.finding.Reach.{Reach}
 use Rattle.edit_line.specs.Halves.{empty}
@@ -20,7 +20,7 @@ use Rattle.text_objects.specs.declared.kinds.Object.{Object}
 use Rattle.text_objects.specs.declared.kinds.Object.TheVariants as object
 use Rattle.key_rows.specs.declared.each.Extent.{Extent}
 use Rattle.key_rows.specs.declared.each.Each.TheVariants as each
-use Rattle.key_rows.specs.Each.{each_changed, moved}
+use Rattle.key_rows.specs.Each.{each_changed, each_moved}
 use Rattle.key_rows.specs.Naming.{register_named}
 use Rattle.key_rows.specs.Patterns.{asks_for_last, main_remembered}
 use Rattle.key_rows.specs.Edits.{fill_row, edit_done}
@@ -43,8 +43,8 @@ abbrev pub prefix_of : ℕ → Flat → Prefix
 prefix_of who flat = record { count = count_of who flat; register = register_of who flat }
 
 -- a client without a count and a register, and with no key that waits
-abbrev pub cleared : ℕ → Flat → Flat
-cleared who flat = with_own who (λ o. record o { count = 0; register = None; pending = None }) flat
+abbrev pub client_cleared : ℕ → Flat → Flat
+client_cleared who flat = with_own who (λ o. record o { count = 0; register = None; pending = None }) flat
 
 -- a client with a count, and with a register that was chosen, or none
 abbrev pub prefixed : ℕ → Option ℕ → ℕ → Flat → Flat
@@ -62,7 +62,7 @@ open_prompt purpose who flat = with_own who (λ o. record o { mode = Prompt; pur
 abbrev pub go_to_line : Key → Reach → ℕ → ℕ → Flat → Flat
 go_to_line key reach count who flat =
     if count == 0 then waiting key 0 who flat
-    else moved (To (place.Line (count - 1))) reach who flat
+    else each_moved (To (place.Line (count - 1))) reach who flat
 
 -- what a key does, by its action, with what stands before it, in a world that has that no more
 abbrev pub acted : Key → Action → Prefix → ℕ → Flat → RowEnd
@@ -70,7 +70,7 @@ acted key action.Nothing prefix who flat = does flat
 acted key (action.Digit digit) prefix who flat = does (prefixed (with_digit prefix.count digit) prefix.register who flat)
 acted key action.ChoosesRegister prefix who flat = does (waiting key prefix.count who flat)
 acted key (action.Repeats what) prefix who flat = runs prefix.count (once what prefix.register who) flat
-acted key (action.MovesOnce motion reach) prefix who flat = does (moved motion reach who flat)
+acted key (action.MovesOnce motion reach) prefix who flat = does (each_moved motion reach who flat)
 acted key (action.Seeks search reach) prefix who flat = does (waiting key prefix.count who flat)
 acted key (action.Goes reach) prefix who flat = does (go_to_line key reach prefix.count who flat)
 acted key (action.Shapes shape) prefix who flat = does (each_changed (each.Reshaped shape) who flat)
@@ -96,8 +96,8 @@ abbrev pub character_of : Key → Option ℕ
 character_of key = if is_modified key then None else base_character key.base
 
 -- the names of places
-abbrev pub places : List (ℕ × Option Place)
-places =
+abbrev pub place_names : List (ℕ × Option Place)
+place_names =
     (code "g", Some place.First)
     ∷ (code "k", Some place.First)
     ∷ (code "j", Some place.LastLine)
@@ -111,7 +111,7 @@ places =
     ∷ []
 
 abbrev pub place_named : ℕ → Option Place
-place_named c = looked_up None c places
+place_named c = looked_up None c place_names
 
 -- the place that a key names
 abbrev pub place_of : Key → Option Place
@@ -162,13 +162,13 @@ abbrev pub object_of : Key → Option Object
 object_of key = if is_alt_w key then Some object.BigWord else option_and_then object_named (character_of key)
 
 -- what is done with the next key, for which another one waited; one that doesn't fit does nothing
-abbrev pub sought_character : Search → Reach → ℕ → ℕ → Option ℕ → Flat → RowEnd
+abbrev pub sought_character : CharSearch → Reach → ℕ → ℕ → Option ℕ → Flat → RowEnd
 sought_character search reach count who None flat = does flat
 sought_character search reach count who (Some c) flat = runs count (once (Moves (Character search c) reach) None who) flat
 
-abbrev pub filled : ℕ → Option ℕ → Flat → RowEnd
-filled who None flat = does flat
-filled who (Some c) flat = fill_row c who flat
+abbrev pub filled_row : ℕ → Option ℕ → Flat → RowEnd
+filled_row who None flat = does flat
+filled_row who (Some c) flat = fill_row c who flat
 
 -- the register that a key names is chosen for the next one
 abbrev pub chosen_register : ℕ → ℕ → Option ℕ → Flat → RowEnd
@@ -177,7 +177,7 @@ chosen_register count who (Some c) flat = does (prefixed count (Some c) who flat
 
 abbrev pub sought_place : Reach → ℕ → Option Place → Flat → RowEnd
 sought_place reach who None flat = does flat
-sought_place reach who (Some p) flat = does (moved (To p) reach who flat)
+sought_place reach who (Some p) flat = does (each_moved (To p) reach who flat)
 
 abbrev pub sought_object : Extent → ℕ → Option Object → Flat → RowEnd
 sought_object extent who None flat = does flat
@@ -189,7 +189,7 @@ abbrev pub answered : Action → Key → ℕ → ℕ → Flat → RowEnd
 answered (action.Seeks search reach) key count who flat = sought_character search reach count who (character_of key) flat
 answered (action.Goes reach) key count who flat = sought_place reach who (place_of key) flat
 answered (action.SelectsObject extent) key count who flat = sought_object extent who (object_of key) flat
-answered action.Fills key count who flat = filled who (character_of key) flat
+answered action.Fills key count who flat = filled_row who (character_of key) flat
 answered action.ChoosesRegister key count who flat = chosen_register count who (register_named key) flat
 answered _ key count who flat = does flat
 
@@ -200,4 +200,4 @@ row_pending (Some waits) key prefix who flat = answered (action_of waits) key pr
 
 -- the row of a key in normal mode: it uses up what stands before it
 unfoldable pub row_normal : Key → ℕ → Flat → RowEnd
-row_normal key who flat = row_pending (pending_of who flat) key (prefix_of who flat) who (cleared who flat)
+row_normal key who flat = row_pending (pending_of who flat) key (prefix_of who flat) who (client_cleared who flat)

@@ -4,12 +4,12 @@ use Rattle.std.specs.declared.option.Option.{Option}
 use Rattle.undo_model.specs.declared.travel.Travel.TheVariants.{Node}
 use Rattle.undo_model.specs.Moves.{move_changes}
 use Rattle.key_names.specs.declared.key.Key.{Key}
-use Rattle.motion_keys.specs.declared.char_moves.Search.{Search}
+use Rattle.motion_keys.specs.declared.char_moves.CharSearch.{CharSearch}
 use Rattle.motion_keys.specs.declared.direction.Direction.{Direction}
 use Rattle.motion_keys.specs.declared.direction.Direction.TheVariants.{Forward, Backward}
 use Rattle.motion_keys.specs.declared.finding.Motion.TheVariants.{Character}
 use Rattle.motion_keys.specs.declared.finding.Reach.{Reach}
-use Rattle.kak_world.specs.Flat.{Flat, story_of, node_of, pending_of, units_of, with_units}
+use Rattle.kak_world.specs.Flat.{Flat, story_of, node_number_of, pending_of, units_of, with_units}
 use Rattle.kak_world.specs.Rows.{RowEnd}
 use Rattle.kak_world.specs.Changing.{IsCutOff}
 use Rattle.key_rows.specs.Wanting.{IsPartOfPut, IsPartOfFill, IsPartOfEdit, IsPartOfEntry}
@@ -20,7 +20,7 @@ use Rattle.normal_keys.specs.declared.actions.Repeated.{Repeated}
 use Rattle.normal_keys.specs.declared.actions.Repeated.TheVariants as repeated
 use Rattle.normal_keys.specs.Actions.{action_of}
 use Rattle.normal_keys.specs.Repeating.{once}
-use Rattle.normal_keys.specs.Rows.{character_of, prefix_of, cleared}
+use Rattle.normal_keys.specs.Rows.{character_of, prefix_of, client_cleared}
 
 -- a unit was taken
 abbrev pub unit_taken : Flat → Flat
@@ -45,7 +45,7 @@ node_beside Forward n = n + 1
 -- one run came part of the way
 abbrev pub is_part_of_once : Repeated → Option ℕ → ℕ → Flat → Flat → Type 0
 is_part_of_once (repeated.Travels travel) register who old new = IsCutOff who (move_changes travel (story_of who old)) old new
-is_part_of_once (repeated.GoesToNode direction) register who old new = IsCutOff who (move_changes (Node (node_beside direction (node_of who old))) (story_of who old)) old new
+is_part_of_once (repeated.GoesToNode direction) register who old new = IsCutOff who (move_changes (Node (node_beside direction (node_number_of who old))) (story_of who old)) old new
 is_part_of_once (repeated.Puts how) register who old new = IsPartOfPut how register who old new
 is_part_of_once _ register who old new = new ≡ old
 
@@ -59,7 +59,7 @@ IsPartOfAction (action.Edits edit) prefix who old new = IsPartOfEdit edit prefix
 IsPartOfAction (action.Inserts entry) prefix who old new = IsPartOfEntry entry prefix.register who old new
 IsPartOfAction _ prefix who old new = new ≡ old
 
-abbrev pub is_part_of_seeking : Search → Reach → ℕ → ℕ → Option ℕ → Flat → Flat → Type 0
+abbrev pub is_part_of_seeking : CharSearch → Reach → ℕ → ℕ → Option ℕ → Flat → Flat → Type 0
 is_part_of_seeking search reach count who None old new = new ≡ old
 is_part_of_seeking search reach count who (Some c) old new = ArePartOfKey (repeated.Moves (Character search c) reach) count None who old new
 
@@ -80,4 +80,4 @@ IsPartOfKey (Some waits) key prefix who old new = IsPartOfAnswer (action_of wait
 
 -- a key of normal mode came part of the way: what stood before it is used up
 abbrev pub IsPartOfNormal : Key → ℕ → Flat → Flat → Type 0
-IsPartOfNormal key who old new = IsPartOfKey (pending_of who old) key (prefix_of who old) who (cleared who old) new
+IsPartOfNormal key who old new = IsPartOfKey (pending_of who old) key (prefix_of who old) who (client_cleared who old) new

@@ -6,9 +6,9 @@ ghost use Rattle.normal_keys.specs.Actions.{moves, seeks, asks, letter_action, a
 use edit_ops::{Indent, Put, Rotation, Side};
 use kak_world::{Purpose, Toward, Use};
 use key_names::{Base, Key};
-use key_rows::{Bounds, Edit, Entry, Extent, Shape};
+use key_rows::{Bounds, Edit, Extent, InsertEntry, Shape};
 use list_keys::{Cut, ListChange, Split};
-use motion_keys::{Direction, LinePart, Motion, Reach, Search, Until, WordKind, WordMove};
+use motion_keys::{CharSearch, Direction, LinePart, Motion, Reach, Until, WordKind, WordMove};
 use undo_model::Travel;
 
 /// What is done as often as the count says.
@@ -40,7 +40,7 @@ pub enum Action {
     /// A motion of each selection, once.
     MovesOnce(Motion, Reach),
     /// It waits for a character to go to.
-    Seeks(Search, Reach),
+    Seeks(CharSearch, Reach),
     /// It goes to the line that the count says, or waits for the name of a place.
     Goes(Reach),
     /// It waits for the name of an object, which is selected at each cursor.
@@ -54,7 +54,7 @@ pub enum Action {
     /// It waits for a character that takes the place of each one in the selections.
     Fills,
     /// Insert mode.
-    Inserts(Entry),
+    Inserts(InsertEntry),
     /// An empty prompt.
     Prompts(Purpose),
     /// The main selection becomes a match of the pattern that was looked for last, as often as the count says.
@@ -76,7 +76,7 @@ fn moves(motion: Motion, reach: Reach) -> Action
 fn seeks(direction: Direction, until: Until, reach: Reach) -> Action
     ensures { result ≡ seeks direction until reach }
 {
-    Action::Seeks(Search { direction, until }, reach)
+    Action::Seeks(CharSearch { direction, until }, reach)
 }
 
 // A prompt for a pattern, of which a use is made.
@@ -146,13 +146,13 @@ fn sign_action(c: char) -> Action
         '&' => Action::Edits(Edit::Align),
         'p' => Action::Repeats(Repeated::Puts(Put::After)),
         'P' => Action::Repeats(Repeated::Puts(Put::Before)),
-        'i' => Action::Inserts(Entry::Before),
-        'a' => Action::Inserts(Entry::Behind),
-        'I' => Action::Inserts(Entry::FirstLine),
-        'A' => Action::Inserts(Entry::LastNewline),
-        'o' => Action::Inserts(Entry::Open(Side::Below)),
-        'O' => Action::Inserts(Entry::Open(Side::Above)),
-        'c' => Action::Inserts(Entry::Cut),
+        'i' => Action::Inserts(InsertEntry::Before),
+        'a' => Action::Inserts(InsertEntry::Behind),
+        'I' => Action::Inserts(InsertEntry::FirstLine),
+        'A' => Action::Inserts(InsertEntry::LastNewline),
+        'o' => Action::Inserts(InsertEntry::Open(Side::Below)),
+        'O' => Action::Inserts(InsertEntry::Open(Side::Above)),
+        'c' => Action::Inserts(InsertEntry::Cut),
         '"' => Action::ChoosesRegister,
         ':' => Action::Prompts(Purpose::Commands),
         's' => asks(Use::Select),
@@ -180,7 +180,7 @@ fn alt_sign_action(c: char) -> Action
         'j' => Action::Edits(Edit::Join),
         ')' => Action::Edits(Edit::Rotate(Rotation::Forward)),
         '(' => Action::Edits(Edit::Rotate(Rotation::Backward)),
-        'c' => Action::Inserts(Entry::Erase),
+        'c' => Action::Inserts(InsertEntry::Erase),
         'i' => Action::SelectsObject(Extent::Inner),
         'a' => Action::SelectsObject(Extent::Around),
         's' => Action::Lists(ListChange::Split(Split::AtLineEnds)),

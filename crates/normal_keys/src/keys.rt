@@ -3,7 +3,7 @@
 
 ghost use Rattle.std.specs.Prelude.{◌≡◌, ◌≤◌, true, length, IsErrOf};
 ghost use Rattle.kak_world.specs.Flat.{is_joined, sels_of, pending_of};
-ghost use Rattle.kak_world.specs.Rows.{Gives, does};
+ghost use Rattle.kak_world.specs.Rows.{GivesRow, does};
 ghost use Rattle.key_rows.specs.Each.{each_changed};
 ghost use Rattle.normal_keys.specs.Rows.{open_prompt, go_to_line, acted, sought_character, chosen_register, answered, row_pending, row_normal};
 ghost use Rattle.normal_keys.specs.Growing.{action_grows, answer_grows, key_grows};
@@ -20,13 +20,13 @@ use key_names::Key;
 use key_rows::{
     Each, ask_for_last, change_each, edit_texts, enter_insert, fill, register_named, remember_main,
 };
-use motion_keys::{Motion, Place, Reach, Search};
+use motion_keys::{CharSearch, Motion, Place, Reach};
 use std::alloc::Global;
 
 // Does something to each selection once.
 fn change(alloc: Global, world: &mut World, who: u32, change: Each) -> Result<Ask, EditError>
     requires { is_joined who world.old.flat ≡ true }
-    ensures row { Gives result world.new.flat (does (each_changed change who world.old.flat)) }
+    ensures row { GivesRow result world.new.flat (does (each_changed change who world.old.flat)) }
     ensures wanting { IsErrOf result EditError.NoMemory → world.new.flat ≡ world.old.flat }
     ensures few { length (sels_of who world.old.flat).list ≤ 4 → ¬ IsErrOf result EditError.NoMemory }
 {
@@ -55,7 +55,7 @@ fn go(
     reach: Reach,
 ) -> Result<Ask, EditError>
     requires { is_joined who world.old.flat ≡ true }
-    ensures row { Gives result world.new.flat (does (go_to_line key reach count who world.old.flat)) }
+    ensures row { GivesRow result world.new.flat (does (go_to_line key reach count who world.old.flat)) }
     ensures wanting { IsErrOf result EditError.NoMemory → world.new.flat ≡ world.old.flat }
     ensures few { length (sels_of who world.old.flat).list ≤ 4 → ¬ IsErrOf result EditError.NoMemory }
 {
@@ -77,7 +77,7 @@ fn act(
     action: Action,
 ) -> Result<Ask, EditError>
     requires { is_joined who world.old.flat ≡ true }
-    ensures row { Gives result world.new.flat (acted key action prefix who world.old.flat) }
+    ensures row { GivesRow result world.new.flat (acted key action prefix who world.old.flat) }
     ensures wanting { IsErrOf result EditError.NoMemory → IsPartOfAction action prefix who world.old.flat world.new.flat }
     ensures few { length (sels_of who world.old.flat).list ≤ 4 → IsErrOf result EditError.NoMemory → action_grows action ≡ true }
 {
@@ -141,12 +141,12 @@ fn seek(
     world: &mut World,
     who: u32,
     count: u32,
-    search: Search,
+    search: CharSearch,
     reach: Reach,
     c: Option<char>,
 ) -> Result<Ask, EditError>
     requires { is_joined who world.old.flat ≡ true }
-    ensures row { Gives result world.new.flat (sought_character search reach count who c world.old.flat) }
+    ensures row { GivesRow result world.new.flat (sought_character search reach count who c world.old.flat) }
     ensures wanting { IsErrOf result EditError.NoMemory → is_part_of_seeking search reach count who c world.old.flat world.new.flat }
     ensures few { length (sels_of who world.old.flat).list ≤ 4 → ¬ IsErrOf result EditError.NoMemory }
 {
@@ -173,7 +173,7 @@ fn answer(
     key: Key,
 ) -> Result<Ask, EditError>
     requires { is_joined who world.old.flat ≡ true }
-    ensures row { Gives result world.new.flat (answered waited key count who world.old.flat) }
+    ensures row { GivesRow result world.new.flat (answered waited key count who world.old.flat) }
     ensures wanting { IsErrOf result EditError.NoMemory → IsPartOfAnswer waited key count who world.old.flat world.new.flat }
     ensures few { length (sels_of who world.old.flat).list ≤ 4 → IsErrOf result EditError.NoMemory → answer_grows waited ≡ true }
 {
@@ -213,7 +213,7 @@ fn run_pending(
     key: Key,
 ) -> Result<Ask, EditError>
     requires { is_joined who world.old.flat ≡ true }
-    ensures row { Gives result world.new.flat (row_pending pending key prefix who world.old.flat) }
+    ensures row { GivesRow result world.new.flat (row_pending pending key prefix who world.old.flat) }
     ensures wanting { IsErrOf result EditError.NoMemory → IsPartOfKey pending key prefix who world.old.flat world.new.flat }
     ensures few { length (sels_of who world.old.flat).list ≤ 4 → IsErrOf result EditError.NoMemory → key_grows pending key ≡ true }
 {
@@ -229,7 +229,7 @@ fn run_pending(
 #[tactic(auto, unfolding(crate::specs::Rows::row_normal), using(kak_world::proofs::WorldLaws::world_laws))]
 pub fn normal_key(alloc: Global, world: &mut World, who: u32, key: Key) -> Result<Ask, EditError>
     requires { is_joined who world.old.flat ≡ true }
-    ensures row { Gives result world.new.flat (row_normal key who world.old.flat) }
+    ensures row { GivesRow result world.new.flat (row_normal key who world.old.flat) }
     ensures wanting { IsErrOf result EditError.NoMemory → IsPartOfNormal key who world.old.flat world.new.flat }
     ensures few { length (sels_of who world.old.flat).list ≤ 4 → IsErrOf result EditError.NoMemory → key_grows (pending_of who world.old.flat) key ≡ true }
 {

@@ -3,7 +3,7 @@
 
 ghost use Rattle.std.specs.Prelude.{◌≡◌, ◌≤◌, true, length, IsErrOf};
 ghost use Rattle.kak_world.specs.Flat.{is_joined, sels_of};
-ghost use Rattle.kak_world.specs.Rows.{Gives};
+ghost use Rattle.kak_world.specs.Rows.{GivesRow};
 ghost use Rattle.list_keys.specs.Changes.{change_adds};
 ghost use Rattle.normal_keys.specs.Listing.{list_changed};
 
@@ -22,7 +22,7 @@ pub(crate) fn change_list(
     change: ListChange,
 ) -> Result<Ask, EditError>
     requires { is_joined who world.old.flat ≡ true }
-    ensures row { Gives result world.new.flat (list_changed change who world.old.flat) }
+    ensures row { GivesRow result world.new.flat (list_changed change who world.old.flat) }
     ensures wanting { IsErrOf result EditError.NoMemory → world.new.flat ≡ world.old.flat }
     ensures few { length (sels_of who world.old.flat).list ≤ 4 → IsErrOf result EditError.NoMemory → change_adds change ≡ true }
 {

@@ -3,7 +3,7 @@
 
 ghost use Rattle.std.specs.Prelude.{◌≡◌, true};
 ghost use Rattle.kak_world.specs.Flat.{is_joined, pending_of};
-ghost use Rattle.normal_keys.specs.Rows.{with_digit, prefix_of, cleared, prefixed, waiting};
+ghost use Rattle.normal_keys.specs.Rows.{with_digit, prefix_of, client_cleared, prefixed, waiting};
 
 use kak_world::World;
 use key_names::Key;
@@ -31,7 +31,7 @@ pub(crate) fn with_digit(count: u32, digit: u32) -> u32
 /// Takes what stands before a key of a client, and the key that waits, if one does.
 pub(crate) fn take_prefix(world: &mut World, who: u32) -> (Prefix, Option<Key>)
     requires { is_joined who world.old.flat ≡ true }
-    ensures clears { world.new.flat ≡ cleared who world.old.flat }
+    ensures clears { world.new.flat ≡ client_cleared who world.old.flat }
     ensures prefix { result.0 ≡ prefix_of who world.old.flat }
     ensures pending { result.1 ≡ pending_of who world.old.flat }
 {

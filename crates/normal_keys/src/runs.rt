@@ -4,7 +4,7 @@
 ghost use Rattle.std.specs.Prelude.{◌≡◌, ◌≤◌, true, false, None, length, IsOk, IsErrOf};
 ghost use Rattle.kak_world.specs.declared.ask.EditError.TheVariants.{NoMemory};
 ghost use Rattle.kak_world.specs.Flat.{is_joined, sels_of};
-ghost use Rattle.kak_world.specs.Rows.{Answers, Gives};
+ghost use Rattle.kak_world.specs.Rows.{Answers, GivesRow};
 ghost use Rattle.normal_keys.specs.Running.{runs};
 ghost use Rattle.normal_keys.specs.Listing.{main_moved};
 ghost use Rattle.normal_keys.specs.Repeating.{node_row, once, repeated_grows};
@@ -91,7 +91,7 @@ pub(crate) fn run_often(
     what: Repeated,
 ) -> Result<Ask, EditError>
     requires { is_joined who world.old.flat ≡ true }
-    ensures row { Gives result world.new.flat (runs prefix.count (once what prefix.register who) world.old.flat) }
+    ensures row { GivesRow result world.new.flat (runs prefix.count (once what prefix.register who) world.old.flat) }
     ensures wanting { IsErrOf result NoMemory → ArePartOfKey what prefix.count prefix.register who world.old.flat world.new.flat }
     ensures few { repeated_grows what ≡ false → length (sels_of who world.old.flat).list ≤ 4 → ¬ IsErrOf result EditError.NoMemory }
 {

@@ -16,9 +16,9 @@ doubled [] = []
 doubled (c ∷ cs) = if c == 39 then 39 ∷ 39 ∷ doubled cs else c ∷ doubled cs
 
 -- the key of a character
-abbrev pub typed : ℕ → Key
-typed c = bare (Char c)
+abbrev pub typed_key : ℕ → Key
+typed_key c = bare (Char c)
 
 -- the keys that open the file of a name: `:edit '<name>'<ret>`, with each quote in the name doubled
 abbrev pub edit_keys : List ℕ → List Key
-edit_keys name = map typed (codes ":edit '" ++ doubled name ++ codes "'") ++ bare Ret ∷ []
+edit_keys name = map typed_key (codes ":edit '" ++ doubled name ++ codes "'") ++ bare Ret ∷ []

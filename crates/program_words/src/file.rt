@@ -4,7 +4,7 @@ ghost use Rattle.std.specs.Prelude.{◌≡◌, ◌∷◌, [], ◌++◌, map, len
 ghost use Rattle.std.specs.Char.{is_control};
 ghost use Rattle.std.specs.List.{list_all};
 ghost use Rattle.std.specs.Str.{chars};
-ghost use Rattle.program_words.specs.Files.{is_file_name, doubled, typed, edit_keys};
+ghost use Rattle.program_words.specs.Files.{is_file_name, doubled, typed_key, edit_keys};
 
 use key_names::{Base, Key};
 use std::alloc::{AllocError, Global};
@@ -33,7 +33,7 @@ pub fn is_file_name(text: &str) -> bool
 
 // Adds the key of a character.
 fn push_char(keys: &mut Vec<Key>, c: char) -> Result<(), AllocError>
-    ensures { OnOk result (keys.new.items ≡ keys.old.items ++ map typed (c ∷ [])) }
+    ensures { OnOk result (keys.new.items ≡ keys.old.items ++ map typed_key (c ∷ [])) }
 {
     keys.push(Key {
         control: false,
@@ -46,7 +46,7 @@ fn push_char(keys: &mut Vec<Key>, c: char) -> Result<(), AllocError>
 
 // Adds the keys of a text's characters.
 fn push_text(keys: &mut Vec<Key>, text: &str) -> Result<(), AllocError>
-    ensures { OnOk result (keys.new.items ≡ keys.old.items ++ map typed (chars text.now)) }
+    ensures { OnOk result (keys.new.items ≡ keys.old.items ++ map typed_key (chars text.now)) }
 {
     for c in text.chars() {
         push_char(keys, c)?;
@@ -56,7 +56,7 @@ fn push_text(keys: &mut Vec<Key>, text: &str) -> Result<(), AllocError>
 
 // Adds the key of a character within quotes: a quote twice.
 fn push_quoted(keys: &mut Vec<Key>, c: char) -> Result<(), AllocError>
-    ensures { OnOk result (keys.new.items ≡ keys.old.items ++ map typed (doubled (c ∷ []))) }
+    ensures { OnOk result (keys.new.items ≡ keys.old.items ++ map typed_key (doubled (c ∷ []))) }
 {
     push_char(keys, c)?;
     if c == '\'' {
@@ -67,7 +67,7 @@ fn push_quoted(keys: &mut Vec<Key>, c: char) -> Result<(), AllocError>
 
 // Adds the keys of a text's characters within quotes.
 fn push_name(keys: &mut Vec<Key>, name: &str) -> Result<(), AllocError>
-    ensures { OnOk result (keys.new.items ≡ keys.old.items ++ map typed (doubled (chars name.now))) }
+    ensures { OnOk result (keys.new.items ≡ keys.old.items ++ map typed_key (doubled (chars name.now))) }
 {
     for c in name.chars() {
         push_quoted(keys, c)?;

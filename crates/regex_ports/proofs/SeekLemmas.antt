@@ -4,11 +4,11 @@ use Rattle.std.specs.Prelude.{if◌then◌else◌}
 use Rattle.std.specs.Option.{option_or}
 use Rattle.regex_ports.specs.declared.pattern.Span.{Span}
 use Rattle.regex_ports.specs.Matching.{span_of}
-use Rattle.regex_ports.specs.Seeking.{first_where, last_where}
+use Rattle.regex_ports.specs.Seeking.{first_span_where, last_where}
 
 -- what is left to be found, when something was found first
 abbrev pub first_left : (Span → Bool) → (Span → Bool) → Option Span → List Span → Option Span
-first_left wanted other first ss = option_or (first_where wanted ss) (option_or first (first_where other ss))
+first_left wanted other first ss = option_or (first_span_where wanted ss) (option_or first (first_span_where other ss))
 
 first-or : (b : Bool) (s : Span) (first rest : Option Span) → option_or first (if b then Some s else rest) ≡ option_or (option_or first (if b then Some s else None)) rest
 first-or true s None rest = refl
@@ -18,12 +18,12 @@ first-or false s (Some t) rest = refl
 
 pub first-passed : (wanted other : Span → Bool) (first now : Option Span) (s : Span) (ss : List Span) → wanted s ≡ false → now ≡ option_or first (if other s then Some s else None) → first_left wanted other now ss ≡ first_left wanted other first (s ∷ ss)
 first-passed wanted other first now s ss passed is =
-    ap (λ o. option_or (first_where wanted ss) (option_or o (first_where other ss))) is
-    ∙ ap (λ o. option_or (first_where wanted ss) o) (sym (first-or (other s) s first (first_where other ss)))
-    ∙ ap (λ (b : Bool). option_or (if b then Some s else first_where wanted ss) (option_or first (first_where other (s ∷ ss)))) (sym passed)
+    ap (λ o. option_or (first_span_where wanted ss) (option_or o (first_span_where other ss))) is
+    ∙ ap (λ o. option_or (first_span_where wanted ss) o) (sym (first-or (other s) s first (first_span_where other ss)))
+    ∙ ap (λ (b : Bool). option_or (if b then Some s else first_span_where wanted ss) (option_or first (first_span_where other (s ∷ ss)))) (sym passed)
 
 pub first-here : (wanted other : Span → Bool) (first : Option Span) (s : Span) (ss : List Span) → wanted s ≡ true → Some s ≡ first_left wanted other first (s ∷ ss)
-first-here wanted other first s ss here = ap (λ (b : Bool). option_or (if b then Some s else first_where wanted ss) (option_or first (first_where other (s ∷ ss)))) (sym here)
+first-here wanted other first s ss here = ap (λ (b : Bool). option_or (if b then Some s else first_span_where wanted ss) (option_or first (first_span_where other (s ∷ ss)))) (sym here)
 
 pub first-none : (first : Option Span) → first ≡ option_or first None
 first-none None = refl

@@ -5,7 +5,7 @@ ghost use Rattle.std.specs.Option.{option_or};
 ghost use Rattle.regex.specs.Patterns.{find_all_str, span};
 ghost use Rattle.regex.specs.Strings.{regex_pattern};
 ghost use Rattle.regex_ports.specs.Matching.{span_of};
-ghost use Rattle.regex_ports.specs.Seeking.{begins_before, begins_between, first_behind, last_before};
+ghost use Rattle.regex_ports.specs.Seeking.{span_begins_before, begins_between, first_behind, last_before};
 
 use crate::pattern::Span;
 use regex::Regex;
@@ -20,7 +20,7 @@ fn is_between(span: Span, byte: usize, end: usize) -> bool
 
 // What was found first: what was there, or a span that begins before the end.
 fn earlier(first: Option<Span>, span: Span, end: usize) -> Option<Span>
-    ensures { result ≡ option_or first (if begins_before end span then Some span else None) }
+    ensures { result ≡ option_or first (if span_begins_before end span then Some span else None) }
 {
     if first.is_some() {
         return first;
@@ -30,7 +30,7 @@ fn earlier(first: Option<Span>, span: Span, end: usize) -> Option<Span>
 
 // What was found last: a span that begins before a byte, or what was there.
 fn later(last: Option<Span>, span: Span, byte: usize) -> Option<Span>
-    ensures { result ≡ (if begins_before byte span then Some span else last) }
+    ensures { result ≡ (if span_begins_before byte span then Some span else last) }
 {
     if span.start < byte { Some(span) } else { last }
 }

@@ -7,7 +7,7 @@ use Rattle.list_model.specs.Settled.{SomeOf}
 use Rattle.list_model.proofs.ListLemmas.{all_weaker}
 use Rattle.regex_select.specs.declared.way.Way.{Way}
 use Rattle.regex_select.specs.declared.way.Way.TheVariants.{Forward, Backward}
-use Rattle.regex_select.specs.Rows.{chars_of, spans_in}
+use Rattle.regex_select.specs.Rows.{selected_chars, spans_in}
 use Rattle.regex_select.specs.Selecting.{selected_by_all, matched_in}
 use Rattle.regex_select.specs.Searching.{all_matches, on_the_way, is_ahead, first_or, sought}
 use Rattle.regex_select.proofs.SoughtLemmas.{all-reverse, all-filter}
@@ -15,7 +15,7 @@ use Rattle.regex_select.proofs.MadeLemmas.{length-way}
 
 pub in-the-whole : (source text : List ℕ) (r : Range) → r.low ≡ 0 → r.high + 1 ≡ length text → all_matches source text ≡ matched_in source text r
 in-the-whole source text r l h =
-    let same : chars_of text r ≡ text = ap (λ n. slice_range text n (r.high + 1)) l ∙ take_all (r.high + 1 - 0) text (omega (arith, h)) in
+    let same : selected_chars text r ≡ text = ap (λ n. slice_range text n (r.high + 1)) l ∙ take_all (r.high + 1 - 0) text (omega (arith, h)) in
     sym (ap₂ (λ chars low. selected_by_all chars low (spans_in source chars)) same l)
 
 -- an element of a list

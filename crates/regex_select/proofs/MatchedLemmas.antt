@@ -17,7 +17,7 @@ use Rattle.selection_set.specs.Listing.{ranges_of}
 use Rattle.regex_ports.specs.declared.pattern.Span.{Span}
 use Rattle.regex_select.specs.declared.error.SelectError.{SelectError}
 use Rattle.regex_select.specs.declared.error.SelectError.TheVariants.{NoMatch, TooMany, NoMemory}
-use Rattle.regex_select.specs.declared.walking.Walk.{Walk}
+use Rattle.regex_select.specs.declared.walking.SelectionWalk.{SelectionWalk}
 use Rattle.regex_select.specs.Causes.{IsCause, IsForRoom}
 use Rattle.regex_select.specs.Selecting.{chars_before, part_between, match_end, selected_by}
 use Rattle.regex_select.specs.Walks.{own_chars, IsWalk}
@@ -37,7 +37,7 @@ part-none a b h = ap (λ t. cond t (straight a (b - 1) ∷ []) []) (le-ltb a b h
 pub end-empty : (chars : List ℕ) (from to : ℕ) → to ≤ from → match_end chars from to ≡ min (from + 1) (length chars)
 end-empty chars from to h = ap (λ t. cond t to (min (from + 1) (length chars))) (le-ltb from to h)
 
-pub between-inside : (text : List ℕ) (sel : Sel) (first end : Walk) (high : Coord) → IsInside text sel → IsWalk text sel first → IsWalk text sel end → first.passed < end.passed → IsPlace text high → offset text high + 1 ≡ offset text end.at
+pub between-inside : (text : List ℕ) (sel : Sel) (first end : SelectionWalk) (high : Coord) → IsInside text sel → IsWalk text sel first → IsWalk text sel end → first.passed < end.passed → IsPlace text high → offset text high + 1 ≡ offset text end.at
     → IsInside text (record { low = first.at; high = high; turned = false; target = None })
 between-inside text sel first end high i f e h p l = record {
   low = walk-place text sel first i f (omega (arith, h, e.few));
@@ -46,12 +46,12 @@ between-inside text sel first end high i f e h p l = record {
 }
 
 -- a walk that hasn't passed all of a selection stands in it
-pub walk-inside : (text : List ℕ) (sel : Sel) (w : Walk) → IsInside text sel → IsWalk text sel w → is_at_most w.at sel.high ≡ true → w.passed < length (own_chars text sel)
+pub walk-inside : (text : List ℕ) (sel : Sel) (w : SelectionWalk) → IsInside text sel → IsWalk text sel w → is_at_most w.at sel.high ≡ true → w.passed < length (own_chars text sel)
 walk-inside text sel w i f t =
     let ordered : offset text w.at ≤ offset text sel.high = leb-true (offset text w.at) (offset text sel.high) (sym (is_at_most-offset text w.at sel.high f.place (inl i.high)) ∙ t) in
     omega (arith, ordered, f.reached, own-length text sel i)
 
-pub walk-over : (text : List ℕ) (sel : Sel) (w : Walk) → IsInside text sel → IsWalk text sel w → is_at_most w.at sel.high ≡ false → length (own_chars text sel) ≤ w.passed
+pub walk-over : (text : List ℕ) (sel : Sel) (w : SelectionWalk) → IsInside text sel → IsWalk text sel w → is_at_most w.at sel.high ≡ false → length (own_chars text sel) ≤ w.passed
 walk-over text sel w i f n =
     let beyond : offset text sel.high < offset text w.at = go (ways (offset text sel.high) (offset text w.at)) in
     omega (arith, beyond, f.reached, own-length text sel i)
@@ -64,7 +64,7 @@ walk-over text sel w i f n =
     go (inr h) = absurd (false≢true (sym n ∙ is_at_most-offset text w.at sel.high f.place (inl i.high) ∙ leb_true (offset text w.at) (offset text sel.high) h))
 
 -- an empty match selects the character at its place
-pub empty-range : (text : List ℕ) (sel : Sel) (first end : Walk) → IsWalk text sel first → end.passed ≤ first.passed → first.passed < length (own_chars text sel)
+pub empty-range : (text : List ℕ) (sel : Sel) (first end : SelectionWalk) → IsWalk text sel first → end.passed ≤ first.passed → first.passed < length (own_chars text sel)
     → straight (offset text first.at) (offset text first.at) ∷ [] ≡ part_between (offset text sel.low + first.passed) (offset text sel.low + match_end (own_chars text sel) first.passed end.passed)
 empty-range text sel first end f h l =
     let one : match_end (own_chars text sel) first.passed end.passed ≡ first.passed + 1 = end-empty (own_chars text sel) first.passed end.passed h ∙ omega (arith, l) in
@@ -75,7 +75,7 @@ empty-range text sel first end f h l =
     ∙ ap₂ (λ a b. straight a b ∷ []) low last)
 
 -- and nothing at the end
-pub nothing-range : (text : List ℕ) (sel : Sel) (first end : Walk) → end.passed ≤ first.passed → length (own_chars text sel) ≤ first.passed
+pub nothing-range : (text : List ℕ) (sel : Sel) (first end : SelectionWalk) → end.passed ≤ first.passed → length (own_chars text sel) ≤ first.passed
     → [] ≡ part_between (offset text sel.low + first.passed) (offset text sel.low + match_end (own_chars text sel) first.passed end.passed)
 nothing-range text sel first end h l =
     let most : match_end (own_chars text sel) first.passed end.passed ≤ first.passed = omega (arith, end-empty (own_chars text sel) first.passed end.passed h, l) in
@@ -117,7 +117,7 @@ first-line text at b l h z e last =
 -- ---- one match after another
 
 -- what was found between two walks is what the match selects
-pub found-is : (text : List ℕ) (sel : Sel) (spans : List Span) (n : ℕ) (d : Span) (first end : Walk) (found : Option Sel) → first.passed ≡ chars_before (own_chars text sel) (get_or spans n d).start → end.passed ≡ chars_before (own_chars text sel) (get_or spans n d).end
+pub found-is : (text : List ℕ) (sel : Sel) (spans : List Span) (n : ℕ) (d : Span) (first end : SelectionWalk) (found : Option Sel) → first.passed ≡ chars_before (own_chars text sel) (get_or spans n d).start → end.passed ≡ chars_before (own_chars text sel) (get_or spans n d).end
     → ranges_of text (option_to_list found) ≡ part_between (offset text sel.low + first.passed) (offset text sel.low + match_end (own_chars text sel) first.passed end.passed)
     → ranges_of text (option_to_list found) ≡ selected_by (own_chars text sel) (offset text sel.low) (get_or spans n d)
 found-is text sel spans n d first end found f e r = r ∙ ap₂ (λ a b. part_between (offset text sel.low + a) (offset text sel.low + match_end (own_chars text sel) a b)) f e

@@ -8,14 +8,14 @@ use Rattle.regex_ports.specs.declared.pattern.Span.{Span}
 use Rattle.selection_set.specs.declared.sel.Sel.{Sel}
 use Rattle.selection_set.specs.Inside.{range_of, IsInside}
 use Rattle.selection_set.specs.Listing.{ranges_of}
-use Rattle.regex_select.specs.declared.walking.Walk.{Walk}
+use Rattle.regex_select.specs.declared.walking.SelectionWalk.{SelectionWalk}
 use Rattle.regex_select.specs.Selecting.{chars_before, part_between, parts_from}
 use Rattle.regex_select.specs.Walks.{own_chars, IsWalk}
 use Rattle.regex_select.proofs.WalkLemmas.{own-length, walk-place}
 use Rattle.regex_select.proofs.MatchedLemmas.{straight, part-some, part-none}
 
 -- what lies between two walks
-pub part-range : (text : List ℕ) (sel : Sel) (first end : Walk) (high : Coord) → IsWalk text sel first → IsWalk text sel end → first.passed < end.passed → offset text high + 1 ≡ offset text end.at
+pub part-range : (text : List ℕ) (sel : Sel) (first end : SelectionWalk) (high : Coord) → IsWalk text sel first → IsWalk text sel end → first.passed < end.passed → offset text high + 1 ≡ offset text end.at
     → straight (offset text first.at) (offset text high) ∷ [] ≡ part_between (offset text sel.low + first.passed) (offset text sel.low + end.passed)
 part-range text sel first end high f e h l =
     let low : offset text sel.low + first.passed ≡ offset text first.at = sym f.reached in
@@ -26,14 +26,14 @@ pub no-part : (low first end : ℕ) → end ≤ first → [] ≡ part_between (l
 no-part low first end h = sym (part-none (low + first) (low + end) (omega (arith, h)))
 
 -- what lies from a walk on
-pub rest-range : (text : List ℕ) (sel : Sel) (first : Walk) → IsInside text sel → IsWalk text sel first → first.passed < length (own_chars text sel)
+pub rest-range : (text : List ℕ) (sel : Sel) (first : SelectionWalk) → IsInside text sel → IsWalk text sel first → first.passed < length (own_chars text sel)
     → straight (offset text first.at) (offset text sel.high) ∷ [] ≡ part_between (offset text sel.low + first.passed) (offset text sel.low + length (own_chars text sel))
 rest-range text sel first i f l =
     let low : offset text sel.low + first.passed ≡ offset text first.at = sym f.reached in
     let last : offset text sel.low + length (own_chars text sel) - 1 ≡ offset text sel.high = omega (arith, own-length text sel i) in
     sym (part-some (offset text sel.low + first.passed) (offset text sel.low + length (own_chars text sel)) (omega (arith, l)) ∙ ap₂ (λ a b. straight a b ∷ []) low last)
 
-pub rest-inside : (text : List ℕ) (sel : Sel) (first : Walk) → IsInside text sel → IsWalk text sel first → first.passed < length (own_chars text sel) → IsInside text (record { low = first.at; high = sel.high; turned = false; target = None })
+pub rest-inside : (text : List ℕ) (sel : Sel) (first : SelectionWalk) → IsInside text sel → IsWalk text sel first → first.passed < length (own_chars text sel) → IsInside text (record { low = first.at; high = sel.high; turned = false; target = None })
 rest-inside text sel first i f l = record { low = walk-place text sel first i f l; high = i.high; ordered = omega (arith, f.reached, l, own-length text sel i) }
 
 -- ---- part after part

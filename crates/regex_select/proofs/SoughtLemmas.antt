@@ -22,7 +22,7 @@ use Rattle.regex_select.specs.declared.way.Way.{Way}
 use Rattle.regex_select.specs.declared.way.Way.TheVariants.{Forward, Backward}
 use Rattle.regex_select.specs.declared.way.Search.{Search}
 use Rattle.regex_select.specs.Searching.{on_the_way, is_ahead, first_or, sought, reached, searched}
-use Rattle.regex_select.specs.Ways.{is_ahead_at, IsFurther, GoesOn, sought_at, reached_at, searched_at}
+use Rattle.regex_select.specs.Ways.{is_ahead_at, IsFurther, GoesAhead, sought_at, reached_at, searched_at}
 use Rattle.regex_select.proofs.WayLemmas.{map-way}
 
 -- ---- lists inside a text
@@ -154,17 +154,17 @@ further-backward text s [] h k a = tt
 further-backward text s (t ∷ ts) h k a =
     (is_at_most-offset text s.low t.low (inl h.low) (inl k.0.low) ∙ le-leb (offset text s.low) (offset text t.low) (omega (arith, a.0, h.ordered)), further-backward text s ts h k.1 a.1)
 
-goes-on-push : (way : Way) (ss : List Sel) (s : Sel) → GoesOn way ss → AllByRecursion (λ t. IsFurther way t s) ss → GoesOn way (ss ++ s ∷ [])
+goes-on-push : (way : Way) (ss : List Sel) (s : Sel) → GoesAhead way ss → AllByRecursion (λ t. IsFurther way t s) ss → GoesAhead way (ss ++ s ∷ [])
 goes-on-push way [] s g h = (tt, tt)
 goes-on-push way (t ∷ ts) s g h = (all-append (IsFurther way t) ts (s ∷ []) g.0 (h.0, tt), goes-on-push way ts s g.1 h.1)
 
-apart-goes-on : (text : List ℕ) (way : Way) (ss : List Sel) → AreInside text ss → AreApart (ranges_of text ss) → GoesOn way (on_the_way way ss)
+apart-goes-on : (text : List ℕ) (way : Way) (ss : List Sel) → AreInside text ss → AreApart (ranges_of text ss) → GoesAhead way (on_the_way way ss)
 apart-goes-on text Forward [] h a = tt
 apart-goes-on text Forward (s ∷ ss) h a = (further-forward text s ss h.0 h.1 a.0, apart-goes-on text Forward ss h.1 a.1)
 apart-goes-on text Backward [] h a = tt
 apart-goes-on text Backward (s ∷ ss) h a =
-    subst (GoesOn Backward) (sym (reverse-append (s ∷ []) ss))
+    subst (GoesAhead Backward) (sym (reverse-append (s ∷ []) ss))
     (goes-on-push Backward (reverse ss) s (apart-goes-on text Backward ss h.1 a.1) (all-reverse (λ t. IsFurther Backward t s) ss (further-backward text s ss h.0 h.1 a.0)))
 
-pub held-goes-on : (text : List ℕ) (way : Way) (s : Listed) (list : List Sel) → IsHeld text s → list ≡ s.list → GoesOn way (on_the_way way list)
-held-goes-on text way s list h e = subst (λ l. GoesOn way (on_the_way way l)) (sym e) (apart-goes-on text way s.list h.inside h.settled.apart)
+pub held-goes-on : (text : List ℕ) (way : Way) (s : Listed) (list : List Sel) → IsHeld text s → list ≡ s.list → GoesAhead way (on_the_way way list)
+held-goes-on text way s list h e = subst (λ l. GoesAhead way (on_the_way way l)) (sym e) (apart-goes-on text way s.list h.inside h.settled.apart)

@@ -11,12 +11,12 @@ use Rattle.std.proofs.lemmas.Str.{encodes-append, encode_ascii}
 use Rattle.text_model.specs.Texts.{IsText}
 use Rattle.list_model.specs.Ranges.{Range}
 use Rattle.regex_ports.specs.declared.pattern.Span.{Span}
-use Rattle.regex_ports.specs.Seeking.{first_where, last_where, begins_before, begins_between}
+use Rattle.regex_ports.specs.Seeking.{first_span_where, last_where, span_begins_before, begins_between}
 use Rattle.regex_select.specs.declared.way.Way.{Way}
 use Rattle.regex_select.specs.declared.way.Way.TheVariants.{Forward, Backward}
 use Rattle.regex_select.specs.Selecting.{chars_before, part_between, match_end, selected_by, selected_by_all}
 use Rattle.regex_select.specs.Searching.{is_ahead, first_or, sought}
-use Rattle.regex_select.specs.Walks.{bytes_before}
+use Rattle.regex_select.specs.Walks.{bytes_of_first}
 use Rattle.regex_select.specs.Spans.{byte_bound, span_sought}
 use Rattle.regex_select.proofs.WalkLemmas.{bytes-more, chars-done, chars-some, chars-behind}
 use Rattle.regex_select.proofs.MatchedLemmas.{straight, part-some, part-none, end-empty}
@@ -27,13 +27,13 @@ either a b = grind arith
 -- ---- characters and bytes
 
 -- a character that begins before a byte is among those before it
-pub begun-before : (cs : List ℕ) (h b : ℕ) → h < length cs → bytes_before cs h < b → h < chars_before cs b
+pub begun-before : (cs : List ℕ) (h b : ℕ) → h < length cs → bytes_of_first cs h < b → h < chars_before cs b
 begun-before cs h b l k =
-    let next : chars_before (drop h cs) (b - bytes_before cs h) ≡ suc (chars_before (drop (suc h) cs) (b - bytes_before cs h - length (encode_utf8 (get_or cs h 0)))) = ap (λ xs. chars_before xs (b - bytes_before cs h)) (drop-cons cs h 0 l) ∙ chars-some (get_or cs h 0) (drop (suc h) cs) (b - bytes_before cs h) (omega (arith, k)) in
+    let next : chars_before (drop h cs) (b - bytes_of_first cs h) ≡ suc (chars_before (drop (suc h) cs) (b - bytes_of_first cs h - length (encode_utf8 (get_or cs h 0)))) = ap (λ xs. chars_before xs (b - bytes_of_first cs h)) (drop-cons cs h 0 l) ∙ chars-some (get_or cs h 0) (drop (suc h) cs) (b - bytes_of_first cs h) (omega (arith, k)) in
     omega (arith, chars-behind cs h b (omega (arith, k)) (omega (arith, l)), next)
 
 -- one that begins there or behind isn't
-pub not-begun : (cs : List ℕ) (h b : ℕ) → b ≤ bytes_before cs h → chars_before cs b ≤ h
+pub not-begun : (cs : List ℕ) (h b : ℕ) → b ≤ bytes_of_first cs h → chars_before cs b ≤ h
 not-begun cs zero b l = omega (arith, chars-done cs b (omega (arith, l)))
 not-begun [] (suc h) b l = omega arith
 not-begun (c ∷ cs) (suc h) b l = go (not-begun cs h (b - length (encode_utf8 c)) (omega (arith, l))) (either 0 b)
@@ -42,18 +42,18 @@ not-begun (c ∷ cs) (suc h) b l = go (not-begun cs h (b - length (encode_utf8 c
     go further (inl some) = omega (arith, chars-some c cs b some, further)
     go further (inr none) = omega (arith, chars-done (c ∷ cs) b (omega (arith, none)))
 
-pub bytes-of-take : (cs : List ℕ) (n : ℕ) → length (encode_utf8_all (take n cs)) ≡ bytes_before cs n
+pub bytes-of-take : (cs : List ℕ) (n : ℕ) → length (encode_utf8_all (take n cs)) ≡ bytes_of_first cs n
 bytes-of-take cs zero = refl
 bytes-of-take [] (suc n) = refl
 bytes-of-take (c ∷ cs) (suc n) = length-append (encode_utf8 c) (encode_utf8_all (take n cs)) ∙ ap (λ k. length (encode_utf8 c) + k) (bytes-of-take cs n)
 
-pub bytes-of-all : (cs : List ℕ) → length (encode_utf8_all cs) ≡ bytes_before cs (length cs)
+pub bytes-of-all : (cs : List ℕ) → length (encode_utf8_all cs) ≡ bytes_of_first cs (length cs)
 bytes-of-all cs = ap (λ xs. length (encode_utf8_all xs)) (sym (take_all (length cs) cs (omega arith))) ∙ bytes-of-take cs (length cs)
 
 all-begun : (cs : List ℕ) (b : ℕ) → length (encode_utf8_all cs) ≤ b → chars_before cs b ≡ length cs
 all-begun cs b l =
-    let over : bytes_before cs (length cs) ≤ b = omega (arith, l, bytes-of-all cs) in
-    let rest : chars_before (drop (length cs) cs) (b - bytes_before cs (length cs)) ≡ 0 = ap (λ xs. chars_before xs (b - bytes_before cs (length cs))) (drop_of_length-le cs (omega arith)) in
+    let over : bytes_of_first cs (length cs) ≤ b = omega (arith, l, bytes-of-all cs) in
+    let rest : chars_before (drop (length cs) cs) (b - bytes_of_first cs (length cs)) ≡ 0 = ap (λ xs. chars_before xs (b - bytes_of_first cs (length cs))) (drop_of_length-le cs (omega arith)) in
     chars-behind cs (length cs) b over (omega arith) ∙ omega (arith, rest)
 
 at-most-all : (cs : List ℕ) (b : ℕ) → chars_before cs b ≤ length cs
@@ -65,11 +65,11 @@ at-most-all (c ∷ cs) b = go (at-most-all cs (b - length (encode_utf8 c))) (eit
     go rest (inr none) = omega (arith, chars-done (c ∷ cs) b (omega (arith, none)))
 
 -- the last character of a text is a newline, which has one byte
-pub last-byte : (cs : List ℕ) → IsText cs → length (encode_utf8_all cs) ≡ bytes_before cs (length cs - 1) + 1
+pub last-byte : (cs : List ℕ) → IsText cs → length (encode_utf8_all cs) ≡ bytes_of_first cs (length cs - 1) + 1
 last-byte cs t =
     let last : length cs - 1 + 1 ≡ length cs = omega (arith, t.some) in
     let one : length (encode_utf8 (get_or cs (length cs - 1) 0)) ≡ 1 = ap (λ c. length (encode_utf8 c)) t.ended ∙ ap length (encode_ascii 10 (omega arith)) in
-    bytes-of-all cs ∙ ap (bytes_before cs) (sym last) ∙ bytes-more cs (length cs - 1) (omega (arith, t.some)) ∙ ap (λ k. bytes_before cs (length cs - 1) + k) one
+    bytes-of-all cs ∙ ap (bytes_of_first cs) (sym last) ∙ bytes-more cs (length cs - 1) (omega (arith, t.some)) ∙ ap (λ k. bytes_of_first cs (length cs - 1) + k) one
 
 -- ---- what one match selects
 
@@ -120,14 +120,14 @@ pub record IsTest (cs : List ℕ) (p : Range → Bool) (test : Span → Bool) : 
 
 module _ (cs : List ℕ) (t : IsText cs) (p : Range → Bool) (test : Span → Bool) (h : IsTest cs p test) where
   -- one match more, where what is found among the others is known
-  first-one : (d : Range) (tail : List Range) (s : Span) (ss : List Span) → first_or d (filter p (selected_by_all cs 0 ss) ++ tail) ≡ picked cs (first_or d tail) (first_where test ss) → first_or d (filter p (selected_by_all cs 0 (s ∷ ss)) ++ tail) ≡ picked cs (first_or d tail) (first_where test (s ∷ ss))
+  first-one : (d : Range) (tail : List Range) (s : Span) (ss : List Span) → first_or d (filter p (selected_by_all cs 0 ss) ++ tail) ≡ picked cs (first_or d tail) (first_span_where test ss) → first_or d (filter p (selected_by_all cs 0 (s ∷ ss)) ++ tail) ≡ picked cs (first_or d tail) (first_span_where test (s ∷ ss))
   first-one d tail s ss further = go (either s.start (length (encode_utf8_all cs)))
     where
-      by-flag : (b : Bool) → first_or d (cond b (only_of cs s ∷ filter p (selected_by_all cs 0 ss)) (filter p (selected_by_all cs 0 ss)) ++ tail) ≡ picked cs (first_or d tail) (cond b (Some s) (first_where test ss))
+      by-flag : (b : Bool) → first_or d (cond b (only_of cs s ∷ filter p (selected_by_all cs 0 ss)) (filter p (selected_by_all cs 0 ss)) ++ tail) ≡ picked cs (first_or d tail) (cond b (Some s) (first_span_where test ss))
       by-flag true = refl
       by-flag false = further
 
-      go : (s.start < length (encode_utf8_all cs)) ⊎ (length (encode_utf8_all cs) ≤ s.start) → first_or d (filter p (selected_by_all cs 0 (s ∷ ss)) ++ tail) ≡ picked cs (first_or d tail) (first_where test (s ∷ ss))
+      go : (s.start < length (encode_utf8_all cs)) ⊎ (length (encode_utf8_all cs) ≤ s.start) → first_or d (filter p (selected_by_all cs 0 (s ∷ ss)) ++ tail) ≡ picked cs (first_or d tail) (first_span_where test (s ∷ ss))
       go (inl l) =
           ap (λ rs. first_or d (filter p (rs ++ selected_by_all cs 0 ss) ++ tail)) (one-selected cs t s l)
           ∙ ap (λ b. first_or d (cond b (only_of cs s ∷ filter p (selected_by_all cs 0 ss)) (filter p (selected_by_all cs 0 ss)) ++ tail)) (h.same s l)
@@ -135,9 +135,9 @@ module _ (cs : List ℕ) (t : IsText cs) (p : Range → Bool) (test : Span → B
       go (inr l) =
           ap (λ rs. first_or d (filter p (rs ++ selected_by_all cs 0 ss) ++ tail)) (none-selected cs t s l)
           ∙ further
-          ∙ ap (λ b. picked cs (first_or d tail) (cond b (Some s) (first_where test ss))) (sym (h.begun s l))
+          ∙ ap (λ b. picked cs (first_or d tail) (cond b (Some s) (first_span_where test ss))) (sym (h.begun s l))
 
-  first-picked : (d : Range) (tail : List Range) (ss : List Span) → first_or d (filter p (selected_by_all cs 0 ss) ++ tail) ≡ picked cs (first_or d tail) (first_where test ss)
+  first-picked : (d : Range) (tail : List Range) (ss : List Span) → first_or d (filter p (selected_by_all cs 0 ss) ++ tail) ≡ picked cs (first_or d tail) (first_span_where test ss)
   first-picked d tail [] = refl
   first-picked d tail (s ∷ ss) = first-one d tail s ss (first-picked d tail ss)
 
@@ -175,31 +175,31 @@ and-false : (b : Bool) → (b && false) ≡ false
 and-false true = refl
 and-false false = refl
 
-every : (cs : List ℕ) → IsTest cs (λ r. true) (begins_before (length (encode_utf8_all cs)))
+every : (cs : List ℕ) → IsTest cs (λ r. true) (span_begins_before (length (encode_utf8_all cs)))
 every cs = record {
   same = λ s l. sym (lt-ltb s.start (length (encode_utf8_all cs)) l);
   begun = λ s l. le-ltb s.start (length (encode_utf8_all cs)) l;
 }
 
-forward : (cs : List ℕ) (r : Range) → r.high < length cs → IsTest cs (is_ahead Forward r) (begins_between (bytes_before cs r.high) (length (encode_utf8_all cs)))
+forward : (cs : List ℕ) (r : Range) → r.high < length cs → IsTest cs (is_ahead Forward r) (begins_between (bytes_of_first cs r.high) (length (encode_utf8_all cs)))
 forward cs r h = record {
-  same = λ s l. behind s.start (either (bytes_before cs r.high) s.start) ∙ sym (ap (λ b. ltb (bytes_before cs r.high) s.start && b) (lt-ltb s.start (length (encode_utf8_all cs)) l) ∙ and-true (ltb (bytes_before cs r.high) s.start));
-  begun = λ s l. ap (λ b. ltb (bytes_before cs r.high) s.start && b) (le-ltb s.start (length (encode_utf8_all cs)) l) ∙ and-false (ltb (bytes_before cs r.high) s.start);
+  same = λ s l. behind s.start (either (bytes_of_first cs r.high) s.start) ∙ sym (ap (λ b. ltb (bytes_of_first cs r.high) s.start && b) (lt-ltb s.start (length (encode_utf8_all cs)) l) ∙ and-true (ltb (bytes_of_first cs r.high) s.start));
+  begun = λ s l. ap (λ b. ltb (bytes_of_first cs r.high) s.start && b) (le-ltb s.start (length (encode_utf8_all cs)) l) ∙ and-false (ltb (bytes_of_first cs r.high) s.start);
 }
   where
-    behind : (b : ℕ) → (bytes_before cs r.high < b) ⊎ (b ≤ bytes_before cs r.high) → ltb r.high (0 + chars_before cs b) ≡ ltb (bytes_before cs r.high) b
-    behind b (inl l) = lt-ltb r.high (0 + chars_before cs b) (omega (arith, begun-before cs r.high b h l)) ∙ sym (lt-ltb (bytes_before cs r.high) b l)
-    behind b (inr l) = le-ltb r.high (0 + chars_before cs b) (omega (arith, not-begun cs r.high b l)) ∙ sym (le-ltb (bytes_before cs r.high) b l)
+    behind : (b : ℕ) → (bytes_of_first cs r.high < b) ⊎ (b ≤ bytes_of_first cs r.high) → ltb r.high (0 + chars_before cs b) ≡ ltb (bytes_of_first cs r.high) b
+    behind b (inl l) = lt-ltb r.high (0 + chars_before cs b) (omega (arith, begun-before cs r.high b h l)) ∙ sym (lt-ltb (bytes_of_first cs r.high) b l)
+    behind b (inr l) = le-ltb r.high (0 + chars_before cs b) (omega (arith, not-begun cs r.high b l)) ∙ sym (le-ltb (bytes_of_first cs r.high) b l)
 
 before-bound : (cs : List ℕ) (k b : ℕ) → k < length cs → ltb (0 + chars_before cs b) k ≡ ltb b (byte_bound cs k)
 before-bound cs zero b h = le-ltb (0 + chars_before cs b) 0 (omega arith) ∙ sym (le-ltb b 0 (omega arith))
-before-bound cs (suc k) b h = go (either (bytes_before cs k) b)
+before-bound cs (suc k) b h = go (either (bytes_of_first cs k) b)
   where
-    go : (bytes_before cs k < b) ⊎ (b ≤ bytes_before cs k) → ltb (0 + chars_before cs b) (suc k) ≡ ltb b (bytes_before cs k + 1)
-    go (inl l) = le-ltb (0 + chars_before cs b) (suc k) (omega (arith, begun-before cs k b (omega (arith, h)) l)) ∙ sym (le-ltb b (bytes_before cs k + 1) (omega (arith, l)))
-    go (inr l) = lt-ltb (0 + chars_before cs b) (suc k) (omega (arith, not-begun cs k b l)) ∙ sym (lt-ltb b (bytes_before cs k + 1) (omega (arith, l)))
+    go : (bytes_of_first cs k < b) ⊎ (b ≤ bytes_of_first cs k) → ltb (0 + chars_before cs b) (suc k) ≡ ltb b (bytes_of_first cs k + 1)
+    go (inl l) = le-ltb (0 + chars_before cs b) (suc k) (omega (arith, begun-before cs k b (omega (arith, h)) l)) ∙ sym (le-ltb b (bytes_of_first cs k + 1) (omega (arith, l)))
+    go (inr l) = lt-ltb (0 + chars_before cs b) (suc k) (omega (arith, not-begun cs k b l)) ∙ sym (lt-ltb b (bytes_of_first cs k + 1) (omega (arith, l)))
 
-backward : (cs : List ℕ) (r : Range) → r.low < length cs → IsTest cs (is_ahead Backward r) (begins_before (byte_bound cs r.low))
+backward : (cs : List ℕ) (r : Range) → r.low < length cs → IsTest cs (is_ahead Backward r) (span_begins_before (byte_bound cs r.low))
 backward cs r h = record {
   same = λ s l. before-bound cs r.low s.start h;
   begun = λ s l. sym (before-bound cs r.low s.start h) ∙ le-ltb (0 + chars_before cs s.start) r.low (omega (arith, all-begun cs s.start l, h));
@@ -217,14 +217,14 @@ every-one rs = append-nil (filter (λ r. true) rs) ∙ all-true rs
 pub sought-picked : (cs : List ℕ) (way : Way) (ss : List Span) (r : Range) → IsText cs → r.low ≤ r.high → r.high < length cs → sought way (selected_by_all cs 0 ss) r ≡ picked cs r (span_sought way cs ss r)
 sought-picked cs Forward ss r t o h =
     let end : ℕ = length (encode_utf8_all cs) in
-    first-picked cs t (is_ahead Forward r) (begins_between (bytes_before cs r.high) end) (forward cs r h) r (selected_by_all cs 0 ss) ss
-    ∙ ap (λ x. picked cs x (first_where (begins_between (bytes_before cs r.high) end) ss)) (ap (first_or r) (sym (every-one (selected_by_all cs 0 ss))) ∙ first-picked cs t (λ x. true) (begins_before end) (every cs) r [] ss)
-    ∙ picked-or cs r (first_where (begins_between (bytes_before cs r.high) end) ss) (first_where (begins_before end) ss)
+    first-picked cs t (is_ahead Forward r) (begins_between (bytes_of_first cs r.high) end) (forward cs r h) r (selected_by_all cs 0 ss) ss
+    ∙ ap (λ x. picked cs x (first_span_where (begins_between (bytes_of_first cs r.high) end) ss)) (ap (first_or r) (sym (every-one (selected_by_all cs 0 ss))) ∙ first-picked cs t (λ x. true) (span_begins_before end) (every cs) r [] ss)
+    ∙ picked-or cs r (first_span_where (begins_between (bytes_of_first cs r.high) end) ss) (first_span_where (span_begins_before end) ss)
 sought-picked cs Backward ss r t o h =
     let end : ℕ = length (encode_utf8_all cs) in
-    last-picked cs t (is_ahead Backward r) (begins_before (byte_bound cs r.low)) (backward cs r (omega (arith, o, h))) r (reverse (selected_by_all cs 0 ss)) ss
-    ∙ ap (λ x. picked cs x (last_where (begins_before (byte_bound cs r.low)) ss)) (ap (first_or r) (sym (every-one (reverse (selected_by_all cs 0 ss)))) ∙ last-picked cs t (λ x. true) (begins_before end) (every cs) r [] ss)
-    ∙ picked-or cs r (last_where (begins_before (byte_bound cs r.low)) ss) (last_where (begins_before end) ss)
+    last-picked cs t (is_ahead Backward r) (span_begins_before (byte_bound cs r.low)) (backward cs r (omega (arith, o, h))) r (reverse (selected_by_all cs 0 ss)) ss
+    ∙ ap (λ x. picked cs x (last_where (span_begins_before (byte_bound cs r.low)) ss)) (ap (first_or r) (sym (every-one (reverse (selected_by_all cs 0 ss)))) ∙ last-picked cs t (λ x. true) (span_begins_before end) (every cs) r [] ss)
+    ∙ picked-or cs r (last_where (span_begins_before (byte_bound cs r.low)) ss) (last_where (span_begins_before end) ss)
 
 -- ---- what is there
 
@@ -254,29 +254,29 @@ no-flag true s o e = absurd (false≢true (sym (ap is_there e)))
 no-flag false s o e = refl
 
 -- a match that selects nothing, before others
-skipped : (cs : List ℕ) → IsText cs → (s : Span) (ss : List Span) → begins_before (length (encode_utf8_all cs)) s ≡ false → selected_by_all cs 0 (s ∷ ss) ≡ selected_by_all cs 0 ss
+skipped : (cs : List ℕ) → IsText cs → (s : Span) (ss : List Span) → span_begins_before (length (encode_utf8_all cs)) s ≡ false → selected_by_all cs 0 (s ∷ ss) ≡ selected_by_all cs 0 ss
 skipped cs t s ss n = go (either s.start (length (encode_utf8_all cs)))
   where
     go : (s.start < length (encode_utf8_all cs)) ⊎ (length (encode_utf8_all cs) ≤ s.start) → selected_by_all cs 0 (s ∷ ss) ≡ selected_by_all cs 0 ss
     go (inl l) = absurd (false≢true (sym n ∙ lt-ltb s.start (length (encode_utf8_all cs)) l))
     go (inr l) = ap (λ rs. rs ++ selected_by_all cs 0 ss) (none-selected cs t s l)
 
-none-first : (cs : List ℕ) → IsText cs → (ss : List Span) → first_where (begins_before (length (encode_utf8_all cs))) ss ≡ None → selected_by_all cs 0 ss ≡ []
+none-first : (cs : List ℕ) → IsText cs → (ss : List Span) → first_span_where (span_begins_before (length (encode_utf8_all cs))) ss ≡ None → selected_by_all cs 0 ss ≡ []
 none-first cs t [] n = refl
 none-first cs t (s ∷ ss) n =
-    let passed : begins_before (length (encode_utf8_all cs)) s ≡ false = no-flag (begins_before (length (encode_utf8_all cs)) s) s (first_where (begins_before (length (encode_utf8_all cs))) ss) n in
-    skipped cs t s ss passed ∙ none-first cs t ss (ap (λ b. cond b (Some s) (first_where (begins_before (length (encode_utf8_all cs))) ss)) (sym passed) ∙ n)
+    let passed : span_begins_before (length (encode_utf8_all cs)) s ≡ false = no-flag (span_begins_before (length (encode_utf8_all cs)) s) s (first_span_where (span_begins_before (length (encode_utf8_all cs))) ss) n in
+    skipped cs t s ss passed ∙ none-first cs t ss (ap (λ b. cond b (Some s) (first_span_where (span_begins_before (length (encode_utf8_all cs))) ss)) (sym passed) ∙ n)
 
-none-last : (cs : List ℕ) → IsText cs → (ss : List Span) → last_where (begins_before (length (encode_utf8_all cs))) ss ≡ None → selected_by_all cs 0 ss ≡ []
+none-last : (cs : List ℕ) → IsText cs → (ss : List Span) → last_where (span_begins_before (length (encode_utf8_all cs))) ss ≡ None → selected_by_all cs 0 ss ≡ []
 none-last cs t [] n = refl
 none-last cs t (s ∷ ss) n =
-    let own : Option Span = cond (begins_before (length (encode_utf8_all cs)) s) (Some s) None in
-    let rest : Option Span = last_where (begins_before (length (encode_utf8_all cs))) ss in
-    skipped cs t s ss (no-flag (begins_before (length (encode_utf8_all cs)) s) s None (no-second rest own n)) ∙ none-last cs t ss (no-first rest own n)
+    let own : Option Span = cond (span_begins_before (length (encode_utf8_all cs)) s) (Some s) None in
+    let rest : Option Span = last_where (span_begins_before (length (encode_utf8_all cs))) ss in
+    skipped cs t s ss (no-flag (span_begins_before (length (encode_utf8_all cs)) s) s None (no-second rest own n)) ∙ none-last cs t ss (no-first rest own n)
 
 pub none-there : (cs : List ℕ) (way : Way) (ss : List Span) (r : Range) → IsText cs → span_sought way cs ss r ≡ None → selected_by_all cs 0 ss ≡ []
-none-there cs Forward ss r t n = none-first cs t ss (no-second (first_where (begins_between (bytes_before cs r.high) (length (encode_utf8_all cs))) ss) (first_where (begins_before (length (encode_utf8_all cs))) ss) n)
-none-there cs Backward ss r t n = none-last cs t ss (no-second (last_where (begins_before (byte_bound cs r.low)) ss) (last_where (begins_before (length (encode_utf8_all cs))) ss) n)
+none-there cs Forward ss r t n = none-first cs t ss (no-second (first_span_where (begins_between (bytes_of_first cs r.high) (length (encode_utf8_all cs))) ss) (first_span_where (span_begins_before (length (encode_utf8_all cs))) ss) n)
+none-there cs Backward ss r t n = none-last cs t ss (no-second (last_where (span_begins_before (byte_bound cs r.low)) ss) (last_where (span_begins_before (length (encode_utf8_all cs))) ss) n)
 
 -- what is found begins before the end, and something is selected
 abbrev IsFound : List ℕ → List Span → Span → Type 0
@@ -293,13 +293,13 @@ found-here cs t test begun x s ss here e = subst (IsFound cs (x ∷ ss)) (ap (go
     go (inr l) = absurd (false≢true (sym (begun x l) ∙ here))
 
 module _ (cs : List ℕ) (t : IsText cs) (test : Span → Bool) (begun : (s : Span) → length (encode_utf8_all cs) ≤ s.start → test s ≡ false) where
-  first-there : (ss : List Span) (s : Span) → first_where test ss ≡ Some s → IsFound cs ss s
+  first-there : (ss : List Span) (s : Span) → first_span_where test ss ≡ Some s → IsFound cs ss s
   first-there [] s e = absurd (false≢true (ap is_there e))
   first-there (x ∷ ss) s e = go (λ f. first-there ss s f) (cases_Bool (test x))
     where
-      go : (first_where test ss ≡ Some s → IsFound cs ss s) → (test x ≡ true) ⊎ (test x ≡ false) → IsFound cs (x ∷ ss) s
-      go further (inl h) = found-here cs t test begun x s ss h (ap (λ b. cond b (Some x) (first_where test ss)) (sym h) ∙ e)
-      go further (inr h) = found-later cs x s ss (further (ap (λ b. cond b (Some x) (first_where test ss)) (sym h) ∙ e))
+      go : (first_span_where test ss ≡ Some s → IsFound cs ss s) → (test x ≡ true) ⊎ (test x ≡ false) → IsFound cs (x ∷ ss) s
+      go further (inl h) = found-here cs t test begun x s ss h (ap (λ b. cond b (Some x) (first_span_where test ss)) (sym h) ∙ e)
+      go further (inr h) = found-later cs x s ss (further (ap (λ b. cond b (Some x) (first_span_where test ss)) (sym h) ∙ e))
 
   last-own : (x s : Span) (ss : List Span) → cond (test x) (Some x) None ≡ Some s → (test x ≡ true) ⊎ (test x ≡ false) → IsFound cs (x ∷ ss) s
   last-own x s ss f (inl h) = found-here cs t test begun x s ss h (ap (λ (b : Bool). cond b (Some x) None) (sym h) ∙ f)
@@ -314,16 +314,16 @@ module _ (cs : List ℕ) (t : IsText cs) (test : Span → Bool) (begun : (s : Sp
       go further (inr f) = last-own x s ss f (cases_Bool (test x))
 
 pub some-there : (cs : List ℕ) (way : Way) (ss : List Span) (r : Range) (s : Span) → IsText cs → r.low ≤ r.high → r.high < length cs → span_sought way cs ss r ≡ Some s → IsFound cs ss s
-some-there cs Forward ss r s t o h e = go (either-one (first_where (begins_between (bytes_before cs r.high) (length (encode_utf8_all cs))) ss) (first_where (begins_before (length (encode_utf8_all cs))) ss) s e)
+some-there cs Forward ss r s t o h e = go (either-one (first_span_where (begins_between (bytes_of_first cs r.high) (length (encode_utf8_all cs))) ss) (first_span_where (span_begins_before (length (encode_utf8_all cs))) ss) s e)
   where
-    go : (first_where (begins_between (bytes_before cs r.high) (length (encode_utf8_all cs))) ss ≡ Some s) ⊎ (first_where (begins_before (length (encode_utf8_all cs))) ss ≡ Some s) → IsFound cs ss s
-    go (inl f) = first-there cs t (begins_between (bytes_before cs r.high) (length (encode_utf8_all cs))) (forward cs r h).begun ss s f
-    go (inr f) = first-there cs t (begins_before (length (encode_utf8_all cs))) (every cs).begun ss s f
-some-there cs Backward ss r s t o h e = go (either-one (last_where (begins_before (byte_bound cs r.low)) ss) (last_where (begins_before (length (encode_utf8_all cs))) ss) s e)
+    go : (first_span_where (begins_between (bytes_of_first cs r.high) (length (encode_utf8_all cs))) ss ≡ Some s) ⊎ (first_span_where (span_begins_before (length (encode_utf8_all cs))) ss ≡ Some s) → IsFound cs ss s
+    go (inl f) = first-there cs t (begins_between (bytes_of_first cs r.high) (length (encode_utf8_all cs))) (forward cs r h).begun ss s f
+    go (inr f) = first-there cs t (span_begins_before (length (encode_utf8_all cs))) (every cs).begun ss s f
+some-there cs Backward ss r s t o h e = go (either-one (last_where (span_begins_before (byte_bound cs r.low)) ss) (last_where (span_begins_before (length (encode_utf8_all cs))) ss) s e)
   where
-    go : (last_where (begins_before (byte_bound cs r.low)) ss ≡ Some s) ⊎ (last_where (begins_before (length (encode_utf8_all cs))) ss ≡ Some s) → IsFound cs ss s
-    go (inl f) = last-there cs t (begins_before (byte_bound cs r.low)) (backward cs r (omega (arith, o, h))).begun ss s f
-    go (inr f) = last-there cs t (begins_before (length (encode_utf8_all cs))) (every cs).begun ss s f
+    go : (last_where (span_begins_before (byte_bound cs r.low)) ss ≡ Some s) ⊎ (last_where (span_begins_before (length (encode_utf8_all cs))) ss ≡ Some s) → IsFound cs ss s
+    go (inl f) = last-there cs t (span_begins_before (byte_bound cs r.low)) (backward cs r (omega (arith, o, h))).begun ss s f
+    go (inr f) = last-there cs t (span_begins_before (length (encode_utf8_all cs))) (every cs).begun ss s f
 
 -- what the span that was found selects is the range that is sought
 pub found-is-sought : (cs : List ℕ) (way : Way) (ss : List Span) (r found : Range) (s : Span) → IsText cs → r.low ≤ r.high → r.high < length cs → span_sought way cs ss r ≡ Some s → found ∷ [] ≡ selected_by cs 0 s → found ≡ sought way (selected_by_all cs 0 ss) r
@@ -347,10 +347,10 @@ written-all cs before bytes p n b e l =
     let rest : slice_range cs p n ≡ drop p cs = take_all (n - p) (drop p cs) (omega (arith, l, length-drop p cs)) in
     e ∙ ap₂ (λ xs ys. xs ++ encode_utf8_all ys) b rest ∙ sym (encodes-append (take p cs) (drop p cs)) ∙ ap encode_utf8_all (take-append-drop p cs)
 
-pub byte-inside : (cs : List ℕ) (p : ℕ) → p < length cs → bytes_before cs p < length (encode_utf8_all cs)
-byte-inside cs p l = go (either (bytes_before cs p) (length (encode_utf8_all cs)))
+pub byte-inside : (cs : List ℕ) (p : ℕ) → p < length cs → bytes_of_first cs p < length (encode_utf8_all cs)
+byte-inside cs p l = go (either (bytes_of_first cs p) (length (encode_utf8_all cs)))
   where
-    go : (bytes_before cs p < length (encode_utf8_all cs)) ⊎ (length (encode_utf8_all cs) ≤ bytes_before cs p) → bytes_before cs p < length (encode_utf8_all cs)
+    go : (bytes_of_first cs p < length (encode_utf8_all cs)) ⊎ (length (encode_utf8_all cs) ≤ bytes_of_first cs p) → bytes_of_first cs p < length (encode_utf8_all cs)
     go (inl h) = h
     go (inr h) = absurd (omega (arith, l, all-begun cs (length (encode_utf8_all cs)) (omega arith), not-begun cs p (length (encode_utf8_all cs)) h))
 

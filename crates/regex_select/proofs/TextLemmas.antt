@@ -8,18 +8,18 @@ use Rattle.selection_set.specs.declared.sel.Sel.{Sel}
 use Rattle.selection_set.specs.Inside.{range_of}
 use Rattle.selection_set.specs.Listing.{ranges_of}
 use Rattle.regex_ports.specs.Matching.{is_found_in}
-use Rattle.regex_select.specs.Rows.{bytes_of, bytes_left, is_kept}
+use Rattle.regex_select.specs.Rows.{selected_bytes, bytes_left, is_kept}
 
 -- the next of the selections that are left, and that none is left
-pub left-first : (text : List ℕ) (sels : List Sel) (n : ℕ) (d sel : Sel) → n < length sels → sel ≡ get_or sels n d → bytes_left text sels n ≡ bytes_of text (range_of text sel) ∷ bytes_left text sels (n + 1)
+pub left-first : (text : List ℕ) (sels : List Sel) (n : ℕ) (d sel : Sel) → n < length sels → sel ≡ get_or sels n d → bytes_left text sels n ≡ selected_bytes text (range_of text sel) ∷ bytes_left text sels (n + 1)
 left-first text sels n d sel h e =
-    ap (λ ss. map (bytes_of text) (ranges_of text ss)) (drop_more sels n d h) ∙ ap (λ (s : Sel). bytes_of text (range_of text s) ∷ bytes_left text sels (n + 1)) (sym e)
+    ap (λ ss. map (selected_bytes text) (ranges_of text ss)) (drop_more sels n d h) ∙ ap (λ (s : Sel). selected_bytes text (range_of text s) ∷ bytes_left text sels (n + 1)) (sym e)
 
 pub left-none : (text : List ℕ) (sels : List Sel) (n : ℕ) → length sels ≤ n → bytes_left text sels n ≡ []
-left-none text sels n h = ap (λ ss. map (bytes_of text) (ranges_of text ss)) (drop_all n sels h)
+left-none text sels n h = ap (λ ss. map (selected_bytes text) (ranges_of text ss)) (drop_all n sels h)
 
 -- which selections are kept, by whether their texts have a match
-pub kept-flags : (matching : Bool) (source text : List ℕ) (rs : List Range) → map (λ found. if matching then found else not found) (map (is_found_in source) (map (bytes_of text) rs)) ≡ map (is_kept matching source text) rs
+pub kept-flags : (matching : Bool) (source text : List ℕ) (rs : List Range) → map (λ found. if matching then found else not found) (map (is_found_in source) (map (selected_bytes text) rs)) ≡ map (is_kept matching source text) rs
 kept-flags matching source text [] = refl
 kept-flags matching source text (r ∷ rs) = ap₂ ◌∷◌ refl (kept-flags matching source text rs)
 

@@ -12,7 +12,7 @@ use Rattle.regex_select.specs.declared.way.Way.{Way}
 use Rattle.regex_select.specs.declared.way.Way.TheVariants.{Forward, Backward}
 use Rattle.regex_select.specs.declared.way.Search.{Search}
 use Rattle.regex_select.specs.Searching.{on_the_way, first_or}
-use Rattle.regex_select.specs.Ways.{is_ahead_at, ArePassed, IsFurther, GoesOn, sought_at, reached_at, searched_at}
+use Rattle.regex_select.specs.Ways.{is_ahead_at, ArePassed, IsFurther, GoesAhead, sought_at, reached_at, searched_at}
 
 -- ---- the order of coordinates
 
@@ -60,7 +60,7 @@ passed-on Backward s t m h p = ap not (through t.low s.low m.low h (not-false (i
 all-passed-on : (way : Way) (s t : Sel) (ms : List Sel) → IsFurther way s t → ArePassed way s ms → ArePassed way t ms
 all-passed-on way s t ms h p = all_weaker (λ m. is_ahead_at way s m ≡ false) (λ m. is_ahead_at way t m ≡ false) (λ m q. passed-on way s t m h q) ms p
 
-goes-on-drop : (way : Way) (ss : List Sel) (n : ℕ) → GoesOn way ss → GoesOn way (drop n ss)
+goes-on-drop : (way : Way) (ss : List Sel) (n : ℕ) → GoesAhead way ss → GoesAhead way (drop n ss)
 goes-on-drop way ss zero g = g
 goes-on-drop way [] (suc n) g = tt
 goes-on-drop way (s ∷ ss) (suc n) g = goes-on-drop way ss n g.1
@@ -98,14 +98,14 @@ next-is search ms all list n passed s u l e =
     let own : s ≡ get_or all n s = e s ∙ ap (λ x. get_or x 0 s) (sym (drop_more list n s l) ∙ u.rest ∙ next) in
     next ∙ ap (λ (x : Sel). x ∷ drop (n + 1) all) (sym own)
 
-pub underway-more : (search : Search) (ms all list : List Sel) (n passed now : ℕ) (s found y : Sel) → IsUnderway search ms all list n passed → GoesOn search.way all → n < length list → ((d : Sel) → s ≡ get_or list n d)
+pub underway-more : (search : Search) (ms all list : List Sel) (n passed now : ℕ) (s found y : Sel) → IsUnderway search ms all list n passed → GoesAhead search.way all → n < length list → ((d : Sel) → s ≡ get_or list n d)
     → now ≤ length ms → ArePassed search.way s (take now ms) → ((d : Sel) → now < length ms → is_ahead_at search.way s (get_or ms now d) ≡ true) → ((d : Sel) → found ≡ first_or d (drop now ms ++ ms)) → y ≡ reached_at search.extend s found
     → IsUnderway search ms all (set list n y) (n + 1) now
 underway-more search ms all list n passed now s found y u g l e few h a f r =
     let there : n < length all = omega (arith, l, u.same) in
     let next : drop n all ≡ s ∷ drop (n + 1) all = next-is search ms all list n passed s u l e in
     let own : get_or all n s ≡ s = ap (λ x. get_or x 0 s) (sym (drop_more all n s there) ∙ next) in
-    let goes : GoesOn search.way (s ∷ drop (n + 1) all) = subst (GoesOn search.way) next (goes-on-drop search.way all n g) in
+    let goes : GoesAhead search.way (s ∷ drop (n + 1) all) = subst (GoesAhead search.way) next (goes-on-drop search.way all n g) in
     let is : y ≡ searched_at search ms (get_or all n s) = r ∙ ap (reached_at search.extend s) (found-at search.way ms s now found few h a f) ∙ ap (searched_at search ms) (sym own) in
     record {
       done = take_more_set list n y l ∙ ap₂ (λ xs x. xs ++ x ∷ []) u.done is ∙ sym (map_more (searched_at search ms) all n s there);

@@ -7,7 +7,7 @@ use Rattle.regex_ports.specs.Matching.{is_some_span}
 use Rattle.regex_select.specs.declared.way.Way.{Way}
 use Rattle.regex_select.specs.declared.way.Way.TheVariants.{Forward, Backward}
 use Rattle.regex_select.specs.declared.way.Search.{Search}
-use Rattle.regex_select.specs.Rows.{chars_of, kept_each}
+use Rattle.regex_select.specs.Rows.{selected_chars, kept_each}
 use Rattle.regex_select.specs.Selecting.{chars_before, selected_by, selected_by_all, parts_from, made_each}
 use Rattle.regex_select.specs.Searching.{sought, searched, main_settled, main_added}
 
@@ -25,7 +25,7 @@ empty_span a = record { start = a; end = a }
 
 -- selections that are kept stay as they are
 pub record KeptExamples : Type 0 where
-  pub of_a_selection : chars_of (codes "abcd\n") (aimed 1 2) ≡ codes "bc"
+  pub of_a_selection : selected_chars (codes "abcd\n") (aimed 1 2) ≡ codes "bc"
   pub empty_one_counts : is_some_span (empty_span 2 ∷ []) ≡ true
   pub none : is_some_span [] ≡ false
   pub main_stays : kept_each (λ r. nat_lt r.low 5) (listed (only 0 ∷ aimed 2 4 ∷ only 6 ∷ []) 1) ≡ listed (only 0 ∷ aimed 2 4 ∷ []) 1

@@ -9,23 +9,23 @@ use Rattle.regex_ports.specs.declared.pattern.Span.{Span}
 use Rattle.regex_ports.specs.Matching.{matches_of, is_some_span}
 
 -- the characters of a selection, which are all that is searched for it
-abbrev pub chars_of : List ℕ → Range → List ℕ
-chars_of text r = slice_range text r.low (r.high + 1)
+abbrev pub selected_chars : List ℕ → Range → List ℕ
+selected_chars text r = slice_range text r.low (r.high + 1)
 
 -- the matches in some characters of the pattern that a text is, in bytes of UTF-8
 abbrev pub spans_in : List ℕ → List ℕ → List Span
 spans_in source chars = matches_of source (encode_utf8_all chars)
 
 -- the bytes of a selection's characters, and those of the selections of a list from one of them on
-abbrev pub bytes_of : List ℕ → Range → List ℕ
-bytes_of text r = encode_utf8_all (chars_of text r)
+abbrev pub selected_bytes : List ℕ → Range → List ℕ
+selected_bytes text r = encode_utf8_all (selected_chars text r)
 
 abbrev pub bytes_left : List ℕ → List Sel → ℕ → List (List ℕ)
-bytes_left text sels n = map (bytes_of text) (ranges_of text (drop n sels))
+bytes_left text sels n = map (selected_bytes text) (ranges_of text (drop n sels))
 
 -- whether a selection has a match, an empty one and one at its end too
 abbrev pub has_match : List ℕ → List ℕ → Range → Bool
-has_match source text r = is_some_span (spans_in source (chars_of text r))
+has_match source text r = is_some_span (spans_in source (selected_chars text r))
 
 -- whether a selection is kept: it has a match, or where those without one are wanted it has none
 abbrev pub is_kept : Bool → List ℕ → List ℕ → Range → Bool

@@ -3,7 +3,7 @@ use Rattle.std.specs.Prelude.{ℕ, suc, ◌+◌, ◌-◌, ◌==◌, min, nat_lt,
 use Rattle.list_model.specs.Ranges.{Range, Selected}
 use Rattle.list_model.specs.Settling.{settled}
 use Rattle.regex_ports.specs.declared.pattern.Span.{Span}
-use Rattle.regex_select.specs.Rows.{chars_of, spans_in}
+use Rattle.regex_select.specs.Rows.{selected_chars, spans_in}
 
 -- how many of some characters begin before a byte of theirs
 abbrev pub chars_before : List ℕ → ℕ → ℕ
@@ -35,11 +35,11 @@ parts_from chars low from (s ∷ ss) = part_between (low + from) (low + chars_be
 
 -- what the matches in a selection select
 abbrev pub matched_in : List ℕ → List ℕ → Range → List Range
-matched_in source text r = selected_by_all (chars_of text r) r.low (spans_in source (chars_of text r))
+matched_in source text r = selected_by_all (selected_chars text r) r.low (spans_in source (selected_chars text r))
 
 -- the parts that they leave of it
 abbrev pub split_in : List ℕ → List ℕ → Range → List Range
-split_in source text r = parts_from (chars_of text r) r.low 0 (spans_in source (chars_of text r))
+split_in source text r = parts_from (selected_chars text r) r.low 0 (spans_in source (selected_chars text r))
 
 -- what is made of all selections, as a settled list; the last one is the main one
 abbrev pub made_each : (Range → List Range) → Selected → Selected

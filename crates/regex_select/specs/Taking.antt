@@ -7,7 +7,7 @@ use Rattle.selection_set.specs.Listing.{ranges_of}
 use Rattle.regex_ports.specs.declared.pattern.Span.{Span}
 use Rattle.regex_select.specs.declared.taking.Take.{Take}
 use Rattle.regex_select.specs.declared.taking.Take.TheVariants.{Matches, Parts}
-use Rattle.regex_select.specs.Rows.{chars_of, spans_in}
+use Rattle.regex_select.specs.Rows.{selected_chars, spans_in}
 use Rattle.regex_select.specs.Selecting.{part_between, selected_by_all, parts_from}
 use Rattle.regex_select.specs.Walks.{own_chars}
 
@@ -18,7 +18,7 @@ taken_by Parts chars low spans = parts_from chars low 0 spans
 
 -- what is made of a selection
 abbrev pub taken_in : Take → List ℕ → List ℕ → Range → List Range
-taken_in what source text r = taken_by what (chars_of text r) r.low (spans_in source (chars_of text r))
+taken_in what source text r = taken_by what (selected_chars text r) r.low (spans_in source (selected_chars text r))
 
 -- what is made of a selection of a text by matches in its characters
 abbrev pub made_of : Take → List ℕ → Sel → List Span → List Range

@@ -25,9 +25,9 @@ IsFurther Forward s t = is_at_most s.high t.high ≡ true
 IsFurther Backward s t = is_at_most t.low s.low ≡ true
 
 -- each selection is as far on the way as those that come earlier in the list, or further
-abbrev pub GoesOn : Way → List Sel → Type 0
-GoesOn way [] = Unit {0}
-GoesOn way (s ∷ ss) = AllByRecursion (IsFurther way s) ss × GoesOn way ss
+abbrev pub GoesAhead : Way → List Sel → Type 0
+GoesAhead way [] = Unit {0}
+GoesAhead way (s ∷ ss) = AllByRecursion (IsFurther way s) ss × GoesAhead way ss
 
 -- the match that is found from a selection, where the matches are in the order of the way
 abbrev pub sought_at : Way → List Sel → Sel → Sel

@@ -3,7 +3,7 @@
 ghost use Rattle.std.specs.Prelude.{◌≡◌, ◌+◌, IfOk};
 ghost use Rattle.text_model.specs.Texts.{IsPlace, IsPlaceOrEnd, offset};
 ghost use Rattle.selection_set.specs.Inside.{range_of, IsInside};
-ghost use Rattle.regex_select.specs.Rows.{chars_of, spans_in};
+ghost use Rattle.regex_select.specs.Rows.{selected_chars, spans_in};
 
 use crate::writing::written;
 use kak_text::Coord;
@@ -35,7 +35,7 @@ pub(crate) fn spans<P: Pattern>(
     pattern: &P,
 ) -> Result<Vec<Span>, AllocError>
     requires { IsInside lines.now sel }
-    ensures { IfOk result (λ v. v.items ≡ spans_in (P.source pattern.now) (chars_of lines.now (range_of lines.now sel))) }
+    ensures { IfOk result (λ v. v.items ≡ spans_in (P.source pattern.now) (selected_chars lines.now (range_of lines.now sel))) }
 {
     let text = written(alloc, lines, sel)?;
     pattern.matches(alloc, text.as_str())

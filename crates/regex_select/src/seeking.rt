@@ -8,7 +8,7 @@ ghost use Rattle.selection_set.specs.Listing.{ranges_of};
 ghost use Rattle.regex_select.specs.Rows.{spans_in};
 ghost use Rattle.regex_select.specs.Selecting.{selected_by};
 ghost use Rattle.regex_select.specs.Spans.{byte_bound, span_sought};
-ghost use Rattle.regex_select.specs.Walks.{bytes_before};
+ghost use Rattle.regex_select.specs.Walks.{bytes_of_first};
 
 use crate::gathering::Gathered;
 use crate::searching::behind;
@@ -27,7 +27,7 @@ use std::alloc::{AllocError, Global};
 fn written_around(alloc: Global, lines: &Lines, at: Coord) -> Result<(String, usize), AllocError>
     requires { IsPlace lines.now at }
     ensures bytes { IfOk result (λ w. string_bytes w.0 ≡ encode_utf8_all lines.now) }
-    ensures byte { IfOk result (λ w. w.1 ≡ bytes_before lines.now (offset lines.now at)) }
+    ensures byte { IfOk result (λ w. w.1 ≡ bytes_of_first lines.now (offset lines.now at)) }
     ensures inside { IfOk result (λ w. w.1 < length (encode_utf8_all lines.now)) }
 {
     let sel = whole(lines);

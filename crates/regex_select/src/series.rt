@@ -3,7 +3,7 @@
 ghost use Rattle.std.proofs.Props.{props};
 ghost use Rattle.std.specs.Prelude.{◌≡◌, map};
 ghost use Rattle.selection_set.specs.Listing.{AreInside, ranges_of};
-ghost use Rattle.regex_select.specs.Rows.{bytes_of, bytes_left};
+ghost use Rattle.regex_select.specs.Rows.{selected_bytes, bytes_left};
 
 use crate::writing::write;
 use line_buffer::Lines;
@@ -24,7 +24,7 @@ impl<'a> SelTexts<'a> {
     /// All selections of a list.
     pub(crate) fn new(lines: &'a Lines, sels: &'a Sels) -> SelTexts<'a>
         requires { AreInside lines.now sels.now.list }
-        ensures { bytes_left result.lines.now result.sels.now.list result.next ≡ map (bytes_of lines.now) (ranges_of lines.now sels.now.list) }
+        ensures { bytes_left result.lines.now result.sels.now.list result.next ≡ map (selected_bytes lines.now) (ranges_of lines.now sels.now.list) }
     {
         SelTexts {
             lines,

@@ -2,7 +2,7 @@
 
 ghost use Rattle.std.specs.Prelude.{◌≡◌, ◌<◌, length, map};
 ghost use Rattle.regex_select.specs.Searching.{on_the_way};
-ghost use Rattle.regex_select.specs.Ways.{GoesOn, reached_at, searched_at};
+ghost use Rattle.regex_select.specs.Ways.{GoesAhead, reached_at, searched_at};
 
 use crate::way::{Search, first_ahead, match_at, order};
 use selection_set::{Pair, Sel};
@@ -23,7 +23,7 @@ pub(crate) fn reached(sel: Sel, found: Sel, extend: bool) -> Sel
 // Makes of each selection what a search makes of it, where the selections too are in the order of its way.
 fn search_on(list: &mut [Sel], matches: &[Sel], search: Search)
     requires some { 0 < length matches.now }
-    requires order { GoesOn search.way list.old }
+    requires order { GoesAhead search.way list.old }
     ensures { list.new ≡ map (searched_at search matches.now) list.old }
 {
     let mut passed = 0;
@@ -38,7 +38,7 @@ fn search_on(list: &mut [Sel], matches: &[Sel], search: Search)
 /// selections and over the matches once.
 pub(crate) fn search_each(list: &mut [Sel], matches: &[Sel], search: Search)
     requires some { 0 < length matches.now }
-    requires order { GoesOn search.way (on_the_way search.way list.old) }
+    requires order { GoesAhead search.way (on_the_way search.way list.old) }
     ensures { list.new ≡ map (searched_at search matches.now) list.old }
 {
     order(list, search.way);

@@ -11,7 +11,7 @@ ghost use Rattle.regex_select.specs.Walks.{own_chars, IsWalk};
 ghost use Rattle.regex_select.specs.Causes.{IsForRoom};
 
 use crate::error::SelectError;
-use crate::walking::{Walk, start, walk_to};
+use crate::walking::{SelectionWalk, start, walk_to};
 use kak_text::Coord;
 use line_buffer::Lines;
 use regex_ports::Span;
@@ -46,7 +46,7 @@ fn before(lines: &Lines, at: Coord) -> Coord
 }
 
 // What lies from one character on and before another, if anything does.
-fn part(lines: &Lines, sel: Sel, first: Walk, end: Walk) -> Option<Sel>
+fn part(lines: &Lines, sel: Sel, first: SelectionWalk, end: SelectionWalk) -> Option<Sel>
     requires inside { IsInside lines.now sel }
     requires first { IsWalk lines.now sel first }
     requires end { IsWalk lines.now sel end }
@@ -65,7 +65,7 @@ fn part(lines: &Lines, sel: Sel, first: Walk, end: Walk) -> Option<Sel>
 }
 
 // What lies from one character of a selection on, if anything does.
-fn rest(lines: &Lines, sel: Sel, first: Walk) -> Option<Sel>
+fn rest(lines: &Lines, sel: Sel, first: SelectionWalk) -> Option<Sel>
     requires inside { IsInside lines.now sel }
     requires first { IsWalk lines.now sel first }
     ensures inside { IfSome result (λ s. IsInside lines.now s) }
@@ -83,7 +83,12 @@ fn rest(lines: &Lines, sel: Sel, first: Walk) -> Option<Sel>
 }
 
 /// What is selected by a match from one character on and before another.
-pub(crate) fn found(lines: &Lines, sel: Sel, first: Walk, end: Walk) -> Option<Sel>
+pub(crate) fn found(
+    lines: &Lines,
+    sel: Sel,
+    first: SelectionWalk,
+    end: SelectionWalk,
+) -> Option<Sel>
     requires inside { IsInside lines.now sel }
     requires first { IsWalk lines.now sel first }
     requires end { IsWalk lines.now sel end }

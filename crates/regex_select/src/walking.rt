@@ -6,7 +6,7 @@ ghost use Rattle.text_model.specs.Texts.{IsPlace, IsPlaceOrEnd, offset, nth_line
 ghost use Rattle.selection_set.specs.Inside.{IsInside};
 ghost use Rattle.compact_chars.specs.Rows.{chars_of};
 ghost use Rattle.regex_select.specs.Selecting.{chars_before};
-ghost use Rattle.regex_select.specs.Walks.{bytes_before, own_chars, IsWalk};
+ghost use Rattle.regex_select.specs.Walks.{bytes_of_first, own_chars, IsWalk};
 
 use compact_chars::CharsRef;
 use kak_text::Coord;
@@ -15,7 +15,7 @@ use selection_set::Sel;
 
 /// How far the characters of a selection have been gone over.
 #[derive(Clone, Copy, PartialEq, Eq, Debug)]
-pub(crate) struct Walk {
+pub(crate) struct SelectionWalk {
     /// The place that was reached, or the one behind the selection.
     pub(crate) at: Coord,
     /// How many characters were passed.
@@ -25,10 +25,10 @@ pub(crate) struct Walk {
 }
 
 /// The walk before its first step.
-pub(crate) fn start(sel: Sel) -> Walk
+pub(crate) fn start(sel: Sel) -> SelectionWalk
     ensures { result ≡ record { at = sel.low; passed = 0; bytes = 0 } }
 {
-    Walk {
+    SelectionWalk {
         at: sel.low,
         passed: 0,
         bytes: 0,
@@ -36,9 +36,9 @@ pub(crate) fn start(sel: Sel) -> Walk
 }
 
 // A walk, or, where it is beyond a byte already, the one before the first step.
-fn not_beyond(sel: Sel, from: Walk, byte: usize) -> Walk
+fn not_beyond(sel: Sel, from: SelectionWalk, byte: usize) -> SelectionWalk
     ensures walk { (text : List ℕ) → IsInside text sel → IsWalk text sel from → IsWalk text sel result }
-    ensures before { (text : List ℕ) → IsInside text sel → IsWalk text sel from → bytes_before (own_chars text sel) result.passed ≤ byte }
+    ensures before { (text : List ℕ) → IsInside text sel → IsWalk text sel from → bytes_of_first (own_chars text sel) result.passed ≤ byte }
 {
     if from.bytes <= byte {
         return from;
@@ -55,8 +55,8 @@ fn pass(run: CharsRef<'_>, from: usize, byte: usize) -> (usize, usize)
     requires small { from ≤ 4 * MAX_CHARS }
     ensures some { 0 < result.0 }
     ensures inside { result.0 ≤ length (chars_of run.entry) }
-    ensures bytes { result.1 ≡ from + bytes_before (chars_of run.entry) result.0 }
-    ensures begun { from + bytes_before (chars_of run.entry) (result.0 - 1) < byte }
+    ensures bytes { result.1 ≡ from + bytes_of_first (chars_of run.entry) result.0 }
+    ensures begun { from + bytes_of_first (chars_of run.entry) (result.0 - 1) < byte }
     ensures small { result.1 ≤ from + 4 * result.0 }
 {
     match run {
@@ -125,7 +125,7 @@ fn further(lines: &Lines, at: Coord, count: usize) -> Coord
 }
 
 // Goes on by at least one character that begins before a byte, and by all such ones on a line of ASCII.
-fn pass_line(lines: &Lines, sel: Sel, walk: Walk, byte: usize) -> Walk
+fn pass_line(lines: &Lines, sel: Sel, walk: SelectionWalk, byte: usize) -> SelectionWalk
     requires inside { IsInside lines.now sel }
     requires walk { IsWalk lines.now sel walk }
     requires there { walk.passed < length (own_chars lines.now sel) }
@@ -133,13 +133,13 @@ fn pass_line(lines: &Lines, sel: Sel, walk: Walk, byte: usize) -> Walk
     requires small { length lines.now ≤ MAX_CHARS }
     ensures walk { IsWalk lines.now sel result }
     ensures further { walk.passed < result.passed }
-    ensures begun { bytes_before (own_chars lines.now sel) (result.passed - 1) < byte }
+    ensures begun { bytes_of_first (own_chars lines.now sel) (result.passed - 1) < byte }
 {
     let line = lines.line(walk.at.line as usize);
     let column = walk.at.column as usize;
     let end = at_most(part_end(line, sel, walk.at), column, byte - walk.bytes);
     let (count, bytes) = pass(line.between(column, end), walk.bytes, byte);
-    Walk {
+    SelectionWalk {
         at: further(lines, walk.at, count),
         passed: walk.passed + count,
         bytes,
@@ -148,7 +148,7 @@ fn pass_line(lines: &Lines, sel: Sel, walk: Walk, byte: usize) -> Walk
 
 /// The walk over the characters that begin before a byte; a walk up to a byte that isn't behind that one shortens the
 /// way. It costs the characters between the two, which it goes over a line at a time.
-pub(crate) fn walk_to(lines: &Lines, sel: Sel, from: Walk, byte: usize) -> Walk
+pub(crate) fn walk_to(lines: &Lines, sel: Sel, from: SelectionWalk, byte: usize) -> SelectionWalk
     requires inside { IsInside lines.now sel }
     requires walk { IsWalk lines.now sel from }
     requires small { length lines.now ≤ MAX_CHARS }

@@ -3,7 +3,7 @@
 ghost use Rattle.std.specs.Prelude.{◌≡◌, ◌≤◌, ◌++◌, slice_range, string_bytes, encode_utf8_all, IfOk, OnOk};
 ghost use Rattle.text_model.specs.Texts.{offset, IsPlaceOrEnd};
 ghost use Rattle.selection_set.specs.Inside.{range_of, IsInside};
-ghost use Rattle.regex_select.specs.Rows.{bytes_of};
+ghost use Rattle.regex_select.specs.Rows.{selected_bytes};
 
 use crate::gathering::Gathered;
 use crate::searching::behind;
@@ -40,7 +40,7 @@ pub(crate) fn with_part(
 /// The characters of a selection. It costs these.
 pub(crate) fn written(alloc: Global, lines: &Lines, sel: Sel) -> Result<String, AllocError>
     requires { IsInside lines.now sel }
-    ensures { IfOk result (λ text. string_bytes text ≡ bytes_of lines.now (range_of lines.now sel)) }
+    ensures { IfOk result (λ text. string_bytes text ≡ selected_bytes lines.now (range_of lines.now sel)) }
 {
     let none = Gathered::with_room(alloc, 0)?;
     with_part(none, lines, sel.low, behind(lines, sel.high))?.finish()
@@ -49,7 +49,7 @@ pub(crate) fn written(alloc: Global, lines: &Lines, sel: Sel) -> Result<String, 
 /// Makes a string the characters of a selection, in the memory that it has where that is enough. It costs these.
 pub(crate) fn write(lines: &Lines, sel: Sel, text: &mut String) -> Result<(), AllocError>
     requires { IsInside lines.now sel }
-    ensures { OnOk result (string_bytes text.new ≡ bytes_of lines.now (range_of lines.now sel)) }
+    ensures { OnOk result (string_bytes text.new ≡ selected_bytes lines.now (range_of lines.now sel)) }
 {
     text.clear();
     lines.push_slice(text, sel.low, behind(lines, sel.high))?;

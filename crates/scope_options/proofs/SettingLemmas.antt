@@ -14,7 +14,7 @@ use Rattle.scope_options.specs.declared.value.OptionValue.{OptionValue}
 use Rattle.scope_options.specs.declared.setting.Setting.{Setting}
 use Rattle.scope_options.specs.Scopes.{is_same_scope}
 use Rattle.scope_options.specs.Settings.{is_at, value_at, setting, without}
-use Rattle.scope_options.specs.Changes.{unset_by, unset_in}
+use Rattle.scope_options.specs.Changes.{unset_by, option_unset_in}
 
 scope-same : (s : Scope) → is_same_scope s s ≡ true
 scope-same Global = refl
@@ -62,5 +62,5 @@ unset_by-some (Some v) Global name rows declared inner = absurd (false≢true (s
 unset_by-some (Some v) (Buffer m) name rows declared inner = refl
 unset_by-some (Some v) (Window k m) name rows declared inner = refl
 
-pub unset-declared : (scope : Scope) (name : List ℕ) (rows : List Setting) → is_some (value_at Global name rows) ≡ true → is_same_scope scope Global ≡ false → unset_in scope name rows ≡ Ok (without scope name rows)
+pub unset-declared : (scope : Scope) (name : List ℕ) (rows : List Setting) → is_some (value_at Global name rows) ≡ true → is_same_scope scope Global ≡ false → option_unset_in scope name rows ≡ Ok (without scope name rows)
 unset-declared scope name rows declared inner = unset_by-some (value_at Global name rows) scope name rows declared inner

@@ -56,8 +56,8 @@ set_by None scope name words add rows = Err error.NoOption
 set_by (Some global) scope name words add rows = put_value scope name rows (new_value global scope name words add rows)
 
 -- setting an option at a scope: it must be declared, and the words must be a value that it takes
-abbrev pub set_in : Scope → List ℕ → List (List ℕ) → Bool → List Setting → Result (List Setting) OptionError
-set_in scope name words add rows = set_by (value_at Global name rows) scope name words add rows
+abbrev pub option_set_in : Scope → List ℕ → List (List ℕ) → Bool → List Setting → Result (List Setting) OptionError
+option_set_in scope name words add rows = set_by (value_at Global name rows) scope name words add rows
 
 -- unsetting an option by its global value, if it is declared
 abbrev pub unset_by : Option OptionValue → Scope → List ℕ → List Setting → Result (List Setting) OptionError
@@ -66,14 +66,14 @@ unset_by (Some global) Global name rows = Err error.NoScope
 unset_by (Some global) scope name rows = Ok (without scope name rows)
 
 -- unsetting an option at a scope: it must be declared, and the scope may not be the global one
-abbrev pub unset_in : Scope → List ℕ → List Setting → Result (List Setting) OptionError
-unset_in scope name rows = unset_by (value_at Global name rows) scope name rows
+abbrev pub option_unset_in : Scope → List ℕ → List Setting → Result (List Setting) OptionError
+option_unset_in scope name rows = unset_by (value_at Global name rows) scope name rows
 
 -- an error is the refusal that is due; memory may run out at any time
-abbrev pub IsDue : OptionError → Result (List Setting) OptionError → Type 0
-IsDue error.NoMemory due = Unit {0}
-IsDue error.NoOption due = due ≡ Err error.NoOption
-IsDue error.Exists due = due ≡ Err error.Exists
-IsDue error.BadType due = due ≡ Err error.BadType
-IsDue error.BadValue due = due ≡ Err error.BadValue
-IsDue error.NoScope due = due ≡ Err error.NoScope
+abbrev pub IsOptionErrorDue : OptionError → Result (List Setting) OptionError → Type 0
+IsOptionErrorDue error.NoMemory due = Unit {0}
+IsOptionErrorDue error.NoOption due = due ≡ Err error.NoOption
+IsOptionErrorDue error.Exists due = due ≡ Err error.Exists
+IsOptionErrorDue error.BadType due = due ≡ Err error.BadType
+IsOptionErrorDue error.BadValue due = due ≡ Err error.BadValue
+IsOptionErrorDue error.NoScope due = due ≡ Err error.NoScope

@@ -7,15 +7,15 @@ use Rattle.scope_options.specs.declared.setting.Setting.{Setting}
 use Rattle.scope_options.specs.declared.options.OptionError.TheVariants as error
 use Rattle.scope_options.specs.Values.{int_of, read_value}
 use Rattle.scope_options.specs.Settings.{given, seen_from, setting, declared_as, cleared}
-use Rattle.scope_options.specs.Changes.{declare_in, set_in, unset_in}
+use Rattle.scope_options.specs.Changes.{declare_in, option_set_in, option_unset_in}
 
 -- buffer 3 has a tabstop of 5, and client 0 has one of 6 in it
-abbrev pub inner : List Setting
-inner = given ++ setting (Buffer 3) (codes "tabstop") (value.Int (pos 5)) ∷ setting (Window 0 3) (codes "tabstop") (value.Int (pos 6)) ∷ []
+abbrev pub inner_scopes : List Setting
+inner_scopes = given ++ setting (Buffer 3) (codes "tabstop") (value.Int (pos 5)) ∷ setting (Window 0 3) (codes "tabstop") (value.Int (pos 6)) ∷ []
 
 -- an option of texts, and one of lists
-abbrev pub more : List Setting
-more = declared_as (codes "t") (value.Str (codes "a")) ∷ declared_as (codes "l") (value.StrList (codes "a" ∷ [])) ∷ declared_as (codes "b") (value.Bool true) ∷ declared_as (codes "n") (value.Int (pos 2147483647)) ∷ []
+abbrev pub two_options_more : List Setting
+two_options_more = declared_as (codes "t") (value.Str (codes "a")) ∷ declared_as (codes "l") (value.StrList (codes "a" ∷ [])) ∷ declared_as (codes "b") (value.Bool true) ∷ declared_as (codes "n") (value.Int (pos 2147483647)) ∷ []
 
 -- the table of examples
 pub record WorkedExamples : Type 0 where
@@ -36,11 +36,11 @@ pub record WorkedExamples : Type 0 where
   pub yes_is_no_truth : read_value kind.Bool (codes "yes" ∷ []) ≡ None
   pub empty_list : read_value kind.StrList [] ≡ Some (value.StrList [])
   -- the innermost value counts
-  pub in_window : seen_from (Window 0 3) (codes "tabstop") inner ≡ Some (value.Int (pos 6))
-  pub in_another_window : seen_from (Window 1 3) (codes "tabstop") inner ≡ Some (value.Int (pos 5))
-  pub in_another_buffer : seen_from (Window 0 4) (codes "tabstop") inner ≡ Some (value.Int (pos 8))
-  pub not_declared : seen_from (Window 0 3) (codes "tab") inner ≡ None
-  pub window_is_gone : seen_from (Window 0 3) (codes "tabstop") (cleared (Window 0 3) inner) ≡ Some (value.Int (pos 5))
+  pub in_window : seen_from (Window 0 3) (codes "tabstop") inner_scopes ≡ Some (value.Int (pos 6))
+  pub in_another_window : seen_from (Window 1 3) (codes "tabstop") inner_scopes ≡ Some (value.Int (pos 5))
+  pub in_another_buffer : seen_from (Window 0 4) (codes "tabstop") inner_scopes ≡ Some (value.Int (pos 8))
+  pub not_declared : seen_from (Window 0 3) (codes "tab") inner_scopes ≡ None
+  pub window_is_gone : seen_from (Window 0 3) (codes "tabstop") (cleared (Window 0 3) inner_scopes) ≡ Some (value.Int (pos 5))
   -- declaring
   pub declared : declare_in kind.Int (codes "x") (codes "3" ∷ []) [] ≡ Ok (declared_as (codes "x") (value.Int (pos 3)) ∷ [])
   pub keeps_its_value : declare_in kind.Int (codes "tabstop") (codes "3" ∷ []) given ≡ Ok given
@@ -48,22 +48,22 @@ pub record WorkedExamples : Type 0 where
   pub bad_type : declare_in kind.Bool (codes "x") (codes "1" ∷ []) given ≡ Err error.BadType
   pub bad_type_again : declare_in kind.Int (codes "tabstop") (codes "x" ∷ []) given ≡ Err error.BadType
   -- setting
-  pub set_in_buffer : set_in (Buffer 3) (codes "tabstop") (codes "5" ∷ []) false given ≡ Ok (given ++ setting (Buffer 3) (codes "tabstop") (value.Int (pos 5)) ∷ [])
-  pub no_option : set_in Global (codes "y") (codes "x" ∷ []) false given ≡ Err error.NoOption
-  pub no_number : set_in (Buffer 0) (codes "tabstop") (codes "nine" ∷ []) false given ≡ Err error.BadValue
-  pub tabstop_of_none : set_in Global (codes "tabstop") (codes "0" ∷ []) false given ≡ Err error.BadValue
-  pub tabstop_too_wide : set_in Global (codes "tabstop") (codes "65" ∷ []) false given ≡ Err error.BadValue
+  pub set_in_buffer : option_set_in (Buffer 3) (codes "tabstop") (codes "5" ∷ []) false given ≡ Ok (given ++ setting (Buffer 3) (codes "tabstop") (value.Int (pos 5)) ∷ [])
+  pub no_option : option_set_in Global (codes "y") (codes "x" ∷ []) false given ≡ Err error.NoOption
+  pub no_number : option_set_in (Buffer 0) (codes "tabstop") (codes "nine" ∷ []) false given ≡ Err error.BadValue
+  pub tabstop_of_none : option_set_in Global (codes "tabstop") (codes "0" ∷ []) false given ≡ Err error.BadValue
+  pub tabstop_too_wide : option_set_in Global (codes "tabstop") (codes "65" ∷ []) false given ≡ Err error.BadValue
   pub indentwidth_of_none : seen_from Global (codes "indentwidth") given ≡ Some (value.Int (pos 4))
-  pub other_format : set_in Global (codes "eolformat") (codes "cr" ∷ []) false given ≡ Err error.BadValue
-  pub other_mark : set_in Global (codes "BOM") (codes "utf-8" ∷ []) false given ≡ Err error.BadValue
+  pub other_format : option_set_in Global (codes "eolformat") (codes "cr" ∷ []) false given ≡ Err error.BadValue
+  pub other_mark : option_set_in Global (codes "BOM") (codes "utf-8" ∷ []) false given ≡ Err error.BadValue
   -- adding to what is seen from the scope outward
-  pub sum_in_window : set_in (Window 1 3) (codes "tabstop") (codes "-2" ∷ []) true inner ≡ Ok (inner ++ setting (Window 1 3) (codes "tabstop") (value.Int (pos 3)) ∷ [])
-  pub sum_too_great : set_in Global (codes "tabstop") (codes "57" ∷ []) true given ≡ Err error.BadValue
-  pub sum_past_32_bits : set_in Global (codes "n") (codes "1" ∷ []) true more ≡ Err error.BadValue
-  pub joined : set_in (Buffer 0) (codes "t") (codes "b" ∷ []) true more ≡ Ok (more ++ setting (Buffer 0) (codes "t") (value.Str (codes "ab")) ∷ [])
-  pub appended : set_in (Buffer 0) (codes "l") (codes "b" ∷ codes "c" ∷ []) true more ≡ Ok (more ++ setting (Buffer 0) (codes "l") (value.StrList (codes "a" ∷ codes "b" ∷ codes "c" ∷ [])) ∷ [])
-  pub truth_added : set_in Global (codes "b") (codes "true" ∷ []) true more ≡ Err error.BadValue
+  pub sum_in_window : option_set_in (Window 1 3) (codes "tabstop") (codes "-2" ∷ []) true inner_scopes ≡ Ok (inner_scopes ++ setting (Window 1 3) (codes "tabstop") (value.Int (pos 3)) ∷ [])
+  pub sum_too_great : option_set_in Global (codes "tabstop") (codes "57" ∷ []) true given ≡ Err error.BadValue
+  pub sum_past_32_bits : option_set_in Global (codes "n") (codes "1" ∷ []) true two_options_more ≡ Err error.BadValue
+  pub joined : option_set_in (Buffer 0) (codes "t") (codes "b" ∷ []) true two_options_more ≡ Ok (two_options_more ++ setting (Buffer 0) (codes "t") (value.Str (codes "ab")) ∷ [])
+  pub appended : option_set_in (Buffer 0) (codes "l") (codes "b" ∷ codes "c" ∷ []) true two_options_more ≡ Ok (two_options_more ++ setting (Buffer 0) (codes "l") (value.StrList (codes "a" ∷ codes "b" ∷ codes "c" ∷ [])) ∷ [])
+  pub truth_added : option_set_in Global (codes "b") (codes "true" ∷ []) true two_options_more ≡ Err error.BadValue
   -- unsetting
-  pub unset : unset_in (Window 0 3) (codes "tabstop") inner ≡ Ok (given ++ setting (Buffer 3) (codes "tabstop") (value.Int (pos 5)) ∷ [])
-  pub unset_no_option : unset_in Global (codes "y") inner ≡ Err error.NoOption
-  pub unset_globally : unset_in Global (codes "tabstop") inner ≡ Err error.NoScope
+  pub unset : option_unset_in (Window 0 3) (codes "tabstop") inner_scopes ≡ Ok (given ++ setting (Buffer 3) (codes "tabstop") (value.Int (pos 5)) ∷ [])
+  pub unset_no_option : option_unset_in Global (codes "y") inner_scopes ≡ Err error.NoOption
+  pub unset_globally : option_unset_in Global (codes "tabstop") inner_scopes ≡ Err error.NoScope

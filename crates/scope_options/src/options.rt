@@ -11,7 +11,7 @@ ghost use Rattle.scope_options.specs.declared.setting.Setting.{Setting};
 ghost use Rattle.scope_options.specs.Values.{kind_of, read_value};
 ghost use Rattle.scope_options.specs.Settings.{is_at, value_at, seen_from, declared_as, cleared, without_client, without_buffer, given};
 ghost use Rattle.scope_options.specs.Numbers.{number_within};
-ghost use Rattle.scope_options.specs.Changes.{declare_in, declare_by, declare_typed, set_in, unset_in, IsDue};
+ghost use Rattle.scope_options.specs.Changes.{declare_in, declare_by, declare_typed, option_set_in, option_unset_in, IsOptionErrorDue};
 
 use crate::changing::{is_at, new_value, place, seen_over, value_at};
 use crate::numbers::number_of;
@@ -94,7 +94,7 @@ impl Options {
         value: &Words,
     ) -> Result<(), OptionError>
         ensures declares { OnOk result (declare_in kind name.now value.now self.old ≡ Ok self.new) }
-        ensures refused { IfErr result (λ e. IsDue e (declare_in kind name.now value.now self.old)) }
+        ensures refused { IfErr result (λ e. IsOptionErrorDue e (declare_in kind name.now value.now self.old)) }
         ensures err { OnErr result (self.new ≡ self.old) }
     {
         match known_type(self.rows.as_slice(), name) {
@@ -114,8 +114,8 @@ impl Options {
         value: &Words,
         add: bool,
     ) -> Result<(), OptionError>
-        ensures sets { OnOk result (set_in scope name.now value.now add self.old ≡ Ok self.new) }
-        ensures refused { IfErr result (λ e. IsDue e (set_in scope name.now value.now add self.old)) }
+        ensures sets { OnOk result (option_set_in scope name.now value.now add self.old ≡ Ok self.new) }
+        ensures refused { IfErr result (λ e. IsOptionErrorDue e (option_set_in scope name.now value.now add self.old)) }
         ensures err { OnErr result (self.new ≡ self.old) }
     {
         let rows = self.rows.as_slice();
@@ -133,8 +133,8 @@ impl Options {
     /// Takes away what an option is set to at a scope. The errors are, in this order, `NoOption` and, exactly for the
     /// global scope, `NoScope`. They leave all as it was.
     pub fn unset(&mut self, scope: Scope, name: &str) -> Result<(), OptionError>
-        ensures unsets { OnOk result (unset_in scope name.now self.old ≡ Ok self.new) }
-        ensures refused { IfErr result (λ e. unset_in scope name.now self.old ≡ Err e) }
+        ensures unsets { OnOk result (option_unset_in scope name.now self.old ≡ Ok self.new) }
+        ensures refused { IfErr result (λ e. option_unset_in scope name.now self.old ≡ Err e) }
         ensures err { OnErr result (self.new ≡ self.old) }
     {
         if !is_declared(self.rows.as_slice(), name) {
@@ -214,7 +214,7 @@ impl Options {
         words: &Words,
     ) -> Result<(), OptionError>
         ensures ok { OnOk result (declare_by kind name.now None (read_value kind words.now) self.old ≡ Ok self.new) }
-        ensures refused { IfErr result (λ e. IsDue e (declare_by kind name.now None (read_value kind words.now) self.old)) }
+        ensures refused { IfErr result (λ e. IsOptionErrorDue e (declare_by kind name.now None (read_value kind words.now) self.old)) }
         ensures err { OnErr result (self.new ≡ self.old) }
     {
         let Some(value) = read_value(alloc, kind, words)? else {
@@ -265,7 +265,7 @@ fn declare_again(
     words: &Words,
 ) -> Result<(), OptionError>
     ensures ok { OnOk result ((rows : List Setting) → declare_typed old kind (read_value kind words.now) rows ≡ Ok rows) }
-    ensures refused { IfErr result (λ e. (rows : List Setting) → IsDue e (declare_typed old kind (read_value kind words.now) rows)) }
+    ensures refused { IfErr result (λ e. (rows : List Setting) → IsOptionErrorDue e (declare_typed old kind (read_value kind words.now) rows)) }
 {
     if !is_same_type(old, kind) {
         return Err(OptionError::Exists);

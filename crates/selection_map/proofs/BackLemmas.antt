@@ -6,16 +6,16 @@ use Rattle.text_model.specs.Coords.{is_at_most}
 use Rattle.text_model.specs.Texts.{IsStored, IsPlace, offset, coord_at}
 use Rattle.text_model.proofs.PlaceLemmas.{offset-below, coord_at-offset, leb_true}
 use Rattle.selection_set.specs.declared.sel.Sel.{Sel}
-use Rattle.selection_map.specs.declared.reach.Reach.{Reach}
-use Rattle.selection_map.specs.declared.walking.Way.{Way}
-use Rattle.selection_map.specs.declared.walking.Way.TheVariants.{Falling}
+use Rattle.selection_map.specs.declared.reach.ShiftReach.{ShiftReach}
+use Rattle.selection_map.specs.declared.walking.ShiftWay.{ShiftWay}
+use Rattle.selection_map.specs.declared.walking.ShiftWay.TheVariants.{Falling}
 use Rattle.selection_map.specs.Carrying.{IsSmall}
 use Rattle.selection_map.specs.Rebasing.{earlier}
 use Rattle.selection_map.specs.Reaching.{goes, at_rest, reach_of, then_on, all_mapped, through}
 use Rattle.selection_map.specs.Bounds.{IsSmallReach}
 use Rattle.selection_map.specs.Walking.{IsRun}
 use Rattle.selection_map.specs.Catching.{Step, LeadsOn, Lead, text_after, shifts_of}
-use Rattle.selection_map.specs.Premises.{Stands, text_behind, IsFalling}
+use Rattle.selection_map.specs.Premises.{ReachStands, text_behind, IsFalling}
 use Rattle.selection_map.specs.Behind.{AreFalling, each_through_rest, both_go, LiesBehind, LieBehind, StandBehind}
 use Rattle.selection_map.proofs.CarryLemmas.{order-coords, earlier-min}
 use Rattle.selection_map.proofs.SmallLemmas.{place-small}
@@ -39,7 +39,7 @@ bound-at old st h l =
     let way : IsWayOf old st.text st.shift st.move = shift-way old st.text st.shift st.move (step-of old st h l) in
     ap₂ earlier way.begin_new l.shift_is.last_is ∙ earlier-min st.text st.move.begin st.move.last l.stored.is_text way.in_new (omega (arith, l.shift_is.last_offset))
 
-in-front : (old : List ℕ) (st : Step) (done : List Shift) (lower : ℕ) (w : Reach) → IsStored old → LeadsOn old st → lower ≤ min st.move.begin st.move.last → IsFalling st.text done lower w [] → IsFalling old (st.shift ∷ done) st.move.begin (then_on (reach_of st.shift) w) []
+in-front : (old : List ℕ) (st : Step) (done : List Shift) (lower : ℕ) (w : ShiftReach) → IsStored old → LeadsOn old st → lower ≤ min st.move.begin st.move.last → IsFalling st.text done lower w [] → IsFalling old (st.shift ∷ done) st.move.begin (then_on (reach_of st.shift) w) []
 in-front old st done lower w h l le r = falling-step old (st.shift ∷ done) st.move.begin w st.shift [] st.move.begin h ready begins
   where
     way : IsWayOf old st.text st.shift st.move
@@ -70,7 +70,7 @@ in-front old st done lower w h l le r = falling-step old (st.shift ∷ done) st.
       floor = lower;
       behind = coord_at st.text lower;
       stored = r.stored;
-      stands = subst (λ x. Stands x r.newest w r.f r.t) (none-behind st.text r.steps r.rest_is) r.stands;
+      stands = subst (λ x. ReachStands x r.newest w r.f r.t) (none-behind st.text r.steps r.rest_is) r.stands;
       leads = (l, tt);
       rest_is = refl;
       fall = (fits, tt);
@@ -87,11 +87,11 @@ abbrev pub begin_of : List Step → ℕ
 begin_of [] = 0
 begin_of (st ∷ sts) = st.move.begin
 
-abbrev pub IsBack : List ℕ → List Step → ℕ → Reach → Type 0
+abbrev pub IsBack : List ℕ → List Step → ℕ → ShiftReach → Type 0
 IsBack old steps n w = IsFalling (text_after old (take n steps)) (drop n (shifts_of steps)) (begin_of (drop n steps)) w []
 
 -- what is left to do for a selection behind a step, and that step
-pub record IsCarried (old : List ℕ) (steps : List Step) (n : ℕ) (w : Reach) (s : Shift) (x : Sel) : Type 0 where
+pub record IsCarried (old : List ℕ) (steps : List Step) (n : ℕ) (w : ShiftReach) (s : Shift) (x : Sel) : Type 0 where
   pub way_small : IsSmallReach w
   pub shift_small : IsSmallReach (reach_of s)
   pub low_small : IsSmall x.low
@@ -109,10 +109,10 @@ next-begins old st (t ∷ ts) h l k r =
     (sym (order-coords st.text t.move.begin (min st.move.begin st.move.last) l.stored.is_text next.in_old (omega (arith, way.in_new))) ∙ ap₂ is_at_most (sym next.begin_old) (sym (bound-at old st h l)) ∙ r.0)
 
 -- a place behind a step goes the way of the steps behind that
-goes-on : (text : List ℕ) (done : List Shift) (lower : ℕ) (w : Reach) (at : Coord) → IsStored text → IsFalling text done lower w [] → IsPlace text at → lower ≤ offset text at → goes w at ≡ all_mapped done at
+goes-on : (text : List ℕ) (done : List Shift) (lower : ℕ) (w : ShiftReach) (at : Coord) → IsStored text → IsFalling text done lower w [] → IsPlace text at → lower ≤ offset text at → goes w at ≡ all_mapped done at
 goes-on text done lower w at h r p le = subst (λ x. goes w x ≡ all_mapped done x) (coord_at-offset text at p) (falling-none text done lower w (offset text at) h r le (offset-below text at p))
 
-carried-first : (old : List ℕ) (st : Step) (sts : List Step) (w : Reach) (x : Sel) → IsStored old → LeadsOn old st → Lead st.text sts → LiesBehind st x → IsRun Falling (shifts_of (st ∷ sts)) → IsFalling st.text (shifts_of sts) (begin_of sts) w [] → IsCarried old (st ∷ sts) 0 w st.shift x
+carried-first : (old : List ℕ) (st : Step) (sts : List Step) (w : ShiftReach) (x : Sel) → IsStored old → LeadsOn old st → Lead st.text sts → LiesBehind st x → IsRun Falling (shifts_of (st ∷ sts)) → IsFalling st.text (shifts_of sts) (begin_of sts) w [] → IsCarried old (st ∷ sts) 0 w st.shift x
 carried-first old st sts w x h l k b r f =
     let le : begin_of sts ≤ min st.move.begin st.move.last = next-begins old st sts h l k r in
     let put : Coord → Coord → Sel = λ p q. record { low = p; high = q; turned = x.turned; target = x.target } in
@@ -126,11 +126,11 @@ carried-first old st sts w x h l k b r f =
       back = in-front old st (shifts_of sts) (begin_of sts) w h l le f;
     }
 
-pub run-rest : (way : Way) (s : Shift) (ss : List Shift) → IsRun way (s ∷ ss) → IsRun way ss
+pub run-rest : (way : ShiftWay) (s : Shift) (ss : List Shift) → IsRun way (s ∷ ss) → IsRun way ss
 run-rest way s [] r = tt
 run-rest way s (t ∷ ts) r = r.1
 
-carried-at : (n : ℕ) (old : List ℕ) (steps : List Step) (sels : List Sel) (w : Reach) (s : Shift) (x : Sel) (d : Shift) (e : Sel) → IsStored old → Lead old steps → LieBehind steps sels → IsRun Falling (shifts_of steps) → n < length sels
+carried-at : (n : ℕ) (old : List ℕ) (steps : List Step) (sels : List Sel) (w : ShiftReach) (s : Shift) (x : Sel) (d : Shift) (e : Sel) → IsStored old → Lead old steps → LieBehind steps sels → IsRun Falling (shifts_of steps) → n < length sels
     → s ≡ get_or (shifts_of steps) n d → x ≡ get_or sels n e → IsBack old steps (suc n) w → IsCarried old steps n w s x
 carried-at n old [] [] w s x d e h l b r below f g k = absurd (omega arith)
 carried-at n old [] (y ∷ ys) w s x d e h l b r below f g k = absurd b
@@ -186,7 +186,7 @@ gone-step zero (s ∷ ss) (x ∷ xs) y d l e f = ap (λ t. t ∷ each_through_re
 gone-step (suc n) (s ∷ ss) (x ∷ xs) y d l e f = ap (λ t. x ∷ t) (gone-step n ss xs y d (omega (arith, l)) (omega (arith, e)) f)
 
 -- what the code's loop stands on
-pub record IsGoing (shifts : List Shift) (before now : List Sel) (n : ℕ) (w : Reach) : Type 0 where
+pub record IsGoing (shifts : List Shift) (before now : List Sel) (n : ℕ) (w : ShiftReach) : Type 0 where
   pub few : n ≤ length before
   pub many : length shifts ≡ length before
   pub gone : now ≡ gone_from n shifts before
@@ -208,15 +208,15 @@ going-first shifts sels c = record {
         let f : IsBack st.text sts (length xs) at_rest = all-first sts st.text xs l.0.stored l.1 b.1 in
         f
 
-going-at : (shifts : List Shift) (before now : List Sel) (k n : ℕ) (w : Reach) (e : Sel) → k ≡ suc n → IsGoing shifts before now k w → get_or now n e ≡ get_or before n e
+going-at : (shifts : List Shift) (before now : List Sel) (k n : ℕ) (w : ShiftReach) (e : Sel) → k ≡ suc n → IsGoing shifts before now k w → get_or now n e ≡ get_or before n e
 going-at shifts before now k n w e g i = ap (λ l. get_or l n e) (i.gone ∙ ap (λ j. gone_from j shifts before) g) ∙ gone-at n shifts before e
 
-pub going-now : (shifts : List Shift) (before now : List Sel) (k n : ℕ) (w : Reach) (d : Shift) (e : Sel) → k ≡ suc n → AreFalling shifts → (c : StandBehind shifts before) → IsGoing shifts before now k w → IsCarried c.old c.steps n w (get_or shifts n d) (get_or now n e)
+pub going-now : (shifts : List Shift) (before now : List Sel) (k n : ℕ) (w : ShiftReach) (d : Shift) (e : Sel) → k ≡ suc n → AreFalling shifts → (c : StandBehind shifts before) → IsGoing shifts before now k w → IsCarried c.old c.steps n w (get_or shifts n d) (get_or now n e)
 going-now shifts before now k n w d e g falls c i =
     carried-at n c.old c.steps before w (get_or shifts n d) (get_or now n e) d e c.stored c.leads c.behind (subst (IsRun Falling) c.shifts_are falls) (omega (arith, g, i.few))
     (ap (λ l. get_or l n d) c.shifts_are) (going-at shifts before now k n w e g i) (subst (λ j. IsBack c.old c.steps j w) g (i.back c))
 
-pub going-on : (shifts : List Shift) (before now : List Sel) (k n : ℕ) (w v : Reach) (y : Sel) (d : Shift) (e : Sel) → k ≡ suc n → y ≡ both_go w (get_or now n e) → v ≡ then_on (reach_of (get_or shifts n d)) w → AreFalling shifts → StandBehind shifts before → IsGoing shifts before now k w
+pub going-on : (shifts : List Shift) (before now : List Sel) (k n : ℕ) (w v : ShiftReach) (y : Sel) (d : Shift) (e : Sel) → k ≡ suc n → y ≡ both_go w (get_or now n e) → v ≡ then_on (reach_of (get_or shifts n d)) w → AreFalling shifts → StandBehind shifts before → IsGoing shifts before now k w
     → IsGoing shifts before (set now n y) n v
 going-on shifts before now k n w v y d e g is way falls c i =
     let here : IsCarried c.old c.steps n w (get_or shifts n d) (get_or now n e) = going-now shifts before now k n w d e g falls c i in
@@ -229,5 +229,5 @@ going-on shifts before now k n w v y d e g is way falls c i =
       back = λ (b : StandBehind shifts before). subst (IsBack b.old b.steps n) (sym way) (going-now shifts before now k n w d e g falls b i).back;
     }
 
-pub going-length : (shifts : List Shift) (before now : List Sel) (n : ℕ) (w : Reach) → IsGoing shifts before now n w → length now ≡ length before
+pub going-length : (shifts : List Shift) (before now : List Sel) (n : ℕ) (w : ShiftReach) → IsGoing shifts before now n w → length now ≡ length before
 going-length shifts before now n w i = ap length i.gone ∙ gone-length n shifts before i.many

@@ -9,14 +9,14 @@ use Rattle.text_model.proofs.MappingLemmas.{shifted-mono}
 use Rattle.list_model.specs.Ranges.{Range}
 use Rattle.selection_set.specs.declared.sel.Sel.{Sel}
 use Rattle.selection_set.specs.Inside.{IsInside}
-use Rattle.selection_map.specs.Carrying.{IsStep, Carries, CarriesBoth}
+use Rattle.selection_map.specs.Carrying.{IsShiftStep, Carries, CarriesBoth}
 
 -- the range of a change is in order
 pub ordered-by : (insert : Bool) (old new : List ℕ) (b e : ℕ) → IsChange insert old new b e → b ≤ e
 ordered-by true old new b e c = c.ordered
 ordered-by false old new b e c = c.ordered
 
-pub carries-both : (old new : List ℕ) (s : Shift) (m : Move) (sel : Sel) (low high : Coord) → IsStep old new s m → IsInside old sel
+pub carries-both : (old new : List ℕ) (s : Shift) (m : Move) (sel : Sel) (low high : Coord) → IsShiftStep old new s m → IsInside old sel
     → Carries old new m sel.low low → Carries old new m sel.high high
     → CarriesBoth old new m sel (record { low = low; high = high; turned = sel.turned; target = sel.target })
 carries-both old new s m sel low high f i l h = record {

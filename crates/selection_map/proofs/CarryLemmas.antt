@@ -14,7 +14,7 @@ use Rattle.text_model.specs.Mapping.{moved, shifted, past_insertion, past_erasur
 use Rattle.text_model.proofs.CoordLemmas.{reached-append, reached-from, further-same_line, further-below, zero_or_suc, same_coord, test_cases}
 use Rattle.text_model.proofs.PlaceLemmas.{offset-below, offset-coord_at, coord_at-offset, IsPlace-coord_at, IsPlaceOrEnd-coord_at, is_at_most-offset, leb_true, leb_false}
 use Rattle.text_model.proofs.MappingLemmas.{past_insertion_cases, past_erasure_cases, shifted-le}
-use Rattle.selection_map.specs.Carrying.{IsStep, Carries}
+use Rattle.selection_map.specs.Carrying.{IsShiftStep, Carries}
 use Rattle.selection_map.specs.Rebasing.{rebased, earlier, uncut, mapped}
 
 rebased-same : (at f t : Coord) → at.line ≡ f.line → rebased at f t ≡ record { line = t.line; column = t.column + (at.column - f.column) }
@@ -176,7 +176,7 @@ earlier-min text i j t h k = elim (leb_tells i j) [ inl f ↦ first (f.0) (f.1) 
     second e l = let n : min i j ≡ j = omega arith in rw (order-coords text i j t h k, e, n) refl
 
 -- the coordinate that the arithmetic gives is the place that the change gives
-pub carries-mapped : (old new : List ℕ) (s : Shift) (m : Move) (at : Coord) → IsStep old new s m → IsPlace old at → Carries old new m at (mapped s at)
+pub carries-mapped : (old new : List ℕ) (s : Shift) (m : Move) (at : Coord) → IsShiftStep old new s m → IsPlace old at → Carries old new m at (mapped s at)
 carries-mapped old new s m at f p = record { is_place = rw same (IsPlace-coord_at new (shifted m (offset old at)) inside); goes = ap (offset new) same ∙ offset-coord_at new (shifted m (offset old at)) (omega (arith, inside)) }
   where
     below : offset old at < length old

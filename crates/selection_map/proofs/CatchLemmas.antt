@@ -18,8 +18,8 @@ use Rattle.selection_set.specs.declared.sel.Sel.{Sel}
 use Rattle.selection_set.specs.Listing.{Listed, ranges_of, AreInside, LowsDontFall, IsSettledIn}
 use Rattle.selection_set.specs.Held.{selected}
 use Rattle.selection_set.proofs.HeldLemmas.{settled-held, selected-is}
-use Rattle.selection_map.specs.declared.walking.Way.{Way}
-use Rattle.selection_map.specs.Carrying.{IsStep}
+use Rattle.selection_map.specs.declared.walking.ShiftWay.{ShiftWay}
+use Rattle.selection_map.specs.Carrying.{IsShiftStep}
 use Rattle.selection_map.specs.Rebasing.{mapped, mapped_sel}
 use Rattle.selection_map.specs.Reaching.{all_mapped, through}
 use Rattle.selection_map.specs.Walking.{IsRun}
@@ -89,7 +89,7 @@ held-go old steps shifts s c = record {
 -- through one step
 go-step : (old : List ℕ) (st : Step) (sts : List Step) (list : List Sel) → CanGo old (st ∷ sts) (shifts_of (st ∷ sts)) list → CanGo st.text sts (shifts_of sts) (map (mapped_sel st.shift) list)
 go-step old st sts list c =
-    let step : IsStep old st.text st.shift st.move = step-of old st c.stored c.leads.0 in
+    let step : IsShiftStep old st.text st.shift st.move = step-of old st c.stored c.leads.0 in
     let mono : (a b : ℕ) → a ≤ b → shifted st.move a ≤ shifted st.move b = λ a b le. shifted-mono st.move a b (ordered-by st.move.insert old st.text st.move.begin st.move.end c.leads.0.shift_is.change) le in
     let ends : EndsRise 0 (map (carried (shifted st.move)) (ranges_of old list)) = ends-weaker (shifted st.move 0) 0 (map (carried (shifted st.move)) (ranges_of old list)) (omega arith) (ends-mapped (shifted st.move) mono 0 (ranges_of old list) c.ends) in
     record {
@@ -137,7 +137,7 @@ shifts-take zero steps = refl
 shifts-take (suc n) [] = refl
 shifts-take (suc n) (st ∷ sts) = ap (λ t. st.shift ∷ t) (shifts-take n sts)
 
-pub can-walk : (way : Way) (shifts : List Shift) (n : ℕ) (list : List Sel) → CanGoOn shifts list → IsRun way (take n shifts) → CanWalk way (take n shifts) list
+pub can-walk : (way : ShiftWay) (shifts : List Shift) (n : ℕ) (list : List Sel) → CanGoOn shifts list → IsRun way (take n shifts) → CanWalk way (take n shifts) list
 can-walk way shifts n list c r = record {
   old = c.old;
   steps = take n c.steps;
@@ -154,7 +154,7 @@ carried-none (r ∷ rs) = ap (λ t. r ∷ t) (carried-none rs)
 ranges-through : (old : List ℕ) (steps : List Step) (list : List Sel) → IsStored old → Lead old steps → AreInside old list → ranges_of (text_after old steps) (map (through (shifts_of steps)) list) ≡ map (carried (all_shifted (moves_of steps))) (ranges_of old list)
 ranges-through old [] list h l i = ap (ranges_of old) (list-none list) ∙ sym (carried-none (ranges_of old list))
 ranges-through old (st ∷ sts) list h l i =
-    let step : IsStep old st.text st.shift st.move = step-of old st h l.0 in
+    let step : IsShiftStep old st.text st.shift st.move = step-of old st h l.0 in
     ap (ranges_of (text_after st.text sts)) (sym (list-first st.shift (shifts_of sts) list))
     ∙ ranges-through st.text sts (map (mapped_sel st.shift) list) l.0.stored l.1 (mapped-inside old st.text st.shift st.move list step i)
     ∙ ap (map (carried (all_shifted (moves_of sts)))) (mapped-ranges old st.text st.shift st.move list step i)

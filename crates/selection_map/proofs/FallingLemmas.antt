@@ -6,13 +6,13 @@ use Rattle.text_model.specs.Coords.{origin, is_at_most}
 use Rattle.text_model.specs.Texts.{IsStored, coord_at, last_place}
 use Rattle.text_model.specs.Mapping.{shifted}
 use Rattle.text_model.proofs.PlaceLemmas.{leb_true}
-use Rattle.selection_map.specs.declared.reach.Reach.{Reach}
-use Rattle.selection_map.specs.declared.walking.Way.TheVariants.{Falling}
-use Rattle.selection_map.specs.Carrying.{IsStep}
+use Rattle.selection_map.specs.declared.reach.ShiftReach.{ShiftReach}
+use Rattle.selection_map.specs.declared.walking.ShiftWay.TheVariants.{Falling}
+use Rattle.selection_map.specs.Carrying.{IsShiftStep}
 use Rattle.selection_map.specs.Rebasing.{earlier, mapped}
 use Rattle.selection_map.specs.Reaching.{goes, at_rest, reach_of, then_on, all_mapped}
 use Rattle.selection_map.specs.Catching.{Step, shifts_of}
-use Rattle.selection_map.specs.Premises.{Stands, IsQueue, text_behind, LeadBack, mapped_back, IsFalling}
+use Rattle.selection_map.specs.Premises.{ReachStands, IsQueue, text_behind, LeadBack, mapped_back, IsFalling}
 use Rattle.selection_map.proofs.CarryLemmas.{order-coords, earlier-min}
 use Rattle.selection_map.proofs.OrderLemmas.{at_most-trans, not_at_most-behind, origin-first, earlier-first}
 use Rattle.selection_map.proofs.TieLemmas.{then-stands, goes-then, rest-stands, rest-goes}
@@ -46,7 +46,7 @@ low-on : (first : List ℕ) (behind : Coord) (lower o : ℕ) → IsStored first 
 low-on first behind lower o h e le below = at_most-trans behind (coord_at first lower) (coord_at first o) e (order-coords first lower o h.is_text (omega arith) (omega arith) ∙ leb_true lower o le)
 
 -- a place that stays for all shifts that weren't passed has gone where all shifts lead it
-falling-done : (first : List ℕ) (all : List Shift) (lower : ℕ) (w : Reach) (rest : List Shift) (o : ℕ) → IsStored first → (r : IsFalling first all lower w rest) → lower ≤ o → o < length first → StaysBack first r.steps o → goes w (coord_at first o) ≡ all_mapped all (coord_at first o)
+falling-done : (first : List ℕ) (all : List Shift) (lower : ℕ) (w : ShiftReach) (rest : List Shift) (o : ℕ) → IsStored first → (r : IsFalling first all lower w rest) → lower ≤ o → o < length first → StaysBack first r.steps o → goes w (coord_at first o) ≡ all_mapped all (coord_at first o)
 falling-done first all lower w rest o h r le below s =
     let text : List ℕ = text_behind first r.steps in
     let low : is_at_most r.behind (coord_at first o) ≡ true = low-on first r.behind lower o h r.low le below in
@@ -56,7 +56,7 @@ falling-done first all lower w rest o h r le below s =
     ∙ ap (all_mapped r.done) (s.same ∙ sym s.kept ∙ ap (λ l. mapped_back l (coord_at first o)) (sym r.rest_is))
     ∙ sym (r.whole (coord_at first o))
 
-pub falling-stop : (first : List ℕ) (all : List Shift) (lower : ℕ) (w : Reach) (s : Shift) (ss : List Shift) (o : ℕ) → IsStored first → IsFalling first all lower w (s ∷ ss) → lower ≤ o → o < length first → is_at_most s.begin (coord_at first o) ≡ false
+pub falling-stop : (first : List ℕ) (all : List Shift) (lower : ℕ) (w : ShiftReach) (s : Shift) (ss : List Shift) (o : ℕ) → IsStored first → IsFalling first all lower w (s ∷ ss) → lower ≤ o → o < length first → is_at_most s.begin (coord_at first o) ≡ false
     → goes w (coord_at first o) ≡ all_mapped all (coord_at first o)
 falling-stop first all lower w s ss o h r le below e = falling-done first all lower w (s ∷ ss) o h r le below (by_steps r.steps r.leads r.rest_is)
   where
@@ -77,7 +77,7 @@ falling-stop first all lower w s ss o h r le below e = falling-done first all lo
           kept = ap (mapped st.shift) (b.kept ∙ sym b.same) ∙ x.kept ∙ b.same;
         }
 
-pub falling-none : (first : List ℕ) (all : List Shift) (lower : ℕ) (w : Reach) (o : ℕ) → IsStored first → IsFalling first all lower w [] → lower ≤ o → o < length first → goes w (coord_at first o) ≡ all_mapped all (coord_at first o)
+pub falling-none : (first : List ℕ) (all : List Shift) (lower : ℕ) (w : ShiftReach) (o : ℕ) → IsStored first → IsFalling first all lower w [] → lower ≤ o → o < length first → goes w (coord_at first o) ≡ all_mapped all (coord_at first o)
 falling-none first all lower w o h r le below = falling-done first all lower w [] o h r le below (by_steps r.steps r.rest_is)
   where
     by_steps : (steps : List Step) → [] ≡ shifts_of steps → StaysBack first steps o
@@ -88,8 +88,8 @@ falling-none first all lower w o h r le below = falling-done first all lower w [
         nothing k = cc
 
 -- the shift before those that were passed is passed
-falling-on : (first : List ℕ) (all : List Shift) (lower : ℕ) (w : Reach) (st : Step) (sts : List Step) (o : ℕ) (newest : List ℕ) (done : List Shift) (f t floor : ℕ) (behind : Coord)
-    → IsStored first → IsStored newest → Stands st.text newest w f t → LeadBack first (st ∷ sts) → IsQueue Falling behind (shifts_of (st ∷ sts))
+falling-on : (first : List ℕ) (all : List Shift) (lower : ℕ) (w : ShiftReach) (st : Step) (sts : List Step) (o : ℕ) (newest : List ℕ) (done : List Shift) (f t floor : ℕ) (behind : Coord)
+    → IsStored first → IsStored newest → ReachStands st.text newest w f t → LeadBack first (st ∷ sts) → IsQueue Falling behind (shifts_of (st ∷ sts))
     → behind ≡ coord_at st.text floor → floor ≤ length st.text
     → ((p : ℕ) → floor ≤ p → p < length st.text → goes w (coord_at st.text p) ≡ all_mapped done (coord_at st.text p))
     → ((at : Coord) → all_mapped all at ≡ all_mapped done (mapped_back (shifts_of (st ∷ sts)) at))
@@ -118,7 +118,7 @@ falling-on first all lower w st sts o newest done f t floor behind h k s l q b b
     before : IsStored (text_behind first sts)
     before = stored-behind first sts h l.1
 
-    step : IsStep (text_behind first sts) st.text st.shift st.move
+    step : IsShiftStep (text_behind first sts) st.text st.shift st.move
     step = step-of (text_behind first sts) st before l.0
 
     way : IsWayOf (text_behind first sts) st.text st.shift st.move
@@ -146,10 +146,10 @@ falling-on first all lower w st sts o newest done f t floor behind h k s l q b b
         ∙ right (shifted st.move p) high inside
         ∙ ap (all_mapped done) (sym at)
 
-pub falling-step : (first : List ℕ) (all : List Shift) (lower : ℕ) (w : Reach) (s : Shift) (ss : List Shift) (o : ℕ) → IsStored first → IsFalling first all lower w (s ∷ ss) → is_at_most s.begin (coord_at first o) ≡ true → IsFalling first all o (then_on (reach_of s) w) ss
+pub falling-step : (first : List ℕ) (all : List Shift) (lower : ℕ) (w : ShiftReach) (s : Shift) (ss : List Shift) (o : ℕ) → IsStored first → IsFalling first all lower w (s ∷ ss) → is_at_most s.begin (coord_at first o) ≡ true → IsFalling first all o (then_on (reach_of s) w) ss
 falling-step first all lower w s ss o h r e = by_steps r.steps r.stands r.leads r.rest_is r.behind_is r.floor_in r.right
   where
-    by_steps : (steps : List Step) → Stands (text_behind first steps) r.newest w r.f r.t → LeadBack first steps → s ∷ ss ≡ shifts_of steps → r.behind ≡ coord_at (text_behind first steps) r.floor → r.floor ≤ length (text_behind first steps)
+    by_steps : (steps : List Step) → ReachStands (text_behind first steps) r.newest w r.f r.t → LeadBack first steps → s ∷ ss ≡ shifts_of steps → r.behind ≡ coord_at (text_behind first steps) r.floor → r.floor ≤ length (text_behind first steps)
         → ((p : ℕ) → r.floor ≤ p → p < length (text_behind first steps) → goes w (coord_at (text_behind first steps) p) ≡ all_mapped r.done (coord_at (text_behind first steps) p))
         → IsFalling first all o (then_on (reach_of s) w) ss
     by_steps [] v l k b i right = absurd (nothing k)
@@ -165,7 +165,7 @@ falling-step first all lower w s ss o h r e = by_steps r.steps r.stands r.leads 
         falling-on first all lower w st sts o r.newest r.done r.f r.t r.floor r.behind h r.stored v l q b i right (subst P k r.whole) (ap (λ (x : Shift). is_at_most x.begin (coord_at first o)) (sym head) ∙ e) in
         subst (λ x. IsFalling first all o (then_on (reach_of x) w) ss) (sym head) (subst (λ l'. IsFalling first all o (then_on (reach_of st.shift) w) l') (sym tail) next)
 
-pub falling-later : (first : List ℕ) (all : List Shift) (lower o : ℕ) (w : Reach) (rest : List Shift) → IsStored first → IsFalling first all lower w rest → lower ≤ o → o < length first → IsFalling first all o w rest
+pub falling-later : (first : List ℕ) (all : List Shift) (lower o : ℕ) (w : ShiftReach) (rest : List Shift) → IsStored first → IsFalling first all lower w rest → lower ≤ o → o < length first → IsFalling first all o w rest
 falling-later first all lower o w rest h r le below = record {
   newest = r.newest;
   steps = r.steps;

@@ -3,7 +3,7 @@ use Rattle.std.proofs.Common.{◌≡◌, ℕ, ◌≤◌, min, List, [], ◌∷�
 use Rattle.text_model.specs.Coords.{is_at_most}
 use Rattle.text_model.specs.Texts.{IsStored, coord_at}
 use Rattle.text_model.proofs.PlaceLemmas.{leb_true}
-use Rattle.selection_map.specs.declared.walking.Way.TheVariants.{Rising, Falling}
+use Rattle.selection_map.specs.declared.walking.ShiftWay.TheVariants.{Rising, Falling}
 use Rattle.selection_map.specs.Rebasing.{earlier}
 use Rattle.selection_map.specs.Walking.{IsRun}
 use Rattle.selection_map.specs.Catching.{Step, Lead, shifts_of, moves_of}

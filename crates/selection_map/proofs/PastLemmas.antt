@@ -8,8 +8,8 @@ use Rattle.text_model.specs.Texts.{IsStored, IsPlace, offset}
 use Rattle.text_model.proofs.PlaceLemmas.{offset-below, coord_at-offset, leb_true}
 use Rattle.selection_set.specs.declared.sel.Sel.{Sel}
 use Rattle.selection_set.specs.Inside.{IsInside}
-use Rattle.selection_map.specs.declared.walking.Way.TheVariants.{Rising}
-use Rattle.selection_map.specs.Carrying.{IsStep, AreSmall}
+use Rattle.selection_map.specs.declared.walking.ShiftWay.TheVariants.{Rising}
+use Rattle.selection_map.specs.Carrying.{IsShiftStep, AreSmall}
 use Rattle.selection_map.specs.Rebasing.{mapped_sel}
 use Rattle.selection_map.specs.Reaching.{all_mapped, through}
 use Rattle.selection_map.specs.Walking.{IsRun}
@@ -74,7 +74,7 @@ past-on s ss x c = by_steps c.steps c.leads c.shifts_are
     by_steps (st ∷ sts) l k =
         let head : st.shift ≡ s = cc in
         let tail : ss ≡ shifts_of sts = cc in
-        let step : IsStep c.text st.text s st.move = subst (λ (t : Shift). IsStep c.text st.text t st.move) head (step-of c.text st c.stored l.0) in
+        let step : IsShiftStep c.text st.text s st.move = subst (λ (t : Shift). IsShiftStep c.text st.text t st.move) head (step-of c.text st c.stored l.0) in
         record {
           small = both-small c.text st.text x s st.move c.stored l.0.stored step.shift_is c.inside;
           next = record {

@@ -4,19 +4,19 @@ use Rattle.text_model.specs.declared.coords.Coord.{Coord}
 use Rattle.text_model.specs.declared.coords.Shift.{Shift}
 use Rattle.text_model.specs.Coords.{origin, is_at_most}
 use Rattle.text_model.specs.Texts.{IsStored, coord_at}
-use Rattle.selection_map.specs.declared.reach.Reach.{Reach}
-use Rattle.selection_map.specs.declared.walking.Way.TheVariants.{Rising}
-use Rattle.selection_map.specs.Carrying.{IsStep}
+use Rattle.selection_map.specs.declared.reach.ShiftReach.{ShiftReach}
+use Rattle.selection_map.specs.declared.walking.ShiftWay.TheVariants.{Rising}
+use Rattle.selection_map.specs.Carrying.{IsShiftStep}
 use Rattle.selection_map.specs.Rebasing.{mapped}
 use Rattle.selection_map.specs.Reaching.{goes, at_rest, reach_of, then_on, all_mapped}
 use Rattle.selection_map.specs.Catching.{Step, LeadsOn, Lead, shifts_of}
-use Rattle.selection_map.specs.Premises.{Stands, spot, IsQueue, IsRising}
+use Rattle.selection_map.specs.Premises.{ReachStands, spot, IsQueue, IsRising}
 use Rattle.selection_map.proofs.OrderLemmas.{not_at_most-behind}
 use Rattle.selection_map.proofs.TieLemmas.{goes-spot, then-stands, goes-then, rest-stands, rest-goes}
 use Rattle.selection_map.proofs.ShiftLemmas.{IsWayOf, shift-way, mapped-way, Stays, stays-before, begins-by}
 
 -- a step from a text that can be kept
-pub step-of : (old : List ℕ) (st : Step) → IsStored old → LeadsOn old st → IsStep old st.text st.shift st.move
+pub step-of : (old : List ℕ) (st : Step) → IsStored old → LeadsOn old st → IsShiftStep old st.text st.shift st.move
 step-of old st h l = record { old_text = h.is_text; new_text = l.stored.is_text; shift_is = l.shift_is }
 
 -- a place before the begins of all shifts stays
@@ -30,7 +30,7 @@ stays-ahead text (st ∷ sts) at o h l q below e =
     ∙ s.same
 
 -- where it has gone, a place that isn't due for the next shift stays
-pub rising-stop : (first : List ℕ) (all : List Shift) (lower : ℕ) (w : Reach) (s : Shift) (ss : List Shift) (o : ℕ) → IsStored first → IsRising first all lower w (s ∷ ss) → lower ≤ o → o < length first → is_at_most s.begin (goes w (coord_at first o)) ≡ false
+pub rising-stop : (first : List ℕ) (all : List Shift) (lower : ℕ) (w : ShiftReach) (s : Shift) (ss : List Shift) (o : ℕ) → IsStored first → IsRising first all lower w (s ∷ ss) → lower ≤ o → o < length first → is_at_most s.begin (goes w (coord_at first o)) ≡ false
     → goes w (coord_at first o) ≡ all_mapped all (coord_at first o)
 rising-stop first all lower w s ss o h r le below e =
     sym (by_steps r.steps r.leads r.rest_is) ∙ r.right o le below
@@ -55,8 +55,8 @@ rising-stop first all lower w s ss o h r le below e =
         ∙ sym at
 
 -- a shift that is due is passed
-rising-on : (first : List ℕ) (all : List Shift) (lower : ℕ) (w : Reach) (st : Step) (sts : List Step) (o : ℕ) (text : List ℕ) (f t : ℕ) (behind : Coord)
-    → IsStored first → IsStored text → Stands first text w f t → Lead text (st ∷ sts) → IsQueue Rising behind (shifts_of (st ∷ sts))
+rising-on : (first : List ℕ) (all : List Shift) (lower : ℕ) (w : ShiftReach) (st : Step) (sts : List Step) (o : ℕ) (text : List ℕ) (f t : ℕ) (behind : Coord)
+    → IsStored first → IsStored text → ReachStands first text w f t → Lead text (st ∷ sts) → IsQueue Rising behind (shifts_of (st ∷ sts))
     → ((p : ℕ) → lower ≤ p → p < length first → all_mapped (shifts_of (st ∷ sts)) (goes w (coord_at first p)) ≡ all_mapped all (coord_at first p))
     → lower ≤ o → o < length first → is_at_most st.shift.begin (goes w (coord_at first o)) ≡ true
     → IsRising first all o (then_on w (reach_of st.shift)) (shifts_of sts)
@@ -74,7 +74,7 @@ rising-on first all lower w st sts o text f t behind h k s l q right le below e 
   right = λ p up in_first. ap (all_mapped (shifts_of sts)) (onward p up in_first) ∙ right p (omega arith) in_first;
 }
   where
-    step : IsStep text st.text st.shift st.move
+    step : IsShiftStep text st.text st.shift st.move
     step = step-of text st k l.0
 
     way : IsWayOf text st.text st.shift st.move
@@ -91,7 +91,7 @@ rising-on first all lower w st sts o text f t behind h k s l q right le below e 
         ∙ sym (mapped-way text st.text st.shift st.move (spot text f t p) step (omega (arith, begins)) (omega (arith, k.is_text.some)))
         ∙ ap (mapped st.shift) (sym at)
 
-pub rising-step : (first : List ℕ) (all : List Shift) (lower : ℕ) (w : Reach) (s : Shift) (ss : List Shift) (o : ℕ) → IsStored first → IsRising first all lower w (s ∷ ss) → lower ≤ o → o < length first → is_at_most s.begin (goes w (coord_at first o)) ≡ true
+pub rising-step : (first : List ℕ) (all : List Shift) (lower : ℕ) (w : ShiftReach) (s : Shift) (ss : List Shift) (o : ℕ) → IsStored first → IsRising first all lower w (s ∷ ss) → lower ≤ o → o < length first → is_at_most s.begin (goes w (coord_at first o)) ≡ true
     → IsRising first all o (then_on w (reach_of s)) ss
 rising-step first all lower w s ss o h r le below e = by_steps r.steps r.leads r.rest_is
   where
@@ -109,10 +109,10 @@ rising-step first all lower w s ss o h r le below e = by_steps r.steps r.leads r
         rising-on first all lower w st sts o r.text r.f r.t r.behind h r.stored r.stands l q (subst P k r.right) le below (ap (λ (x : Shift). is_at_most x.begin (goes w (coord_at first o))) (sym head) ∙ e) in
         subst (λ x. IsRising first all o (then_on w (reach_of x)) ss) (sym head) (subst (λ l'. IsRising first all o (then_on w (reach_of st.shift)) l') (sym tail) next)
 
-pub rising-none : (first : List ℕ) (all : List Shift) (lower : ℕ) (w : Reach) (o : ℕ) → IsRising first all lower w [] → lower ≤ o → o < length first → goes w (coord_at first o) ≡ all_mapped all (coord_at first o)
+pub rising-none : (first : List ℕ) (all : List Shift) (lower : ℕ) (w : ShiftReach) (o : ℕ) → IsRising first all lower w [] → lower ≤ o → o < length first → goes w (coord_at first o) ≡ all_mapped all (coord_at first o)
 rising-none first all lower w o r le below = r.right o le below
 
-pub rising-later : (first : List ℕ) (all : List Shift) (lower o : ℕ) (w : Reach) (rest : List Shift) → IsRising first all lower w rest → lower ≤ o → IsRising first all o w rest
+pub rising-later : (first : List ℕ) (all : List Shift) (lower o : ℕ) (w : ShiftReach) (rest : List Shift) → IsRising first all lower w rest → lower ≤ o → IsRising first all o w rest
 rising-later first all lower o w rest r le = record {
   text = r.text;
   steps = r.steps;

@@ -4,13 +4,13 @@ use Rattle.text_model.specs.declared.coords.Coord.{Coord}
 use Rattle.text_model.specs.declared.coords.Shift.{Shift}
 use Rattle.text_model.specs.Coords.{origin}
 use Rattle.text_model.specs.Texts.{IsStored}
-use Rattle.selection_map.specs.declared.walking.Way.{Way}
-use Rattle.selection_map.specs.declared.walking.Way.TheVariants.{Rising, Falling}
+use Rattle.selection_map.specs.declared.walking.ShiftWay.{ShiftWay}
+use Rattle.selection_map.specs.declared.walking.ShiftWay.TheVariants.{Rising, Falling}
 use Rattle.selection_map.specs.Rebasing.{earlier}
 use Rattle.selection_map.specs.Reaching.{at_rest, all_mapped}
 use Rattle.selection_map.specs.Walking.{queue, follows, IsRun}
 use Rattle.selection_map.specs.Catching.{Step, Lead, shifts_of}
-use Rattle.selection_map.specs.Premises.{IsQueue, text_behind, LeadBack, mapped_back, IsReady}
+use Rattle.selection_map.specs.Premises.{IsQueue, text_behind, LeadBack, mapped_back, IsWalkReady}
 use Rattle.selection_map.proofs.OrderLemmas.{origin-first, not-both}
 use Rattle.selection_map.proofs.TieLemmas.{ways}
 use Rattle.selection_map.proofs.RisingLemmas.{rising-first}
@@ -18,7 +18,7 @@ use Rattle.selection_map.proofs.FallingLemmas.{falling-first}
 use mathlib.Core.List.{reverse_aux}
 
 -- one more shift that may follow the last one
-pub run-more : (way : Way) (n : ℕ) (shifts : List Shift) (d : Shift) → 1 ≤ n → n < length shifts → IsRun way (take n shifts) → follows way (get_or shifts (n - 1) d) (get_or shifts n d) ≡ true → IsRun way (take (n + 1) shifts)
+pub run-more : (way : ShiftWay) (n : ℕ) (shifts : List Shift) (d : Shift) → 1 ≤ n → n < length shifts → IsRun way (take n shifts) → follows way (get_or shifts (n - 1) d) (get_or shifts n d) ≡ true → IsRun way (take (n + 1) shifts)
 run-more way zero shifts d some below r e = absurd (omega arith)
 run-more way (suc n) [] d some below r e = absurd (omega arith)
 run-more way (suc zero) (s ∷ []) d some below r e = absurd (omega arith)
@@ -41,7 +41,7 @@ run-more way (suc (suc n)) (s ∷ t ∷ ts) d some below r e =
         ∙ e
 
 -- each shift of a run may follow the one before it
-run-at : (way : Way) (shifts : List Shift) (n : ℕ) (d : Shift) → IsRun way shifts → 1 ≤ n → n < length shifts → follows way (get_or shifts (n - 1) d) (get_or shifts n d) ≡ true
+run-at : (way : ShiftWay) (shifts : List Shift) (n : ℕ) (d : Shift) → IsRun way shifts → 1 ≤ n → n < length shifts → follows way (get_or shifts (n - 1) d) (get_or shifts n d) ≡ true
 run-at way [] n d r some below = absurd (omega arith)
 run-at way (s ∷ []) n d r some below = absurd (omega arith)
 run-at way (s ∷ t ∷ ts) zero d r some below = absurd (omega arith)
@@ -54,7 +54,7 @@ run-at way (s ∷ t ∷ ts) (suc (suc n)) d r some below =
     ∙ run-at way (t ∷ ts) (suc n) d r.1 (omega arith) (omega arith)
 
 -- where all shifts are a run, the longest run of the first ones is all of them
-pub whole-run : (way : Way) (shifts : List Shift) (n : ℕ) (d : Shift) → IsRun way shifts → 0 < n → n ≤ length shifts → (n < length shifts → (e : Shift) → follows way (get_or shifts (n - 1) e) (get_or shifts n e) ≡ false) → n ≡ length shifts
+pub whole-run : (way : ShiftWay) (shifts : List Shift) (n : ℕ) (d : Shift) → IsRun way shifts → 0 < n → n ≤ length shifts → (n < length shifts → (e : Shift) → follows way (get_or shifts (n - 1) e) (get_or shifts n e) ≡ false) → n ≡ length shifts
 whole-run way shifts n d r some few longest =
     elim (ways n (length shifts)) [
       | inl lt ↦ absurd (not-both (follows way (get_or shifts (n - 1) d) (get_or shifts n d)) (run-at way shifts n d r (omega arith) lt) (longest lt d))
@@ -62,7 +62,7 @@ whole-run way shifts n d r some few longest =
     ]
 
 -- the longest run of the first shifts, either way
-pub record IsLongest (way : Way) (shifts : List Shift) (n : ℕ) : Type 0 where
+pub record IsLongest (way : ShiftWay) (shifts : List Shift) (n : ℕ) : Type 0 where
   pub some : 0 < n
   pub few : n ≤ length shifts
   pub longest : n < length shifts → (e : Shift) → follows way (get_or shifts (n - 1) e) (get_or shifts n e) ≡ false
@@ -71,12 +71,12 @@ pub zero_shift : Shift
 zero_shift = record { insert = false; begin = origin; «end» = origin; last = origin }
 
 -- the longer of two such runs is all shifts, where these are a run
-pub longer-whole : (way : Way) (shifts : List Shift) (rising falling n : ℕ) → IsLongest Rising shifts rising → IsLongest Falling shifts falling → rising ≤ n → falling ≤ n → n ≤ length shifts → IsRun way shifts → n ≡ length shifts
+pub longer-whole : (way : ShiftWay) (shifts : List Shift) (rising falling n : ℕ) → IsLongest Rising shifts rising → IsLongest Falling shifts falling → rising ≤ n → falling ≤ n → n ≤ length shifts → IsRun way shifts → n ≡ length shifts
 longer-whole Rising shifts rising falling n a b h k few r = omega (arith, whole-run Rising shifts rising zero_shift r a.some a.few a.longest)
 longer-whole Falling shifts rising falling n a b h k few r = omega (arith, whole-run Falling shifts falling zero_shift r b.some b.few b.longest)
 
 -- one shift is a run
-pub run-one : (way : Way) (shifts : List Shift) → IsRun way (take 1 shifts)
+pub run-one : (way : ShiftWay) (shifts : List Shift) → IsRun way (take 1 shifts)
 run-one way [] = tt
 run-one way (s ∷ ss) = tt
 
@@ -109,7 +109,7 @@ mapped-onto [] acc at = refl
 mapped-onto (s ∷ ss) acc at = mapped-onto ss (s ∷ acc) at
 
 -- a walk that has passed no shift yet
-pub ready-first : (way : Way) (old : List ℕ) (steps : List Step) (shifts : List Shift) → IsStored old → Lead old steps → shifts ≡ shifts_of steps → IsRun way shifts → IsReady way old shifts 0 at_rest (queue way shifts)
+pub ready-first : (way : ShiftWay) (old : List ℕ) (steps : List Step) (shifts : List Shift) → IsStored old → Lead old steps → shifts ≡ shifts_of steps → IsRun way shifts → IsWalkReady way old shifts 0 at_rest (queue way shifts)
 ready-first Rising old steps shifts h l e r = rising-first old steps shifts h l e (rising-queue shifts r)
 ready-first Falling old steps shifts h l e r =
     falling-first old (reverse steps) shifts (reverse shifts) h (lead-onto old steps [] l tt) (ap reverse e ∙ sym (shifts-onto steps [])) (falling-queue shifts r) (λ at. sym (mapped-onto shifts [] at))

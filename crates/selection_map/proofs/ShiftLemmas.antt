@@ -8,11 +8,11 @@ use Rattle.text_model.specs.Changes.{Move, IsCut, IsChange, IsShift, holder}
 use Rattle.text_model.specs.Mapping.{moved, shifted, past_erasure}
 use Rattle.text_model.proofs.PlaceLemmas.{offset-coord_at, coord_at-offset, IsPlace-coord_at}
 use Rattle.text_model.proofs.MappingLemmas.{past_insertion-before, past_insertion-behind, past_erasure-before, past_erasure-inside, past_erasure-behind, moved-insertion, moved-erasure}
-use Rattle.selection_map.specs.declared.reach.Reach.{Reach}
-use Rattle.selection_map.specs.Carrying.{IsStep, Carries}
+use Rattle.selection_map.specs.declared.reach.ShiftReach.{ShiftReach}
+use Rattle.selection_map.specs.Carrying.{IsShiftStep, Carries}
 use Rattle.selection_map.specs.Rebasing.{earlier, mapped}
 use Rattle.selection_map.specs.Reaching.{goes, reach_of}
-use Rattle.selection_map.specs.Premises.{Stands, spot}
+use Rattle.selection_map.specs.Premises.{ReachStands, spot}
 use Rattle.selection_map.proofs.CarryLemmas.{cut-before, drop-short, length-short, order-coords, earlier-min, carries-mapped}
 use Rattle.selection_map.proofs.OrderLemmas.{leb-false}
 use Rattle.selection_map.proofs.TieLemmas.{ways, goes-spot}
@@ -21,7 +21,7 @@ use Rattle.selection_map.proofs.TieLemmas.{ways, goes-spot}
 pub record IsWayOf (old new : List ℕ) (s : Shift) (m : Move) : Type 0 where
   pub f : ℕ
   pub t : ℕ
-  pub stands : Stands old new (reach_of s) f t
+  pub stands : ReachStands old new (reach_of s) f t
   pub begin_old : s.begin ≡ coord_at old m.begin
   pub begin_new : s.begin ≡ coord_at new m.begin
   pub in_old : m.begin ≤ length old
@@ -33,14 +33,14 @@ pub record IsWayOf (old new : List ℕ) (s : Shift) (m : Move) : Type 0 where
 
 way-inserted : (s : Shift) → s.insert ≡ true → reach_of s ≡ record { from = s.begin; onto = s.end; put = earlier s.end s.last }
 way-inserted s e =
-    let a : Reach = record { from = s.begin; onto = s.end; put = earlier s.end s.last } in
-    let b : Reach = record { from = s.end; onto = s.begin; put = earlier s.begin s.last } in
+    let a : ShiftReach = record { from = s.begin; onto = s.end; put = earlier s.end s.last } in
+    let b : ShiftReach = record { from = s.end; onto = s.begin; put = earlier s.begin s.last } in
     ap (λ v. cond v a b) e
 
 way-erased : (s : Shift) → s.insert ≡ false → reach_of s ≡ record { from = s.end; onto = s.begin; put = earlier s.begin s.last }
 way-erased s e =
-    let a : Reach = record { from = s.begin; onto = s.end; put = earlier s.end s.last } in
-    let b : Reach = record { from = s.end; onto = s.begin; put = earlier s.begin s.last } in
+    let a : ShiftReach = record { from = s.begin; onto = s.end; put = earlier s.end s.last } in
+    let b : ShiftReach = record { from = s.end; onto = s.begin; put = earlier s.begin s.last } in
     ap (λ v. cond v a b) e
 
 -- where a way is put, by the coordinates of its end and of the last place
@@ -61,9 +61,9 @@ insertion-way old new s m h c e g =
       t = m.end;
       stands = record {
         tied = record { from_in = in_old; onto_in = c.within; same = drop-short new old m.begin m.end c };
-        from_is = ap (λ (w : Reach). w.from) way ∙ at_begin ∙ sym before;
-        onto_is = ap (λ (w : Reach). w.onto) way ∙ at_end;
-        put_is = ap (λ (w : Reach). w.put) way ∙ put-at new s.end s.last m.end m.last h at_end g.last_is g.last_offset c.within;
+        from_is = ap (λ (w : ShiftReach). w.from) way ∙ at_begin ∙ sym before;
+        onto_is = ap (λ (w : ShiftReach). w.onto) way ∙ at_end;
+        put_is = ap (λ (w : ShiftReach). w.put) way ∙ put-at new s.end s.last m.end m.last h at_end g.last_is g.last_offset c.within;
       };
       begin_old = at_begin ∙ sym before;
       begin_new = at_begin;
@@ -88,9 +88,9 @@ erasure-way old new s m h c e g =
       t = m.begin;
       stands = record {
         tied = record { from_in = c.within; onto_in = in_new; same = sym (drop-short old new m.begin m.end c) };
-        from_is = ap (λ (w : Reach). w.from) way ∙ at_end;
-        onto_is = ap (λ (w : Reach). w.onto) way ∙ at_begin ∙ sym before;
-        put_is = ap (λ (w : Reach). w.put) way ∙ put-at new s.begin s.last m.begin m.last h (at_begin ∙ sym before) g.last_is g.last_offset in_new;
+        from_is = ap (λ (w : ShiftReach). w.from) way ∙ at_end;
+        onto_is = ap (λ (w : ShiftReach). w.onto) way ∙ at_begin ∙ sym before;
+        put_is = ap (λ (w : ShiftReach). w.put) way ∙ put-at new s.begin s.last m.begin m.last h (at_begin ∙ sym before) g.last_is g.last_offset in_new;
       };
       begin_old = at_begin;
       begin_new = at_begin ∙ sym before;
@@ -110,17 +110,17 @@ way-by : (insert : Bool) (old new : List ℕ) (s : Shift) (m : Move) → m.inser
 way-by true old new s m e h c g = insertion-way old new s m h c e g
 way-by false old new s m e h c g = erasure-way old new s m h c e g
 
-pub shift-way : (old new : List ℕ) (s : Shift) (m : Move) → IsStep old new s m → IsWayOf old new s m
+pub shift-way : (old new : List ℕ) (s : Shift) (m : Move) → IsShiftStep old new s m → IsWayOf old new s m
 shift-way old new s m h = way-by m.insert old new s m refl h.new_text h.shift_is.change h.shift_is
 
 -- the coordinate of an offset goes to that of the shifted one
-pub mapped-at : (old new : List ℕ) (s : Shift) (m : Move) (o : ℕ) → IsStep old new s m → o < length old → mapped s (coord_at old o) ≡ coord_at new (shifted m o)
+pub mapped-at : (old new : List ℕ) (s : Shift) (m : Move) (o : ℕ) → IsShiftStep old new s m → o < length old → mapped s (coord_at old o) ≡ coord_at new (shifted m o)
 mapped-at old new s m o h below =
     let c : Carries old new m (coord_at old o) (mapped s (coord_at old o)) = carries-mapped old new s m (coord_at old o) h (IsPlace-coord_at old o below) in
     sym (coord_at-offset new (mapped s (coord_at old o)) c.is_place) ∙ ap (coord_at new) (c.goes ∙ ap (shifted m) (offset-coord_at old o (omega arith)))
 
 -- behind its begin, a shift maps coordinates as its way does
-pub mapped-way : (old new : List ℕ) (s : Shift) (m : Move) (o : ℕ) → IsStep old new s m → m.begin ≤ o → o < length old → mapped s (coord_at old o) ≡ goes (reach_of s) (coord_at old o)
+pub mapped-way : (old new : List ℕ) (s : Shift) (m : Move) (o : ℕ) → IsShiftStep old new s m → m.begin ≤ o → o < length old → mapped s (coord_at old o) ≡ goes (reach_of s) (coord_at old o)
 mapped-way old new s m o h le below =
     let w : IsWayOf old new s m = shift-way old new s m h in
     let number : shifted m o ≡ spot new w.f w.t o = ap (λ n. min n m.last) (w.goes_on o le) ∙ ap (min (w.t + (o - w.f))) h.shift_is.last_offset in
@@ -132,7 +132,7 @@ pub record Stays (old new : List ℕ) (s : Shift) (o : ℕ) : Type 0 where
   pub inside : o < length new
   pub kept : mapped s (coord_at old o) ≡ coord_at old o
 
-pub stays-before : (old new : List ℕ) (s : Shift) (m : Move) (o : ℕ) → IsStep old new s m → o < length old → is_at_most s.begin (coord_at old o) ≡ false → Stays old new s o
+pub stays-before : (old new : List ℕ) (s : Shift) (m : Move) (o : ℕ) → IsShiftStep old new s m → o < length old → is_at_most s.begin (coord_at old o) ≡ false → Stays old new s o
 stays-before old new s m o h below e =
     let w : IsWayOf old new s m = shift-way old new s m h in
     let before : o < m.begin = leb-false m.begin o (sym (order-coords old m.begin o h.old_text w.in_old (omega arith)) ∙ ap (λ x. is_at_most x (coord_at old o)) (sym w.begin_old) ∙ e) in
@@ -141,7 +141,7 @@ stays-before old new s m o h below e =
     record { same = same; inside = omega (arith, w.in_new); kept = mapped-at old new s m o h below ∙ ap (coord_at new) number ∙ same }
 
 -- where a shift begins, by the order of offsets
-pub begins-by : (old new : List ℕ) (s : Shift) (m : Move) (o : ℕ) → IsStep old new s m → o < length old → is_at_most s.begin (coord_at old o) ≡ true → m.begin ≤ o
+pub begins-by : (old new : List ℕ) (s : Shift) (m : Move) (o : ℕ) → IsShiftStep old new s m → o < length old → is_at_most s.begin (coord_at old o) ≡ true → m.begin ≤ o
 begins-by old new s m o h below e =
     let w : IsWayOf old new s m = shift-way old new s m h in
     leb-true m.begin o (sym (order-coords old m.begin o h.old_text w.in_old (omega arith)) ∙ ap (λ x. is_at_most x (coord_at old o)) (sym w.begin_old) ∙ e)

@@ -5,10 +5,10 @@ use Rattle.text_model.specs.declared.coords.Coord.{Coord}
 use Rattle.text_model.specs.Coords.{origin, reached, is_at_most}
 use Rattle.text_model.specs.Texts.{IsText, coord_at, last_place}
 use Rattle.text_model.proofs.PlaceLemmas.{leb_true, leb_false}
-use Rattle.selection_map.specs.declared.reach.Reach.{Reach}
+use Rattle.selection_map.specs.declared.reach.ShiftReach.{ShiftReach}
 use Rattle.selection_map.specs.Rebasing.{rebased}
 use Rattle.selection_map.specs.Reaching.{goes, at_rest, then_on}
-use Rattle.selection_map.specs.Premises.{IsTied, Stands, spot}
+use Rattle.selection_map.specs.Premises.{IsTied, ReachStands, spot}
 use Rattle.selection_map.proofs.CarryLemmas.{rebased-further, far-behind, order-coords}
 
 pub ways : (a b : ℕ) → (a < b) ⊎ (b ≤ a)
@@ -54,14 +54,14 @@ tied-then a b c f t g u h k = record {
       ∙ drop-drop (t - g) u c);
 }
 
-goes-put : (w : Reach) (at : Coord) → is_at_most at w.from ≡ true → goes w at ≡ w.put
+goes-put : (w : ShiftReach) (at : Coord) → is_at_most at w.from ≡ true → goes w at ≡ w.put
 goes-put w at e = ap (λ v. cond v w.put (rebased at w.from w.onto)) e
 
-goes-behind : (w : Reach) (at : Coord) → is_at_most at w.from ≡ false → goes w at ≡ rebased at w.from w.onto
+goes-behind : (w : ShiftReach) (at : Coord) → is_at_most at w.from ≡ false → goes w at ≡ rebased at w.from w.onto
 goes-behind w at e = ap (λ v. cond v w.put (rebased at w.from w.onto)) e
 
 -- a way leads a place to the place of its offset
-pub goes-spot : (old new : List ℕ) (w : Reach) (f t o : ℕ) → IsText old → Stands old new w f t → o < length old → goes w (coord_at old o) ≡ coord_at new (spot new f t o)
+pub goes-spot : (old new : List ℕ) (w : ShiftReach) (f t o : ℕ) → IsText old → ReachStands old new w f t → o < length old → goes w (coord_at old o) ≡ coord_at new (spot new f t o)
 goes-spot old new w f t o h s below = elim (ways f o) [ inl lt ↦ behind lt | inr le ↦ up_to le ]
   where
     test : is_at_most (coord_at old o) w.from ≡ leb o f
@@ -82,7 +82,7 @@ pub cut-late : (n m f t x : ℕ) → n + t ≡ m + f → f ≤ n → x ≤ n →
 cut-late n m f t x e h k s = omega arith
 
 -- one way and then another is a way
-pub then-stands : (a b c : List ℕ) (v w : Reach) (f t g u : ℕ) → IsText b → Stands a b v f t → Stands b c w g u → Stands a c (then_on v w) (f + (g - t)) (u + (t - g))
+pub then-stands : (a b c : List ℕ) (v w : ShiftReach) (f t g u : ℕ) → IsText b → ReachStands a b v f t → ReachStands b c w g u → ReachStands a c (then_on v w) (f + (g - t)) (u + (t - g))
 then-stands a b c v w f t g u h s r = record {
   tied = tied-then a b c f t g u s.tied r.tied;
   from_is = elim (ways t g) [ inl lt ↦ from_behind lt | inr le ↦ from_before le ];
@@ -116,7 +116,7 @@ then-stands a b c v w f t g u h s r = record {
         ∙ ap (coord_at c) (cut-late (length b) (length c) g u t (tied-lengths b c g u r.tied) r.tied.from_in s.tied.onto_in h.some)
 
 -- and leads each place where the two lead it
-pub goes-then : (a b c : List ℕ) (v w : Reach) (f t g u o : ℕ) → IsText a → IsText b → Stands a b v f t → Stands b c w g u → o < length a → goes (then_on v w) (coord_at a o) ≡ goes w (goes v (coord_at a o))
+pub goes-then : (a b c : List ℕ) (v w : ShiftReach) (f t g u o : ℕ) → IsText a → IsText b → ReachStands a b v f t → ReachStands b c w g u → o < length a → goes (then_on v w) (coord_at a o) ≡ goes w (goes v (coord_at a o))
 goes-then a b c v w f t g u o h k s r below =
     let sum : u + ((t + (o - f)) - g) ≡ (u + (t - g)) + (o - (f + (g - t))) = omega arith in
     let within : t + (o - f) ≤ length b = omega (arith, tied-lengths a b f t s.tied, s.tied.onto_in) in
@@ -127,7 +127,7 @@ goes-then a b c v w f t g u o h k s r below =
     ∙ ap (coord_at c) (cut-late (length b) (length c) g u (t + (o - f)) (tied-lengths b c g u r.tied) r.tied.from_in within k.some ∙ ap (λ n. min n (last_place c)) sum))
 
 -- no way leads from a text to itself
-pub rest-stands : (text : List ℕ) → Stands text text at_rest 0 0
+pub rest-stands : (text : List ℕ) → ReachStands text text at_rest 0 0
 rest-stands text = record {
   tied = record { from_in = omega arith; onto_in = omega arith; same = refl };
   from_is = refl;

@@ -5,8 +5,8 @@ use Rattle.text_model.specs.Coords.{is_at_most}
 use Rattle.text_model.specs.Texts.{IsStored, offset}
 use Rattle.selection_set.specs.declared.sel.Sel.{Sel}
 use Rattle.selection_set.specs.Inside.{IsInside}
-use Rattle.selection_map.specs.declared.reach.Reach.{Reach}
-use Rattle.selection_map.specs.declared.walking.Way.TheVariants.{Rising, Falling}
+use Rattle.selection_map.specs.declared.reach.ShiftReach.{ShiftReach}
+use Rattle.selection_map.specs.declared.walking.ShiftWay.TheVariants.{Rising, Falling}
 use Rattle.selection_map.specs.Rebasing.{mapped_sel}
 use Rattle.selection_map.specs.Reaching.{goes, through}
 use Rattle.selection_map.specs.Walking.{IsRun}
@@ -39,7 +39,7 @@ each_through_rest (s ∷ ss) [] = []
 each_through_rest (s ∷ ss) (x ∷ xs) = through ss x ∷ each_through_rest ss xs
 
 -- where both ends of a selection go
-abbrev pub both_go : Reach → Sel → Sel
+abbrev pub both_go : ShiftReach → Sel → Sel
 both_go w sel = record { low = goes w sel.low; high = goes w sel.high; turned = sel.turned; target = sel.target }
 
 -- a selection lies in the text behind a step, and not before the place where that began

@@ -17,7 +17,7 @@ pub record IsSmall (at : Coord) : Type 0 where
   pub columns : at.column ≤ MAX_CHARS
 
 -- a change of a text, from the old one to the new one
-pub record IsStep (old new : List ℕ) (shift : Shift) (m : Move) : Type 0 where
+pub record IsShiftStep (old new : List ℕ) (shift : Shift) (m : Move) : Type 0 where
   pub old_text : IsText old
   pub new_text : IsText new
   pub shift_is : IsShift old new shift m

@@ -7,7 +7,7 @@ use Rattle.list_model.specs.Ranges.{only}
 use Rattle.selection_set.specs.declared.sel.Sel.{Sel}
 use Rattle.selection_set.specs.Listing.{Listed}
 use Rattle.selection_set.specs.Sweeping.{swept_listed}
-use Rattle.selection_map.specs.declared.walking.Way.TheVariants.{Rising, Falling}
+use Rattle.selection_map.specs.declared.walking.ShiftWay.TheVariants.{Rising, Falling}
 use Rattle.selection_map.specs.Rebasing.{mapped, mapped_sel}
 use Rattle.selection_map.specs.Reaching.{goes, at_rest, reach_of, then_on, through}
 use Rattle.selection_map.specs.Walking.{follows, Underway, turns}
@@ -53,8 +53,8 @@ abbrev pub first_undone : Shift
 first_undone = record { insert = false; begin = at 0 1; «end» = at 0 2; last = at 0 6 }
 
 -- the typing as changes of the text
-abbrev pub typed : List Change
-typed = Insertion 1 (codes "X") ∷ Insertion 4 (codes "X") ∷ []
+abbrev pub typed_changes : List Change
+typed_changes = Insertion 1 (codes "X") ∷ Insertion 4 (codes "X") ∷ []
 
 -- a walk through the typing that has passed no shift yet, and the cursors before the characters
 abbrev pub before_typing : Underway
@@ -82,7 +82,7 @@ pub record ManyExamples : Type 0 where
   pub undoing_does_not_rise : follows Rising second_undone first_undone ≡ false
   -- four ends and two shifts
   pub six_turns : turns Rising before_typing two_cursors ≡ 6
-  pub text_behind_typing : text_after (codes "abcdef\n") (steps_by (codes "abcdef\n") typed (first_typed ∷ second_typed ∷ [])) ≡ codes "aXbcXdef\n"
+  pub text_behind_typing : text_after (codes "abcdef\n") (steps_by (codes "abcdef\n") typed_changes (first_typed ∷ second_typed ∷ [])) ≡ codes "aXbcXdef\n"
   -- settled at each change: two become one at the first
   pub joined_on_the_way : eager (three_out ∷ one_out ∷ []) (record { list = only 1 ∷ only 3 ∷ only 5 ∷ only 6 ∷ []; main = 2 }) ≡ record { list = only 1 ∷ only 2 ∷ []; main = 0 }
 

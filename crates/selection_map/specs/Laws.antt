@@ -4,8 +4,8 @@ use Rattle.text_model.specs.declared.coords.Shift.{Shift}
 use Rattle.text_model.specs.Texts.{IsStored}
 use Rattle.text_model.specs.Changes.{Change, changed, all_changed, Move, move_of, IsShift}
 use Rattle.selection_set.specs.declared.sel.Sel.{Sel}
-use Rattle.selection_map.specs.declared.walking.Way.{Way}
-use Rattle.selection_map.specs.declared.walking.Way.TheVariants.{Rising, Falling}
+use Rattle.selection_map.specs.declared.walking.ShiftWay.{ShiftWay}
+use Rattle.selection_map.specs.declared.walking.ShiftWay.TheVariants.{Rising, Falling}
 use Rattle.list_model.specs.Ranges.{Selected}
 use Rattle.selection_map.specs.Walking.{Underway, turns, IsRun}
 use Rattle.selection_set.specs.Listing.{Listed}
@@ -26,7 +26,7 @@ BeginsFall (m ∷ (n ∷ ns)) = (n.begin ≤ min m.begin m.last) × BeginsFall (
 
 -- a walk takes two turns for each selection, and one for each shift, at most
 pub record WalksTakeFewTurns : Type 0 where
-  pub few_turns : (way : Way) (u : Underway) (list : List Sel) → turns way u list ≤ 2 * length list + length u.rest
+  pub few_turns : (way : ShiftWay) (u : Underway) (list : List Sel) → turns way u list ≤ 2 * length list + length u.rest
 
 -- changes whose begins rise, or fall, are one run, so a list walks through them once
 pub record ChangesMakeOneRun : Type 0 where

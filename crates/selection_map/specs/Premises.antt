@@ -7,9 +7,9 @@ use Rattle.text_model.specs.Texts.{IsStored, coord_at, last_place}
 use Rattle.list_model.specs.Ranges.{Range}
 use Rattle.selection_set.specs.declared.sel.Sel.{Sel}
 use Rattle.selection_set.specs.Listing.{ranges_of, AreInside}
-use Rattle.selection_map.specs.declared.reach.Reach.{Reach}
-use Rattle.selection_map.specs.declared.walking.Way.{Way}
-use Rattle.selection_map.specs.declared.walking.Way.TheVariants.{Rising, Falling}
+use Rattle.selection_map.specs.declared.reach.ShiftReach.{ShiftReach}
+use Rattle.selection_map.specs.declared.walking.ShiftWay.{ShiftWay}
+use Rattle.selection_map.specs.declared.walking.ShiftWay.TheVariants.{Rising, Falling}
 use Rattle.selection_map.specs.declared.walking.Walk.{Walk}
 use Rattle.selection_map.specs.Rebasing.{mapped}
 use Rattle.selection_map.specs.Reaching.{goes, all_mapped}
@@ -23,7 +23,7 @@ pub record IsTied (old new : List ℕ) (f t : ℕ) : Type 0 where
   pub same : drop f old ≡ drop t new
 
 -- a way leads from one text to another, which are the same behind an offset of each
-pub record Stands (old new : List ℕ) (w : Reach) (f t : ℕ) : Type 0 where
+pub record ReachStands (old new : List ℕ) (w : ShiftReach) (f t : ℕ) : Type 0 where
   pub tied : IsTied old new f t
   pub from_is : w.from ≡ coord_at old f
   pub onto_is : w.onto ≡ coord_at new t
@@ -34,19 +34,19 @@ abbrev pub spot : List ℕ → ℕ → ℕ → ℕ → ℕ
 spot new f t o = min (t + (o - f)) (last_place new)
 
 -- each shift that is still to be passed may follow the one passed before it
-abbrev pub IsQueue : Way → Coord → List Shift → Type 0
+abbrev pub IsQueue : ShiftWay → Coord → List Shift → Type 0
 IsQueue way at [] = Unit {0}
 IsQueue way at (s ∷ ss) = (is_at_most at (bound way s) ≡ true) × IsQueue way s.begin ss
 
 -- a walk through rising shifts: what is left to do for each end to come makes the whole
-pub record IsRising (first : List ℕ) (all : List Shift) (lower : ℕ) (w : Reach) (rest : List Shift) : Type 0 where
+pub record IsRising (first : List ℕ) (all : List Shift) (lower : ℕ) (w : ShiftReach) (rest : List Shift) : Type 0 where
   pub text : List ℕ
   pub steps : List Step
   pub f : ℕ
   pub t : ℕ
   pub behind : Coord
   pub stored : IsStored text
-  pub stands : Stands first text w f t
+  pub stands : ReachStands first text w f t
   pub leads : Lead text steps
   pub rest_is : rest ≡ shifts_of steps
   pub rise : IsQueue Rising behind rest
@@ -68,7 +68,7 @@ mapped_back [] at = at
 mapped_back (s ∷ ss) at = mapped s (mapped_back ss at)
 
 -- a walk through falling shifts: the shifts passed are the last ones
-pub record IsFalling (first : List ℕ) (all : List Shift) (lower : ℕ) (w : Reach) (rest : List Shift) : Type 0 where
+pub record IsFalling (first : List ℕ) (all : List Shift) (lower : ℕ) (w : ShiftReach) (rest : List Shift) : Type 0 where
   pub newest : List ℕ
   pub steps : List Step
   pub done : List Shift
@@ -77,7 +77,7 @@ pub record IsFalling (first : List ℕ) (all : List Shift) (lower : ℕ) (w : Re
   pub floor : ℕ
   pub behind : Coord
   pub stored : IsStored newest
-  pub stands : Stands (text_behind first steps) newest w f t
+  pub stands : ReachStands (text_behind first steps) newest w f t
   pub leads : LeadBack first steps
   pub rest_is : rest ≡ shifts_of steps
   pub fall : IsQueue Falling behind rest
@@ -88,17 +88,17 @@ pub record IsFalling (first : List ℕ) (all : List Shift) (lower : ℕ) (w : Re
   pub whole : (at : Coord) → all_mapped all at ≡ all_mapped done (mapped_back rest at)
 
 -- a walk that is underway from a text, behind all ends before an offset
-abbrev pub IsReady : Way → List ℕ → List Shift → ℕ → Reach → List Shift → Type 0
-IsReady Rising first all lower w rest = IsRising first all lower w rest
-IsReady Falling first all lower w rest = IsFalling first all lower w rest
+abbrev pub IsWalkReady : ShiftWay → List ℕ → List Shift → ℕ → ShiftReach → List Shift → Type 0
+IsWalkReady Rising first all lower w rest = IsRising first all lower w rest
+IsWalkReady Falling first all lower w rest = IsFalling first all lower w rest
 
 -- a walk of the code that is underway
-pub record IsWalking (way : Way) (first : List ℕ) (shifts : List Shift) (lower : ℕ) (walk : Walk) : Type 0 where
-  pub ready : IsReady way first shifts lower walk.reach (drop walk.passed (queue way shifts))
+pub record IsWalking (way : ShiftWay) (first : List ℕ) (shifts : List Shift) (lower : ℕ) (walk : Walk) : Type 0 where
+  pub ready : IsWalkReady way first shifts lower walk.reach (drop walk.passed (queue way shifts))
   pub few : walk.passed ≤ length shifts
 
 -- a walk can go on to an end
-pub record CanAdvance (way : Way) (shifts : List Shift) (walk : Walk) (at : Coord) : Type 0 where
+pub record CanAdvance (way : ShiftWay) (shifts : List Shift) (walk : Walk) (at : Coord) : Type 0 where
   pub first : List ℕ
   pub lower : ℕ
   pub o : ℕ
@@ -128,14 +128,14 @@ pub record CanGoOn (shifts : List Shift) (list : List Sel) : Type 0 where
   pub can : CanGo old steps shifts list
 
 -- and the shifts go one way
-pub record CanWalk (way : Way) (shifts : List Shift) (list : List Sel) : Type 0 where
+pub record CanWalk (way : ShiftWay) (shifts : List Shift) (list : List Sel) : Type 0 where
   pub old : List ℕ
   pub steps : List Step
   pub can : CanGo old steps shifts list
   pub run : IsRun way shifts
 
 -- a walk can go on over the selections that are left
-pub record CanWalkOver (way : Way) (shifts : List Shift) (walk : Walk) (list : List Sel) : Type 0 where
+pub record CanWalkOver (way : ShiftWay) (shifts : List Shift) (walk : Walk) (list : List Sel) : Type 0 where
   pub first : List ℕ
   pub lower : ℕ
   pub stored : IsStored first

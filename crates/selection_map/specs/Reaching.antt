@@ -4,26 +4,26 @@ use Rattle.text_model.specs.declared.coords.Coord.{Coord}
 use Rattle.text_model.specs.declared.coords.Shift.{Shift}
 use Rattle.text_model.specs.Coords.{origin, is_at_most}
 use Rattle.selection_set.specs.declared.sel.Sel.{Sel}
-use Rattle.selection_map.specs.declared.reach.Reach.{Reach}
+use Rattle.selection_map.specs.declared.reach.ShiftReach.{ShiftReach}
 use Rattle.selection_map.specs.Rebasing.{rebased, earlier, mapped}
 
 -- where a coordinate goes: up to `from` to one place, and behind it as far behind `onto` as it was behind `from`
-abbrev pub goes : Reach → Coord → Coord
+abbrev pub goes : ShiftReach → Coord → Coord
 goes w at = if is_at_most at w.from then w.put else rebased at w.from w.onto
 
 -- no way at all
-abbrev pub at_rest : Reach
+abbrev pub at_rest : ShiftReach
 at_rest = record { from = origin; onto = origin; put = origin }
 
 -- the way of one shift, for the coordinates that aren't before its begin
-abbrev pub reach_of : Shift → Reach
+abbrev pub reach_of : Shift → ShiftReach
 reach_of s =
     if s.insert
     then record { from = s.begin; onto = s.end; put = earlier s.end s.last }
     else record { from = s.end; onto = s.begin; put = earlier s.begin s.last }
 
 -- one way, and then another
-abbrev pub then_on : Reach → Reach → Reach
+abbrev pub then_on : ShiftReach → ShiftReach → ShiftReach
 then_on a b = record {
   from = if is_at_most b.from a.onto then a.from else rebased b.from a.onto a.from;
   onto = if is_at_most b.from a.onto then rebased a.onto b.from b.onto else b.onto;

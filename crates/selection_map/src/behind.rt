@@ -6,7 +6,7 @@ ghost use Rattle.selection_map.specs.Reaching.{through};
 ghost use Rattle.selection_map.specs.Behind.{AreFalling, AreRising, meets_few, all_meet_few, each_through_rest, both_go, StandBehind, CanGoPast};
 
 use crate::carrying::map_sel;
-use crate::reach::{Reach, at_rest, goes, reach_of, then_on};
+use crate::reach::{ShiftReach, at_rest, goes, reach_of, then_on};
 use selection_set::Sel;
 use text_model::Shift;
 
@@ -66,7 +66,7 @@ fn past(most: usize, sel: Sel, shifts: &[Shift]) -> Option<Sel>
 }
 
 // Where both ends of a selection go.
-fn gone(way: Reach, sel: Sel) -> Sel
+fn gone(way: ShiftReach, sel: Sel) -> Sel
     requires low_small { IsSmall sel.low }
     requires high_small { IsSmall sel.high }
     requires onto_small { IsSmall way.onto }

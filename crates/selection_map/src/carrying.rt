@@ -4,7 +4,7 @@ ghost use Rattle.std.specs.Prelude.{◌≡◌, ℕ, List, true, if◌then◌else
 ghost use Rattle.text_model.specs.Coords.{is_at_most};
 ghost use Rattle.text_model.specs.Texts.{IsPlace};
 ghost use Rattle.text_model.specs.Changes.{Move};
-ghost use Rattle.selection_map.specs.Carrying.{IsSmall, IsStep, Carries, AreSmall, CarriesBoth};
+ghost use Rattle.selection_map.specs.Carrying.{IsSmall, IsShiftStep, Carries, AreSmall, CarriesBoth};
 ghost use Rattle.selection_set.specs.Inside.{IsInside};
 ghost use Rattle.selection_map.specs.Rebasing.{rebased, mapped, mapped_sel, earlier};
 
@@ -64,7 +64,7 @@ pub fn map_one(at: Coord, shift: &Shift) -> Coord
     requires begin_small { IsSmall shift.now.begin }
     requires end_small { IsSmall shift.now.end }
     ensures mapped { result ≡ mapped shift.now at }
-    ensures carries { (old new : List ℕ) (m : Move) → IsStep old new shift.now m → IsPlace old at → Carries old new m at result }
+    ensures carries { (old new : List ℕ) (m : Move) → IsShiftStep old new shift.now m → IsPlace old at → Carries old new m at result }
 {
     map_coord(at, shift)
 }
@@ -74,7 +74,7 @@ pub fn map_one(at: Coord, shift: &Shift) -> Coord
 pub fn map_sel(sel: Sel, shift: &Shift) -> Sel
     requires { AreSmall sel shift.now }
     ensures mapped { result ≡ mapped_sel shift.now sel }
-    ensures carries { (old new : List ℕ) (m : Move) → IsStep old new shift.now m → IsInside old sel → CarriesBoth old new m sel result }
+    ensures carries { (old new : List ℕ) (m : Move) → IsShiftStep old new shift.now m → IsInside old sel → CarriesBoth old new m sel result }
 {
     Sel {
         low: map_one(sel.low, shift),

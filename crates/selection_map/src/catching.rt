@@ -4,29 +4,29 @@ ghost use Rattle.std.specs.Prelude.{◌≡◌, ◌↔◌, ℕ, ◌<◌, ◌≤�
 ghost use Rattle.text_model.specs.Coords.{is_at_most};
 ghost use Rattle.selection_map.specs.Rebasing.{earlier};
 ghost use Rattle.selection_map.specs.Reaching.{through};
-ghost use Rattle.selection_map.specs.declared.walking.Way.{Way};
+ghost use Rattle.selection_map.specs.declared.walking.ShiftWay.{ShiftWay};
 ghost use Rattle.selection_map.specs.Walking.{follows, IsRun};
 ghost use Rattle.selection_map.specs.Premises.{CanGoOn};
 ghost use Rattle.selection_map.specs.Behind.{AreFalling, AreRising};
 ghost use Rattle.selection_map.specs.Catching.{Step, CanCatchUp, IsCatchable, IsCaughtUp};
 
 use crate::carrying::earlier_of;
-use crate::walking::{Way, walk_sels};
+use crate::walking::{ShiftWay, walk_sels};
 use selection_set::Sels;
 use text_model::Shift;
 
 // Whether one shift may follow another in a walk.
-fn follows(way: Way, a: &Shift, b: &Shift) -> bool
+fn follows(way: ShiftWay, a: &Shift, b: &Shift) -> bool
     ensures { result ≡ follows way a.now b.now }
 {
     match way {
-        Way::Rising => a.begin.is_at_most(b.begin),
-        Way::Falling => b.begin.is_at_most(earlier_of(a.begin, a.last)),
+        ShiftWay::Rising => a.begin.is_at_most(b.begin),
+        ShiftWay::Falling => b.begin.is_at_most(earlier_of(a.begin, a.last)),
     }
 }
 
 // How many of the first shifts go one way.
-fn run_length(way: Way, shifts: &[Shift]) -> usize
+fn run_length(way: ShiftWay, shifts: &[Shift]) -> usize
     requires { 0 < length shifts.now }
     ensures some { 0 < result }
     ensures few { result ≤ length shifts.now }
@@ -52,7 +52,7 @@ pub fn falls(shifts: &[Shift]) -> bool
     if shifts.is_empty() {
         return true;
     }
-    run_length(Way::Falling, shifts) == shifts.len()
+    run_length(ShiftWay::Falling, shifts) == shifts.len()
 }
 
 /// Whether shifts rise: none begins before the begin of the one in front of it.
@@ -62,7 +62,7 @@ pub fn rises(shifts: &[Shift]) -> bool
     if shifts.is_empty() {
         return true;
     }
-    run_length(Way::Rising, shifts) == shifts.len()
+    run_length(ShiftWay::Rising, shifts) == shifts.len()
 }
 
 // Takes each selection of a list through the first shifts that go one way, rising or falling, whichever are more, and
@@ -73,15 +73,15 @@ fn walk_run(sels: &mut Sels, shifts: &[Shift]) -> usize
     ensures some { 0 < result }
     ensures few { result ≤ length shifts.now }
     ensures each { sels.new ≡ record { list = map (through (take result shifts.now)) sels.old.list; main = sels.old.main } }
-    ensures whole { (way : Way) → IsRun way shifts.now → result ≡ length shifts.now }
+    ensures whole { (way : ShiftWay) → IsRun way shifts.now → result ≡ length shifts.now }
 {
-    let rising = run_length(Way::Rising, shifts);
-    let falling = run_length(Way::Falling, shifts);
+    let rising = run_length(ShiftWay::Rising, shifts);
+    let falling = run_length(ShiftWay::Falling, shifts);
     if rising < falling {
-        walk_sels(Way::Falling, sels, &shifts[..falling]);
+        walk_sels(ShiftWay::Falling, sels, &shifts[..falling]);
         return falling;
     }
-    walk_sels(Way::Rising, sels, &shifts[..rising]);
+    walk_sels(ShiftWay::Rising, sels, &shifts[..rising]);
     rising
 }
 

@@ -5,7 +5,7 @@ ghost use Rattle.text_model.specs.Changes.{Move};
 ghost use Rattle.text_model.specs.Mapping.{shifted};
 ghost use Rattle.list_model.specs.Settling.{carried};
 ghost use Rattle.selection_set.specs.Listing.{AreInside, ranges_of, LowsDontFall, IsSettledIn};
-ghost use Rattle.selection_map.specs.Carrying.{IsStep, AllSmall};
+ghost use Rattle.selection_map.specs.Carrying.{IsShiftStep, AllSmall};
 
 use crate::carrying::map_sel;
 use selection_set::Sels;
@@ -16,7 +16,7 @@ use text_model::Shift;
 /// no memory.
 pub fn map_sels(sels: &mut Sels, shift: &Shift)
     requires { AllSmall sels.old.list shift.now }
-    ensures settles { (old new : List ℕ) (m : Move) → IsStep old new shift.now m → AreInside old sels.old.list → LowsDontFall (ranges_of old sels.old.list)
+    ensures settles { (old new : List ℕ) (m : Move) → IsShiftStep old new shift.now m → AreInside old sels.old.list → LowsDontFall (ranges_of old sels.old.list)
         → IsSettledIn new (map (carried (shifted m)) (ranges_of old sels.old.list)) sels.old.main sels.new }
 {
     for n in 0..sels.len() {

@@ -13,18 +13,18 @@ use text_model::{Coord, Shift};
 /// A way through changes: behind `from` in the text before them and behind `onto` in the text after them the texts are
 /// the same, and what isn't behind `from` has gone to `put`, which is `onto` cut to the last place.
 #[derive(Clone, Copy, Debug)]
-pub(crate) struct Reach {
+pub(crate) struct ShiftReach {
     pub(crate) from: Coord,
     pub(crate) onto: Coord,
     pub(crate) put: Coord,
 }
 
 /// No way at all.
-pub(crate) fn at_rest() -> Reach
+pub(crate) fn at_rest() -> ShiftReach
     ensures { result ≡ at_rest }
 {
     let origin = Coord { line: 0, column: 0 };
-    Reach {
+    ShiftReach {
         from: origin,
         onto: origin,
         put: origin,
@@ -32,7 +32,7 @@ pub(crate) fn at_rest() -> Reach
 }
 
 /// Where a coordinate goes.
-pub(crate) fn goes(way: Reach, at: Coord) -> Coord
+pub(crate) fn goes(way: ShiftReach, at: Coord) -> Coord
     requires at_small { IsSmall at }
     requires onto_small { IsSmall way.onto }
     ensures { result ≡ goes way at }
@@ -44,17 +44,17 @@ pub(crate) fn goes(way: Reach, at: Coord) -> Coord
 }
 
 /// The way of one shift.
-pub(crate) fn reach_of(shift: &Shift) -> Reach
+pub(crate) fn reach_of(shift: &Shift) -> ShiftReach
     ensures { result ≡ reach_of shift.now }
 {
     if shift.insert {
-        return Reach {
+        return ShiftReach {
             from: shift.begin,
             onto: shift.end,
             put: earlier_of(shift.end, shift.last),
         };
     }
-    Reach {
+    ShiftReach {
         from: shift.end,
         onto: shift.begin,
         put: earlier_of(shift.begin, shift.last),
@@ -62,20 +62,20 @@ pub(crate) fn reach_of(shift: &Shift) -> Reach
 }
 
 /// One way, and then another.
-pub(crate) fn then_on(a: Reach, b: Reach) -> Reach
+pub(crate) fn then_on(a: ShiftReach, b: ShiftReach) -> ShiftReach
     requires a_small { IsSmallReach a }
     requires b_small { IsSmallReach b }
     ensures { result ≡ then_on a b }
 {
     let put = goes(b, a.put);
     if b.from.is_at_most(a.onto) {
-        return Reach {
+        return ShiftReach {
             from: a.from,
             onto: rebase(a.onto, b.from, b.onto),
             put,
         };
     }
-    Reach {
+    ShiftReach {
         from: rebase(b.from, a.onto, a.from),
         onto: b.onto,
         put,

@@ -21,7 +21,7 @@ use Rattle.selection_set.specs.declared.sel.Sel.{Sel}
 use Rattle.selection_set.specs.declared.order.Numbered.{Numbered}
 use Rattle.selection_set.specs.Inside.{range_of, IsInside}
 use Rattle.selection_set.specs.Listing.{Listed, IsList, ranges_of, AreInside, LowsDontFall, IsSettledIn}
-use Rattle.selection_set.specs.Numbering.{numbered_from, rank, IsSmall}
+use Rattle.selection_set.specs.Numbering.{numbered_from, rank, HasSmallNumbers}
 
 -- what is known of a sorted list
 pub record IsOrderOf (list : List Sel) (main : ℕ) (ms : List Numbered) : Type 0 where
@@ -29,7 +29,7 @@ pub record IsOrderOf (list : List Sel) (main : ℕ) (ms : List Numbered) : Type 
   pub few : length list ≤ MAX_SELECTIONS
   pub permuted : IsPermutation (numbered_from 0 list) ms
   pub order : IsNonDecreasingBy rank ms
-  pub small : All IsSmall (numbered_from 0 list)
+  pub small : All HasSmallNumbers (numbered_from 0 list)
 
 abbrev pub sel_alone : Numbered → Sel
 sel_alone n = n.sel
@@ -67,12 +67,12 @@ ways : (a b : ℕ) → (a < b) ⊎ (b ≤ a)
 ways a b = grind arith
 
 -- one that doesn't begin later but has no greater rank begins at the same place, and has no greater number
-same_begin : (a b : Numbered) → IsSmall a → IsSmall b → rank a ≤ rank b → (b.sel.low.line < a.sel.low.line) ⊎ ((b.sel.low.line ≡ a.sel.low.line) × (b.sel.low.column ≤ a.sel.low.column)) → (a.sel.low ≡ b.sel.low) × (a.number ≤ b.number)
+same_begin : (a b : Numbered) → HasSmallNumbers a → HasSmallNumbers b → rank a ≤ rank b → (b.sel.low.line < a.sel.low.line) ⊎ ((b.sel.low.line ≡ a.sel.low.line) × (b.sel.low.column ≤ a.sel.low.column)) → (a.sel.low ≡ b.sel.low) × (a.number ≤ b.number)
 same_begin a b sa sb r (inl lt) = absurd (omega (arith, sa.column, sa.number, sb.column, sb.number))
 same_begin a b sa sb r (inr w) =
     (same_coord a.sel.low b.sel.low (sym w.0) (omega (arith, w.0, w.1, sa.column, sa.number, sb.column, sb.number)), omega (arith, w.0, w.1, sa.column, sa.number, sb.column, sb.number))
 
-precedes : (text : List ℕ) (a b : Numbered) → IsSmall a → IsSmall b → IsInside text a.sel → IsInside text b.sel → rank a ≤ rank b → Precedes (counted text a) (counted text b)
+precedes : (text : List ℕ) (a b : Numbered) → HasSmallNumbers a → HasSmallNumbers b → IsInside text a.sel → IsInside text b.sel → rank a ≤ rank b → Precedes (counted text a) (counted text b)
 unfolding counted
 precedes text a b sa sb ia ib r =
     elim (ways (offset text a.sel.low) (offset text b.sel.low)) [
@@ -81,13 +81,13 @@ precedes text a b sa sb ia ib r =
           inr (ap (offset text) w.0, w.1))
     ]
 
-ranked : (text : List ℕ) (ms : List Numbered) → IsNonDecreasingBy rank ms → AllByRecursion IsSmall ms → AllByRecursion (λ (n : Numbered). IsInside text n.sel) ms → IsRanked (map (counted text) ms)
+ranked : (text : List ℕ) (ms : List Numbered) → IsNonDecreasingBy rank ms → AllByRecursion HasSmallNumbers ms → AllByRecursion (λ (n : Numbered). IsInside text n.sel) ms → IsRanked (map (counted text) ms)
 ranked text [] h s i = tt
 ranked text (m ∷ ms) h s i =
     let w : AllByRecursion (λ y. rank m ≤ rank y) ms × IsNonDecreasingBy rank ms = split_order rank m ms h in
     (all_map (Precedes (counted text m)) (counted text) ms (each ms w.0 s.1 i.1), ranked text ms w.1 s.1 i.1)
   where
-    each : (ns : List Numbered) → AllByRecursion (λ y. rank m ≤ rank y) ns → AllByRecursion IsSmall ns → AllByRecursion (λ (n : Numbered). IsInside text n.sel) ns → AllByRecursion (λ n. Precedes (counted text m) (counted text n)) ns
+    each : (ns : List Numbered) → AllByRecursion (λ y. rank m ≤ rank y) ns → AllByRecursion HasSmallNumbers ns → AllByRecursion (λ (n : Numbered). IsInside text n.sel) ns → AllByRecursion (λ n. Precedes (counted text m) (counted text n)) ns
     each [] r t j = tt
     each (n ∷ ns) r t j = (precedes text m n s.0 t.0 i.0 j.0 r.0, each ns r.1 t.1 j.1)
 
@@ -166,7 +166,7 @@ pub order-settles : (list : List Sel) (main : ℕ) (ms : List Numbered) (s : Lis
     → IsSettledIn text (ranges_of text list) main s
 order-settles list main ms s text h i settles =
     let inside : AllByRecursion (λ (n : Numbered). IsInside text n.sel) ms = recursion_from_All (λ (n : Numbered). IsInside text n.sel) ms (All-permutation (λ (n : Numbered). IsInside text n.sel) (numbered_from 0 list) ms h.permuted (All-from_recursion (λ (n : Numbered). IsInside text n.sel) (numbered_from 0 list) (all_numbered (IsInside text) 0 list i))) in
-    let small : AllByRecursion IsSmall ms = recursion_from_All IsSmall ms (All-permutation IsSmall (numbered_from 0 list) ms h.permuted h.small) in
+    let small : AllByRecursion HasSmallNumbers ms = recursion_from_All HasSmallNumbers ms (All-permutation HasSmallNumbers (numbered_from 0 list) ms h.permuted h.small) in
     let in_order : IsRanked (map (counted text) ms) = ranked text ms h.order small inside in
     let same : map (counted text) (numbered_from 0 list) ≡ count_from 0 (ranges_of text list) = counted_from text 0 list in
     let alone : map range_alone (map (counted text) ms) ≡ ranges_of text (map sel_alone ms) = ranges_alone text ms in

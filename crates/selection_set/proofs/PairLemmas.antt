@@ -15,7 +15,7 @@ use Rattle.selection_set.specs.declared.order.Numbered.{Numbered}
 use Rattle.selection_set.specs.declared.making.SelsError.{SelsError}
 use Rattle.selection_set.specs.Inside.{range_of, IsInside}
 use Rattle.selection_set.specs.Listing.{Listed, ranges_of, AreInside, LowsDontFall, IsSettledIn, range_of_pair, IsPairInside, sel_of_pair}
-use Rattle.selection_set.specs.Numbering.{numbered_from, rank, IsSmall}
+use Rattle.selection_set.specs.Numbering.{numbered_from, rank, HasSmallNumbers}
 use Rattle.selection_set.proofs.OrderLemmas.{IsOrderOf}
 
 -- a selection of two ends is their range, inside the text
@@ -60,13 +60,13 @@ pairs-settle pairs list main s e f text h =
     subst (λ rs. IsSettledIn text rs main s) (ap (ranges_of text) e ∙ pairs-ranges text pairs h) (f text (subst (AreInside text) (sym e) (pairs-inside text pairs h)))
 
 -- what the list that was sorted is
-pub order-of : (list : List Sel) (main : ℕ) (items ms : List Numbered) → main < length list → length list ≤ MAX_SELECTIONS → items ≡ numbered_from 0 list → All IsSmall items → IsPermutation items ms → IsNonDecreasingBy rank ms → IsOrderOf list main ms
+pub order-of : (list : List Sel) (main : ℕ) (items ms : List Numbered) → main < length list → length list ≤ MAX_SELECTIONS → items ≡ numbered_from 0 list → All HasSmallNumbers items → IsPermutation items ms → IsNonDecreasingBy rank ms → IsOrderOf list main ms
 order-of list main items ms m f e small p o = record {
   main_is = m;
   few = f;
   permuted = subst (λ xs. IsPermutation xs ms) e p;
   order = o;
-  small = subst (All IsSmall) e small;
+  small = subst (All HasSmallNumbers) e small;
 }
 
 -- settling, where the list is known by its parts

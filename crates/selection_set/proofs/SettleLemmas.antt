@@ -8,7 +8,7 @@ use Rattle.text_model.specs.Coords.{is_at_most}
 use Rattle.text_model.specs.Texts.{offset, IsPlace}
 use Rattle.text_model.proofs.PlaceLemmas.{is_at_most-offset}
 use Rattle.list_model.specs.Ranges.{Range, IsRange}
-use Rattle.list_model.specs.Settling.{ranges, joined, swept, swept_place}
+use Rattle.list_model.specs.Settling.{ranges, joined_range, swept, swept_place}
 use Rattle.list_model.specs.Settled.{IsSettled}
 use Rattle.list_model.proofs.ListLemmas.{all_map, all_weaker, place_of_below}
 use Rattle.list_model.proofs.SettledLemmas.{swept_is_settled, joined_holds_first}
@@ -33,7 +33,7 @@ choice-place text true a b p q = p
 choice-place text false a b p q = q
 
 -- two joined by coordinates are the ranges joined
-range_of-joined : (text : List ℕ) (a b : Sel) → IsInside text a → IsInside text b → range_of text (joined_sel a b) ≡ joined (range_of text a) (range_of text b)
+range_of-joined : (text : List ℕ) (a b : Sel) → IsInside text a → IsInside text b → range_of text (joined_sel a b) ≡ joined_range (range_of text a) (range_of text b)
 range_of-joined text a b h k =
     ap (λ (o : ℕ). let r : Range = record { low = offset text a.low; high = o; turned = a.turned; target = a.target } in r) (choice-offset text (is_at_most a.high b.high) (nat_le (offset text a.high) (offset text b.high)) b.high a.high (order-offsets text a.high b.high h.high k.high))
 

@@ -14,7 +14,7 @@ abbrev pub rank : Numbered → ℕ
 rank n = (n.sel.low.line * 4294967296 + n.sel.low.column) * 4294967296 + n.number
 
 -- its column and its number are numbers of the code
-pub record IsSmall (n : Numbered) : Type 0 where
+pub record HasSmallNumbers (n : Numbered) : Type 0 where
   pub column : n.sel.low.column < 4294967296
   pub number : n.number < 4294967296
 

@@ -1,7 +1,7 @@
 -- The sweep of a list of selections by their coordinates.
 use Rattle.std.specs.Prelude.{ℕ, if◌then◌else◌, List, [], ◌∷◌}
 use Rattle.text_model.specs.Coords.{is_at_most}
-use Rattle.list_model.specs.Settling.{Kind, sweep, sweep_place}
+use Rattle.list_model.specs.Settling.{JoinRule, sweep, sweep_place}
 use Rattle.selection_set.specs.declared.sel.Sel.{Sel}
 use Rattle.selection_set.specs.Listing.{Listed}
 
@@ -10,7 +10,7 @@ abbrev pub joined_sel : Sel → Sel → Sel
 joined_sel a b = record { low = a.low; high = if is_at_most a.high b.high then b.high else a.high; turned = a.turned; target = a.target }
 
 -- selections are joined where the later one begins inside the earlier one
-abbrev pub by_coords : Kind Sel
+abbrev pub by_coords : JoinRule Sel
 by_coords = record { due = λ a b. is_at_most b.low a.high; join = joined_sel }
 
 -- a list in order with its neighbours joined

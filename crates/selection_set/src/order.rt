@@ -4,7 +4,7 @@
 ghost use Rattle.std.specs.Prelude.{◌≡◌, ◌≤◌, ◌<◌, ◌^◌, ◌==◌, false, None, length, map, IfOk, IsOk};
 ghost use Rattle.std.specs.List.{All, position};
 ghost use Rattle.std.specs.List.Sorted.{IsPermutation, IsNonDecreasingBy};
-ghost use Rattle.selection_set.specs.Numbering.{numbered_from, rank, IsSmall, in_order};
+ghost use Rattle.selection_set.specs.Numbering.{numbered_from, rank, HasSmallNumbers, in_order};
 
 use crate::sel::Sel;
 use smallvec::SmallVec;
@@ -32,7 +32,7 @@ impl Default for Numbered {
 // A selection with a number.
 fn numbered_sel(sel: Sel, number: u32) -> Numbered
     ensures value { result ≡ record { sel = sel; number = number } }
-    ensures small { IsSmall result }
+    ensures small { HasSmallNumbers result }
 {
     Numbered { sel, number }
 }
@@ -41,7 +41,7 @@ fn numbered_sel(sel: Sel, number: u32) -> Numbered
 pub(crate) fn with_numbers(alloc: Global, list: &[Sel]) -> Result<SmallVec<Numbered, 4>, AllocError>
     requires { length list.now < 2 ^ 32 }
     ensures ok { IfOk result (λ all. all.items ≡ numbered_from 0 list.now) }
-    ensures small { IfOk result (λ all. All IsSmall all.items) }
+    ensures small { IfOk result (λ all. All HasSmallNumbers all.items) }
     ensures few { length list.now ≤ 4 → IsOk result }
 {
     let mut all = SmallVec::with_capacity(alloc, list.len())?;

@@ -17,7 +17,7 @@ use Rattle.text_model.specs.Texts.{IsPlace, offset, nth_line}
 use Rattle.text_model.proofs.PlaceLemmas.{coord_at-offset}
 use Rattle.kak_text.specs.Bytes.{bytes_before}
 use Rattle.command_forms.specs.declared.places.Columns.{Columns}
-use Rattle.command_forms.specs.declared.places.Place.{Place}
+use Rattle.command_forms.specs.declared.places.ArgumentPlace.{ArgumentPlace}
 use Rattle.selection_texts.specs.Telling.{column_told, place_told}
 use Rattle.selection_texts.specs.Meaning.{char_holding}
 
@@ -60,10 +60,10 @@ pub bytes-few : (line : List ℕ) (n : ℕ) → bytes_before line n ≤ 4 * leng
 bytes-few line n = omega (arith, sum_by-take-le len_utf8 line n, four-each line)
 
 -- the place of a coordinate
-pub place-at : (columns : Columns) (text : List ℕ) (at : Coord) (column : ℕ) → IsPlace text at → column ≡ column_told columns (nth_line text at.line) at.column → (let p : Place = record { line = at.line + 1; column = column + 1 } in p) ≡ place_told columns text (offset text at)
+pub place-at : (columns : Columns) (text : List ℕ) (at : Coord) (column : ℕ) → IsPlace text at → column ≡ column_told columns (nth_line text at.line) at.column → (let p : ArgumentPlace = record { line = at.line + 1; column = column + 1 } in p) ≡ place_told columns text (offset text at)
 place-at columns text at column h e =
-    let by_column : ℕ → Place = λ k. record { line = at.line + 1; column = k + 1 } in
-    let by_coord : Coord → Place = λ a. record { line = a.line + 1; column = column_told columns (nth_line text a.line) a.column + 1 } in
+    let by_column : ℕ → ArgumentPlace = λ k. record { line = at.line + 1; column = k + 1 } in
+    let by_coord : Coord → ArgumentPlace = λ a. record { line = a.line + 1; column = column_told columns (nth_line text a.line) a.column + 1 } in
     ap by_column e ∙ ap by_coord (sym (coord_at-offset text at h))
 
 first-ranges : (text : List ℕ) (pairs : List Pair) → AllByRecursion IsRange (map (range_of_pair text) pairs)

@@ -8,9 +8,9 @@ use Rattle.std.proofs.Math.Seq.{take-append_seam, drop-append_seam}
 use Rattle.std.proofs.lemmas.Str.Parse.{IsDigitsTest, FoldsDigits, IsNumeralModel, numerals_by_fold}
 use Rattle.std.proofs.lemmas.Fmt.{digits_decimal, digits_value-decimal}
 use Rattle.text_model.proofs.CoordLemmas.{test_cases}
-use Rattle.command_forms.specs.declared.places.Place.{Place}
+use Rattle.command_forms.specs.declared.places.ArgumentPlace.{ArgumentPlace}
 use Rattle.command_forms.specs.declared.places.Described.{Described}
-use Rattle.command_forms.specs.Places.{greatest, is_digit, value_on, number_of, Parts, parted, place_by, place_of, described_by, described_of}
+use Rattle.command_forms.specs.Places.{greatest_number, is_digit, value_on, number_of, Parts, parted, place_by, place_of, described_by, described_of}
 use Rattle.command_forms.proofs.WordLemmas.{parted-at}
 use Rattle.selection_texts.specs.Telling.{description_text}
 
@@ -36,12 +36,12 @@ abbrev picked : Bool → ℕ → Option ℕ
 picked digits n = cond (digits && ltb 0 n) (Some n) None
 
 -- a number that is written is read
-number-read : (n : ℕ) → 0 < n → n ≤ greatest → number_of (decimal n) ≡ Some n
+number-read : (n : ℕ) → 0 < n → n ≤ greatest_number → number_of (decimal n) ≡ Some n
 number-read n some small =
     let fits : n < 2 ^ 64 = omega arith in
-    let whole : min n greatest ≡ n = omega arith in
-    ap (λ b. picked b (min (value_on 0 (decimal n)) greatest)) (digits_decimal numerals n fits)
-    ∙ ap (λ v. picked true (min v greatest)) (digits_value-decimal numerals n fits)
+    let whole : min n greatest_number ≡ n = omega arith in
+    ap (λ b. picked b (min (value_on 0 (decimal n)) greatest_number)) (digits_decimal numerals n fits)
+    ∙ ap (λ v. picked true (min v greatest_number)) (digits_value-decimal numerals n fits)
     ∙ ap (picked true) whole ∙ ap (λ b. cond b (Some n) None) (lt-ltb 0 n some)
 
 prefix-first : (q : ℕ → Bool) (xs rest : List ℕ) (m : ℕ) → list_all q xs ≡ true → q m ≡ false → prefix_len q (xs ++ m ∷ rest) ≡ length xs
@@ -84,18 +84,18 @@ all-append q [] ys h k = k
 all-append q (x ∷ xs) ys h k = let both = and_parts (q x) (list_all q xs) h in and_from (q x) (list_all q (xs ++ ys)) both.0 (all-append q xs ys both.1 k)
 
 -- the numbers of a place that is told are from 1, and no greater than the greatest one
-pub record IsTold (p : Place) : Type 0 where
+pub record IsTold (p : ArgumentPlace) : Type 0 where
   pub line : 0 < p.line
-  pub line_small : p.line ≤ greatest
+  pub line_small : p.line ≤ greatest_number
   pub column : 0 < p.column
-  pub column_small : p.column ≤ greatest
+  pub column_small : p.column ≤ greatest_number
 
-digits-of : (n : ℕ) → n ≤ greatest → AreDigits (decimal n)
+digits-of : (n : ℕ) → n ≤ greatest_number → AreDigits (decimal n)
 digits-of n small = digits_decimal numerals n (omega arith)
 
-place-read : (p : Place) → IsTold p → place_of (decimal p.line ++ 46 ∷ decimal p.column) ≡ Some p
+place-read : (p : ArgumentPlace) → IsTold p → place_of (decimal p.line ++ 46 ∷ decimal p.column) ≡ Some p
 place-read p h =
-    let by : Parts → Option Place = λ x. place_by (number_of x.before) (number_of x.behind) in
+    let by : Parts → Option ArgumentPlace = λ x. place_by (number_of x.before) (number_of x.behind) in
     ap (option_and_then by) (parted-first 46 (decimal p.line) (decimal p.column) (others-digits 46 (decimal p.line) refl (digits-of p.line h.line_small)))
     ∙ ap₂ place_by (number-read p.line h.line h.line_small) (number-read p.column h.column h.column_small)
 

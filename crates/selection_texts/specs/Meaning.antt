@@ -7,7 +7,7 @@ use Rattle.list_model.specs.Settling.{settled}
 use Rattle.selection_set.specs.Listing.{range_between}
 use Rattle.command_forms.specs.declared.places.Columns.{Columns}
 use Rattle.command_forms.specs.declared.places.Columns.TheVariants.{Bytes, Characters}
-use Rattle.command_forms.specs.declared.places.Place.{Place}
+use Rattle.command_forms.specs.declared.places.ArgumentPlace.{ArgumentPlace}
 use Rattle.command_forms.specs.declared.places.Described.{Described}
 
 -- the place in a line of the character that holds a byte, from 0; of the last character where none does
@@ -26,7 +26,7 @@ abbrev pub line_meant : List ℕ → ℕ → ℕ
 line_meant text line = min (line - 1) (line_count text - 1)
 
 -- the offset that a place means
-abbrev pub offset_meant : Columns → List ℕ → Place → ℕ
+abbrev pub offset_meant : Columns → List ℕ → ArgumentPlace → ℕ
 offset_meant columns text place =
     offset text (record { line = line_meant text place.line; column = column_meant columns (nth_line text (line_meant text place.line)) (place.column - 1) })
 

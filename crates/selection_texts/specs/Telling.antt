@@ -5,7 +5,7 @@ use Rattle.kak_text.specs.Bytes.{bytes_before}
 use Rattle.list_model.specs.Ranges.{Range, Selected, cursor, anchor}
 use Rattle.command_forms.specs.declared.places.Columns.{Columns}
 use Rattle.command_forms.specs.declared.places.Columns.TheVariants.{Bytes, Characters}
-use Rattle.command_forms.specs.declared.places.Place.{Place}
+use Rattle.command_forms.specs.declared.places.ArgumentPlace.{ArgumentPlace}
 use Rattle.command_forms.specs.declared.places.Described.{Described}
 
 -- the column, from 0, of the character at a column of a line, which is given by characters
@@ -14,7 +14,7 @@ column_told Bytes line column = bytes_before line column
 column_told Characters line column = column
 
 -- the place of an offset, from 1
-abbrev pub place_told : Columns → List ℕ → ℕ → Place
+abbrev pub place_told : Columns → List ℕ → ℕ → ArgumentPlace
 place_told columns text o =
     record { line = (coord_at text o).line + 1; column = column_told columns (nth_line text (coord_at text o).line) (coord_at text o).column + 1 }
 

@@ -9,7 +9,7 @@ ghost use Rattle.selection_set.specs.Held.{IsHeld, selected};
 ghost use Rattle.selection_texts.specs.Meaning.{offset_meant, meant, list_meant};
 
 use crate::columns::column_meant;
-use command_forms::{Columns, Described, Place};
+use command_forms::{ArgumentPlace, Columns, Described};
 use kak_text::Coord;
 use line_buffer::Lines;
 use selection_set::{Pair, Sels, SelsError};
@@ -17,7 +17,7 @@ use std::alloc::{AllocError, Global};
 use text_model::MAX_SELECTIONS;
 
 // The coordinate of what a place, from 1, means: lines and columns that are too great mean the last.
-fn place_meant(lines: &Lines, columns: Columns, place: Place) -> Coord
+fn place_meant(lines: &Lines, columns: Columns, place: ArgumentPlace) -> Coord
     ensures place { IsPlace lines.now result }
     ensures value { offset lines.now result ≡ offset_meant columns lines.now place }
 {

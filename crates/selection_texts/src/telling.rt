@@ -10,20 +10,20 @@ ghost use Rattle.selection_texts.specs.Telling.{place_told, told, told_text, des
 
 use crate::columns::column_told;
 use byte_texts::Words;
-use command_forms::{Columns, Described, Place};
+use command_forms::{ArgumentPlace, Columns, Described};
 use kak_text::Coord;
 use line_buffer::Lines;
 use selection_set::{Sel, Sels};
 use std::alloc::{AllocError, Global};
 
 // A place of a text, from 1.
-fn place_told(lines: &Lines, columns: Columns, at: Coord) -> Place
+fn place_told(lines: &Lines, columns: Columns, at: Coord) -> ArgumentPlace
     requires { IsPlace lines.now at }
     ensures { result ≡ place_told columns lines.now (offset lines.now at) }
 {
     let column = column_told(lines.line(at.line as usize), columns, at.column);
     let _count = lines.line_count();
-    Place {
+    ArgumentPlace {
         line: at.line + 1,
         column: column + 1,
     }
@@ -41,7 +41,7 @@ pub fn told(lines: &Lines, columns: Columns, sel: Sel) -> Described
 }
 
 /// The place of the main selection's cursor, from 1.
-pub fn main_cursor(lines: &Lines, columns: Columns, sels: &Sels) -> Place
+pub fn main_cursor(lines: &Lines, columns: Columns, sels: &Sels) -> ArgumentPlace
     requires { IsHeld lines.now sels.now }
     ensures { result ≡ place_told columns lines.now (cursor (main_of (selected lines.now sels.now))) }
 {
@@ -52,8 +52,8 @@ pub fn main_cursor(lines: &Lines, columns: Columns, sels: &Sels) -> Place
 fn description_text(alloc: Global, told: Described) -> Result<String, AllocError>
     ensures { IfOk result (λ s. string_bytes s ≡ description_text told) }
 {
-    let Place { line, column } = told.anchor;
-    let Place {
+    let ArgumentPlace { line, column } = told.anchor;
+    let ArgumentPlace {
         line: cursor_line,
         column: cursor_column,
     } = told.cursor;

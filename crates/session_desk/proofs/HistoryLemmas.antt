@@ -2,7 +2,7 @@
 use Rattle.std.proofs.Common.{⊎_elim, inl, inr, Some, None, ◌≡◌, ◌≢◌, ℕ, ◌<◌, ◌≤◌, ◌==◌, Bool, true, false, nat_lt, List, [], ◌∷◌, ◌++◌, length, All, sym, refl, ap, ◌∙◌, arith, max, ltb-true, ltb-false, Option, append-nil, append_assoc, length-append, eq-eqb, ne_eqb, cond}
 use Rattle.std.proofs.lemmas.List.{append_cancel_left}
 use Rattle.std.proofs.lemmas.List.Elements.{filter-append, All-head, All-tail, All-weaker}
-use Rattle.session_desk.specs.Histories.{StartsWith, longer, own, Met, first_mark, Given, HasMet}
+use Rattle.session_desk.specs.Histories.{StartsWith, longer, entries_by, Met, first_mark, GivenBack, HasMet}
 
 module _ {E : Type 0} where
   pub starts_itself : (l : List E) → StartsWith l l
@@ -55,41 +55,41 @@ module _ {E : Type 0} where
   no_parts (x ∷ xs) b e = absurd (let t : length (x ∷ (xs ++ b)) ≡ 0 = ap length e in omega arith)
 
 module _ {E : Type 0} (maker : E → ℕ) where
-  own_split : (n : ℕ) (h a : List E) (p : StartsWith h a) → own maker n h ≡ own maker n a ++ own maker n p.0
-  own_split n h a p = ap (own maker n) p.1 ∙ filter-append (λ e. maker e == n) a p.0
+  own_split : (n : ℕ) (h a : List E) (p : StartsWith h a) → entries_by maker n h ≡ entries_by maker n a ++ entries_by maker n p.0
+  own_split n h a p = ap (entries_by maker n) p.1 ∙ filter-append (λ e. maker e == n) a p.0
 
   -- what came after a list that has all of a maker's entries has none of them
-  pub none_between : (n : ℕ) (h a : List E) (p : StartsWith h a) → own maker n h ≡ own maker n a → own maker n p.0 ≡ []
-  none_between n h a p e = append_cancel_left (own maker n a) (own maker n p.0) [] (sym (own_split n h a p) ∙ (e ∙ sym (append-nil (own maker n a))))
+  pub none_between : (n : ℕ) (h a : List E) (p : StartsWith h a) → entries_by maker n h ≡ entries_by maker n a → entries_by maker n p.0 ≡ []
+  none_between n h a p e = append_cancel_left (entries_by maker n a) (entries_by maker n p.0) [] (sym (own_split n h a p) ∙ (e ∙ sym (append-nil (entries_by maker n a))))
 
   -- a list between two with the same own entries has the same
-  pub own_squeezed : (n : ℕ) (h l g : List E) → StartsWith h l → StartsWith l g → own maker n h ≡ own maker n g → own maker n l ≡ own maker n g
+  pub own_squeezed : (n : ℕ) (h l g : List E) → StartsWith h l → StartsWith l g → entries_by maker n h ≡ entries_by maker n g → entries_by maker n l ≡ entries_by maker n g
   own_squeezed n h l g p q e =
-      let t : own maker n g ++ (own maker n q.0 ++ own maker n p.0) ≡ own maker n g ++ [] =
-      sym (append_assoc (own maker n g) (own maker n q.0) (own maker n p.0)) ∙ (ap (λ z. z ++ own maker n p.0) (sym (own_split n l g q)) ∙ (sym (own_split n h l p) ∙ (e ∙ sym (append-nil (own maker n g))))) in
-      let none = (no_parts (own maker n q.0) (own maker n p.0) (append_cancel_left (own maker n g) (own maker n q.0 ++ own maker n p.0) [] t)).0 in
-      own_split n l g q ∙ (ap (λ z. own maker n g ++ z) none ∙ append-nil (own maker n g))
+      let t : entries_by maker n g ++ (entries_by maker n q.0 ++ entries_by maker n p.0) ≡ entries_by maker n g ++ [] =
+      sym (append_assoc (entries_by maker n g) (entries_by maker n q.0) (entries_by maker n p.0)) ∙ (ap (λ z. z ++ entries_by maker n p.0) (sym (own_split n l g q)) ∙ (sym (own_split n h l p) ∙ (e ∙ sym (append-nil (entries_by maker n g))))) in
+      let none = (no_parts (entries_by maker n q.0) (entries_by maker n p.0) (append_cancel_left (entries_by maker n g) (entries_by maker n q.0 ++ entries_by maker n p.0) [] t)).0 in
+      own_split n l g q ∙ (ap (λ z. entries_by maker n g ++ z) none ∙ append-nil (entries_by maker n g))
 
   own_of : (b : Bool) → E → List E
   own_of b e = cond b (e ∷ []) []
 
-  pub own_one : (n : ℕ) (xs : List E) (e : E) → maker e ≡ n → own maker n (xs ++ e ∷ []) ≡ own maker n xs ++ e ∷ []
+  pub own_one : (n : ℕ) (xs : List E) (e : E) → maker e ≡ n → entries_by maker n (xs ++ e ∷ []) ≡ entries_by maker n xs ++ e ∷ []
   unfolding own_of
-  own_one n xs e is = filter-append (λ x. maker x == n) xs (e ∷ []) ∙ ap (λ (b : Bool). own maker n xs ++ own_of b e) (eq-eqb (maker e) n is)
+  own_one n xs e is = filter-append (λ x. maker x == n) xs (e ∷ []) ∙ ap (λ (b : Bool). entries_by maker n xs ++ own_of b e) (eq-eqb (maker e) n is)
 
-  pub own_other : (n : ℕ) (xs : List E) (e : E) → maker e ≢ n → own maker n (xs ++ e ∷ []) ≡ own maker n xs
+  pub own_other : (n : ℕ) (xs : List E) (e : E) → maker e ≢ n → entries_by maker n (xs ++ e ∷ []) ≡ entries_by maker n xs
   unfolding own_of
-  own_other n xs e other = filter-append (λ x. maker x == n) xs (e ∷ []) ∙ (ap (λ (b : Bool). own maker n xs ++ own_of b e) (ne_eqb (maker e) n other) ∙ append-nil (own maker n xs))
+  own_other n xs e other = filter-append (λ x. maker x == n) xs (e ∷ []) ∙ (ap (λ (b : Bool). entries_by maker n xs ++ own_of b e) (ne_eqb (maker e) n other) ∙ append-nil (entries_by maker n xs))
 
   -- a number from the count on has no entry
-  pub own_beyond : (n made : ℕ) (xs : List E) → All (λ e. maker e < made) xs → made ≤ n → own maker n xs ≡ []
+  pub own_beyond : (n made : ℕ) (xs : List E) → All (λ e. maker e < made) xs → made ≤ n → entries_by maker n xs ≡ []
   own_beyond n made [] h l = refl
   own_beyond n made (x ∷ xs) h l =
       let low : maker x < made = All-head (λ e. maker e < made) x xs h in let rest = own_beyond n made xs (All-tail (λ e. maker e < made) x xs h) l in
-      ap (λ (b : Bool). cond b (x ∷ own maker n xs) (own maker n xs)) (ne_eqb (maker x) n (λ e. omega arith)) ∙ rest
+      ap (λ (b : Bool). cond b (x ∷ entries_by maker n xs) (entries_by maker n xs)) (ne_eqb (maker x) n (λ e. omega arith)) ∙ rest
 
-  pub own_none : (n : ℕ) (h a : List E) → StartsWith h a → own maker n h ≡ [] → own maker n a ≡ []
-  own_none n h a p e = (no_parts (own maker n a) (own maker n p.0) (sym (own_split n h a p) ∙ e)).0
+  pub own_none : (n : ℕ) (h a : List E) → StartsWith h a → entries_by maker n h ≡ [] → entries_by maker n a ≡ []
+  own_none n h a p e = (no_parts (entries_by maker n a) (entries_by maker n p.0) (sym (own_split n h a p) ∙ e)).0
 
 pub met_first : (a b m : Option ℕ) → Met a m → Met b m → Met (first_mark a b) m
 met_first (Some k) b m p q = p
@@ -107,5 +107,5 @@ second_is_kept (Some k) b m p q = ⊎_elim (λ (none : Some k ≡ None). cc) (λ
 second_is_kept None b m p q = inr refl
 
 -- those given back had met a later mark too
-pub marks_later : {E : Type 0} (m m' : Option ℕ) (gs : List (Given E)) → Met m m' → All (HasMet m) gs → All (HasMet m') gs
+pub marks_later : {E : Type 0} (m m' : Option ℕ) (gs : List (GivenBack E)) → Met m m' → All (HasMet m) gs → All (HasMet m') gs
 marks_later m m' gs met all = All-weaker (HasMet m) (HasMet m') (λ g x. met_through g.2 m m' x met) gs all

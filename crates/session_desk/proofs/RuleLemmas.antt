@@ -14,7 +14,7 @@ use Rattle.atomic_table.proofs.Lists.{set_here, set_again}
 use Rattle.session_desk.specs.declared.rule.Role.TheVariants.{Admits, Plays}
 use Rattle.session_desk.specs.declared.rule.View.{View}
 use Rattle.session_desk.specs.Histories.{AddsOne, Met, MaySetMark, HasMet}
-use Rattle.session_desk.specs.Rule.{is_live, passes, length_word, Facts, Knows, SameOwn, Returned, Fits, AtHome, IsKept, opening_view, seeing, Sat, Found, MayBecome, IsInHand, takes_turn, publishes, frees_turn, looks, tells}
+use Rattle.session_desk.specs.Rule.{is_live, pass_count, length_word, Facts, Knows, SameOwn, Returned, SeatFits, AtHome, IsRuleKept, opening_view, seeing, Sat, Found, MayBecome, IsInHand, takes_turn, publishes, frees_turn, looks, tells}
 use Rattle.session_desk.proofs.HistoryLemmas.{starts_itself, starts_through, starts_same, marks_later}
 use Rattle.session_desk.proofs.SeatLemmas.{within, only_one, hand_or, passes_set, seats_stay, held_stays, keeper_alone, same_own_itself, returned_seen, has_given, turn_changes, met_later, Grows, grows, returned_later, others_later}
 
@@ -26,13 +26,13 @@ module _ {O E F : Type 0} (entries : O → List E) (maker : E → ℕ) (marked :
   M = Sat O E F
 
   abbrev Rule : St → Type 0
-  Rule = IsKept entries maker marked frame_of frame
+  Rule = IsRuleKept entries maker marked frame_of frame
 
   abbrev opening_facts : Facts E
   opening_facts = record { history = []; mark = None; turn = 0; holder = 0; made = 0; out = 0; seat_of = λ _. 0 }
 
-  opening_seat : (j : ℕ) (v : View E F) → get_elem? (opening_view frame ∷ []) j ≡ some v → Fits maker frame opening_facts j v
-  opening_seat zero v e = subst (Fits maker frame opening_facts 0) (some-injective (opening_view frame) v e) record {
+  opening_seat : (j : ℕ) (v : View E F) → get_elem? (opening_view frame ∷ []) j ≡ some v → SeatFits maker frame opening_facts j v
+  opening_seat zero v e = subst (SeatFits maker frame opening_facts 0) (some-injective (opening_view frame) v e) record {
     begins = ([], refl);
     framed = λ _. refl;
     met = inl refl;
@@ -90,8 +90,8 @@ module _ {O E F : Type 0} (entries : O → List E) (maker : E → ℕ) (marked :
         at_home = λ z. absurd (omega arith);
         held = λ _. record { view = w; there = set_here s.views id w (within s.views id me.0 at); holds = refl };
         numbers = r.numbers;
-        counted = let same : passes (set s.views id w) ≡ passes s.views = omega arith in same ∙ r.counted;
-        each_seat = seats_stay (Fits maker frame d') s.views id w record {
+        counted = let same : pass_count (set s.views id w) ≡ pass_count s.views = omega arith in same ∙ r.counted;
+        each_seat = seats_stay (SeatFits maker frame d') s.views id w record {
           begins = ([], sym home.entries_are ∙ sym (append-nil (entries x)));
           framed = mine.framed;
           met = inr home.mark_is;
@@ -174,8 +174,8 @@ module _ {O E F : Type 0} (entries : O → List E) (maker : E → ℕ) (marked :
           at_home = λ _. record { object = o; home = only_one s.homes (some (Some o)) r.one_slot; entries_are = hand.entries_are ∙ sym turn.history; mark_is = hand.mark_is ∙ sym turn.mark; frame_is = cc };
           held = λ z. absurd (omega arith);
           numbers = r.numbers;
-          counted = let same : passes (set s.views id w) ≡ passes s.views = omega arith in same ∙ r.counted;
-          each_seat = seats_stay (Fits maker frame d') s.views id w (turn_changes maker frame d 0 d.holder id w (λ h. absurd (false≢true h)) record {
+          counted = let same : pass_count (set s.views id w) ≡ pass_count s.views = omega arith in same ∙ r.counted;
+          each_seat = seats_stay (SeatFits maker frame d') s.views id w (turn_changes maker frame d 0 d.holder id w (λ h. absurd (false≢true h)) record {
             begins = mine.begins;
             framed = mine.framed;
             met = mine.met;
@@ -221,8 +221,8 @@ module _ {O E F : Type 0} (entries : O → List E) (maker : E → ℕ) (marked :
           at_home = λ z. let free : d.turn ≡ 0 = z in absurd (omega arith);
           held = λ _. record { view = w; there = subst (λ (h : ℕ). get_elem? (set s.views id w) h ≡ some w) turn.holder (set_here s.views id w (within s.views id me.0 at)); holds = refl };
           numbers = numbers_later d.made n d.history (entries o) d.mark (marked o) knows.0 may' r.numbers;
-          counted = let same : passes (set s.views id w) ≡ passes s.views = omega arith in same ∙ r.counted;
-          each_seat = seats_stay (Fits maker frame d') s.views id w record {
+          counted = let same : pass_count (set s.views id w) ≡ pass_count s.views = omega arith in same ∙ r.counted;
+          each_seat = seats_stay (SeatFits maker frame d') s.views id w record {
             begins = starts_itself (entries o);
             framed = mine.framed;
             met = inr refl;
@@ -255,8 +255,8 @@ module _ {O E F : Type 0} (entries : O → List E) (maker : E → ℕ) (marked :
       at_home = r.at_home;
       held = λ z. held_stays s.views d.holder id me.0 w (r.held z) at idle;
       numbers = r.numbers;
-      counted = let same : passes (set s.views id w) ≡ passes s.views = omega arith in same ∙ r.counted;
-      each_seat = seats_stay (Fits maker frame d) s.views id w record {
+      counted = let same : pass_count (set s.views id w) ≡ pass_count s.views = omega arith in same ∙ r.counted;
+      each_seat = seats_stay (SeatFits maker frame d) s.views id w record {
         begins = starts_itself d.history;
         framed = mine.framed;
         met = inr refl;

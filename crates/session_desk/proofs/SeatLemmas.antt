@@ -10,8 +10,8 @@ use Rattle.atomic_table.proofs.Lists.{at_set, set_else}
 use Rattle.session_desk.specs.declared.rule.Role.{Role}
 use Rattle.session_desk.specs.declared.rule.Role.TheVariants.{Admits, Plays, Spent}
 use Rattle.session_desk.specs.declared.rule.View.{View}
-use Rattle.session_desk.specs.Histories.{StartsWith, own, AddsOne, Met, MaySetMark, Given, given_number, given_list, HasGiven}
-use Rattle.session_desk.specs.Rule.{is_live, pass_weight, passes, Facts, Knows, SameOwn, Returned, Holding, Fits, IsHeldBy, MayBecome}
+use Rattle.session_desk.specs.Histories.{StartsWith, entries_by, AddsOne, Met, MaySetMark, GivenBack, given_number, given_list, HasGiven}
+use Rattle.session_desk.specs.Rule.{is_live, pass_weight, pass_count, Facts, Knows, SameOwn, Returned, Holding, SeatFits, IsHeldBy, MayBecome}
 use Rattle.session_desk.proofs.HistoryLemmas.{starts_itself, starts_more, starts_through, starts_same, own_other, own_squeezed}
 
 abbrev pick : {P : Type 0} → Dec P → ℕ → ℕ → ℕ
@@ -64,16 +64,16 @@ hand_or u [] = u
 hand_or u (x ∷ xs) = unwrap_or x.1 u
 
 module _ {E F : Type 0} where
-  pub passes_set : (vs : List (View E F)) (i : ℕ) (v w : View E F) → get_elem? vs i ≡ some v → passes (set vs i w) + pass_weight v.role ≡ passes vs + pass_weight w.role
+  pub passes_set : (vs : List (View E F)) (i : ℕ) (v w : View E F) → get_elem? vs i ≡ some v → pass_count (set vs i w) + pass_weight v.role ≡ pass_count vs + pass_weight w.role
   passes_set [] i v w e = absurd (some-ne-none v (sym e))
   passes_set (x ∷ xs) zero v w e = let t : pass_weight x.role ≡ pass_weight v.role = ap (λ (z : View E F). pass_weight z.role) (some-injective x v e) in omega arith
   passes_set (x ∷ xs) (suc i) v w e = let t = passes_set xs i v w e in omega arith
 
-  pub passes_end : (vs : List (View E F)) (w : View E F) → passes (vs ++ w ∷ []) ≡ passes vs + pass_weight w.role
+  pub passes_end : (vs : List (View E F)) (w : View E F) → pass_count (vs ++ w ∷ []) ≡ pass_count vs + pass_weight w.role
   passes_end [] w = omega arith
   passes_end (x ∷ xs) w = let t = passes_end xs w in omega arith
 
-  pub passes_at : (vs : List (View E F)) (i : ℕ) (v : View E F) → get_elem? vs i ≡ some v → pass_weight v.role ≤ passes vs
+  pub passes_at : (vs : List (View E F)) (i : ℕ) (v : View E F) → get_elem? vs i ≡ some v → pass_weight v.role ≤ pass_count vs
   passes_at [] i v e = absurd (some-ne-none v (sym e))
   passes_at (x ∷ xs) zero v e = let t : pass_weight x.role ≡ pass_weight v.role = ap (λ (z : View E F). pass_weight z.role) (some-injective x v e) in omega arith
   passes_at (x ∷ xs) (suc i) v e = let t = passes_at xs i v e in omega arith
@@ -112,22 +112,22 @@ other_number made out seat_of j Spent n id mine apart knows m is e = cc
 module _ {E : Type 0} (maker : E → ℕ) where
   pub same_own_itself : (role : Role) (h s : List E) → h ≡ s → SameOwn maker role h s
   same_own_itself (Admits m k) h s e = tt
-  same_own_itself (Plays n) h s e = ap (own maker n) e
+  same_own_itself (Plays n) h s e = ap (entries_by maker n) e
   same_own_itself Spent h s e = tt
 
-  same_own_later : (role : Role) (h h' s : List E) → ((m : ℕ) → role ≡ Plays m → own maker m h' ≡ own maker m h) → SameOwn maker role h s → SameOwn maker role h' s
+  same_own_later : (role : Role) (h h' s : List E) → ((m : ℕ) → role ≡ Plays m → entries_by maker m h' ≡ entries_by maker m h) → SameOwn maker role h s → SameOwn maker role h' s
   same_own_later (Admits m k) h h' s later same = tt
   same_own_later (Plays n) h h' s later same = later n refl ∙ same
   same_own_later Spent h h' s later same = tt
 
   -- those given back stand in a longer list too
-  pub returned_seen : (h : List E) (made : ℕ) (seat_of : ℕ → ℕ) (seen seen' : List E) → StartsWith seen' seen → (gs : List (Given E))
+  pub returned_seen : (h : List E) (made : ℕ) (seat_of : ℕ → ℕ) (seen seen' : List E) → StartsWith seen' seen → (gs : List (GivenBack E))
       → All (Returned maker h made seat_of seen) gs → All (Returned maker h made seat_of seen') gs
   returned_seen h made seat_of seen seen' more gs all = All-weaker (Returned maker h made seat_of seen) (Returned maker h made seat_of seen')
       (λ g x. record { made_before = x.made_before; is_back = x.is_back; begins = starts_through seen' seen (given_list g) more x.begins; own_entries = x.own_entries }) gs all
 
   -- what a list that the keeper may see says of those given back
-  pub has_given : (h l : List E) (made : ℕ) (seat_of : ℕ → ℕ) (seen : List E) → StartsWith h l → StartsWith l seen → (gs : List (Given E))
+  pub has_given : (h l : List E) (made : ℕ) (seat_of : ℕ → ℕ) (seen : List E) → StartsWith h l → StartsWith l seen → (gs : List (GivenBack E))
       → All (Returned maker h made seat_of seen) gs → All (HasGiven maker l) gs
   has_given h l made seat_of seen inside more gs all = All-weaker (Returned maker h made seat_of seen) (HasGiven maker l)
       (λ g x. let begins = starts_through l seen (given_list g) more x.begins in
@@ -136,23 +136,23 @@ module _ {E : Type 0} (maker : E → ℕ) where
   -- the history after the turn of the pass n, which found h and the mark m
   pub record Grows (n : ℕ) (h h' : List E) (m m' : Option ℕ) : Type 0 where
     pub begins : StartsWith h' h
-    pub others : (k : ℕ) → k ≢ n → own maker k h' ≡ own maker k h
+    pub others : (k : ℕ) → k ≢ n → entries_by maker k h' ≡ entries_by maker k h
     pub mark : (m ≡ m') ⊎ (m ≡ None)
 
   pub grows : (n : ℕ) (h h' : List E) (m m' : Option ℕ) → MayBecome maker n h m h' m' → Grows n h h' m m'
   grows n h h' m m' may = ⊎_elim
       (λ (t : AddsOne maker n h h' × (m ≡ None) × (m' ≡ None)). let one = t.0 in let e = one.entry in record {
         begins = starts_same h' (h ++ e ∷ []) h one.after_is (starts_more h (e ∷ []));
-        others = λ k other. ap (own maker k) one.after_is ∙ own_other maker k h e (λ is. other (sym is ∙ one.maker_is));
+        others = λ k other. ap (entries_by maker k) one.after_is ∙ own_other maker k h e (λ is. other (sym is ∙ one.maker_is));
         mark = inr t.1;
       })
       (λ (t : (h' ≡ h) × MaySetMark h m m'). record {
         begins = starts_same h' h h t.0 (starts_itself h);
-        others = λ k other. ap (own maker k) t.0;
+        others = λ k other. ap (entries_by maker k) t.0;
         mark = ⊎_elim (λ (same : m' ≡ m). inl (sym same)) (λ (set_now : (m ≡ None) × (m' ≡ Some (length h))). inr set_now.0) t.1;
       }) may
 
-  pub returned_later : (n id : ℕ) (h h' : List E) (m m' : Option ℕ) (made : ℕ) (seat_of : ℕ → ℕ) (seen : List E) → Grows n h h' m m' → seat_of n ≡ id → 0 < id → (gs : List (Given E))
+  pub returned_later : (n id : ℕ) (h h' : List E) (m m' : Option ℕ) (made : ℕ) (seat_of : ℕ → ℕ) (seen : List E) → Grows n h h' m m' → seat_of n ≡ id → 0 < id → (gs : List (GivenBack E))
       → All (Returned maker h made seat_of seen) gs → All (Returned maker h' made seat_of seen) gs
   returned_later n id h h' m m' made seat_of seen more mine apart gs all = All-weaker (Returned maker h made seat_of seen) (Returned maker h' made seat_of seen)
       (λ g x. record {
@@ -163,8 +163,8 @@ module _ {E : Type 0} (maker : E → ℕ) where
       }) gs all
 
 module _ {E F : Type 0} (maker : E → ℕ) (frame : F) where
-  pub keeper_alone : (d : Facts E) (vs : List (View E F)) (id : ℕ) (v : View E F) → passes vs ≡ 0 → get_elem? vs id ≡ some v → id ≡ 0 → v.holds ≡ false
-      → ((j : ℕ) (x : View E F) → get_elem? vs j ≡ some x → Fits maker frame d j x) → IsHeldBy d.holder vs → ⊥
+  pub keeper_alone : (d : Facts E) (vs : List (View E F)) (id : ℕ) (v : View E F) → pass_count vs ≡ 0 → get_elem? vs id ≡ some v → id ≡ 0 → v.holds ≡ false
+      → ((j : ℕ) (x : View E F) → get_elem? vs j ≡ some x → SeatFits maker frame d j x) → IsHeldBy d.holder vs → ⊥
   keeper_alone d vs id v none at first idle each held = let fits = each d.holder held.view held.there in
       let weight = passes_at vs d.holder held.view held.there in let light : pass_weight held.view.role ≡ 0 = omega arith in
       let seat = live_keeper d.made d.out d.seat_of d.holder held.view.role (fits.live held.holds) light fits.knows in
@@ -173,7 +173,7 @@ module _ {E F : Type 0} (maker : E → ℕ) (frame : F) where
   -- a seat's view says the same where only the turn changes
   pub turn_changes : (d : Facts E) (turn holder j : ℕ) (v : View E F)
       → (v.holds ≡ true → Holding record { history = d.history; mark = d.mark; turn = turn; holder = holder; made = d.made; out = d.out; seat_of = d.seat_of } j v)
-      → Fits maker frame d j v → Fits maker frame record { history = d.history; mark = d.mark; turn = turn; holder = holder; made = d.made; out = d.out; seat_of = d.seat_of } j v
+      → SeatFits maker frame d j v → SeatFits maker frame record { history = d.history; mark = d.mark; turn = turn; holder = holder; made = d.made; out = d.out; seat_of = d.seat_of } j v
   turn_changes d turn holder j v holding f = record {
     begins = f.begins;
     framed = f.framed;
@@ -191,7 +191,7 @@ module _ {E F : Type 0} (maker : E → ℕ) (frame : F) where
 
   -- another seat's view says the same after the turn of the pass n
   pub others_later : (d : Facts E) (h' : List E) (m' : Option ℕ) (n id j : ℕ) (v : View E F) → Grows maker n d.history h' d.mark m' → d.seat_of n ≡ id → 0 < id → j ≢ id → (v.holds ≡ true → ⊥)
-      → Fits maker frame d j v → Fits maker frame record { history = h'; mark = m'; turn = d.turn; holder = d.holder; made = d.made; out = d.out; seat_of = d.seat_of } j v
+      → SeatFits maker frame d j v → SeatFits maker frame record { history = h'; mark = m'; turn = d.turn; holder = d.holder; made = d.made; out = d.out; seat_of = d.seat_of } j v
   others_later d h' m' n id j v more mine high apart free f = record {
     begins = starts_through h' d.history v.seen more.begins f.begins;
     framed = f.framed;

@@ -13,8 +13,8 @@ use Rattle.atomic_table.proofs.Lists.{set_here, set_else, at_longer}
 use Rattle.session_desk.specs.declared.rule.Role.{Role}
 use Rattle.session_desk.specs.declared.rule.Role.TheVariants.{Admits, Plays, Spent}
 use Rattle.session_desk.specs.declared.rule.View.{View}
-use Rattle.session_desk.specs.Histories.{longer, own, first_mark, Given, given_number, HasMet, HasOtherNumber}
-use Rattle.session_desk.specs.Rule.{is_live, pass_weight, passes, Facts, Knows, SameOwn, Balance, Returned, Fits, IsKept, spent_view, more_out, fewer_out, next_pass, given_by, admitting, admitted, taking_back}
+use Rattle.session_desk.specs.Histories.{longer, entries_by, first_mark, GivenBack, given_number, HasMet, HasOtherNumber}
+use Rattle.session_desk.specs.Rule.{is_live, pass_weight, pass_count, Facts, Knows, SameOwn, Balance, Returned, SeatFits, IsRuleKept, spent_view, more_out, fewer_out, next_pass, given_by_role, admitting, admitted, taking_back}
 use Rattle.session_desk.proofs.HistoryLemmas.{begins_longer, longer_begins_first, longer_begins_second, own_beyond, own_none, met_first, marks_later, first_is_kept, second_is_kept}
 use Rattle.session_desk.proofs.SeatLemmas.{put, put_here, put_else, put_same, within, at_end, passes_set, passes_end, passes_at, seats_stay, held_stays, returned_seen}
 
@@ -39,7 +39,7 @@ knows_back made out seat_of n q j (Plays k) other apart is knows = (knows.0, put
 knows_back made out seat_of n q j Spent other apart is knows = tt
 
 module _ {E : Type 0} (maker : E → ℕ) where
-  returned_more : (h : List E) (made : ℕ) (seat_of : ℕ → ℕ) (q : ℕ) (seen : List E) (gs : List (Given E)) → All (Returned maker h made seat_of seen) gs → All (Returned maker h (made + 1) (put seat_of made q) seen) gs
+  returned_more : (h : List E) (made : ℕ) (seat_of : ℕ → ℕ) (q : ℕ) (seen : List E) (gs : List (GivenBack E)) → All (Returned maker h made seat_of seen) gs → All (Returned maker h (made + 1) (put seat_of made q) seen) gs
   returned_more h made seat_of q seen gs all = All-weaker (Returned maker h made seat_of seen) (Returned maker h (made + 1) (put seat_of made q) seen)
       (λ g x. let low = x.made_before in record {
         made_before = omega arith;
@@ -48,15 +48,15 @@ module _ {E : Type 0} (maker : E → ℕ) where
         own_entries = x.own_entries;
       }) gs all
 
-  returned_back : (h : List E) (made : ℕ) (seat_of : ℕ → ℕ) (n : ℕ) (seen : List E) (gs : List (Given E)) → All (Returned maker h made seat_of seen) gs → All (Returned maker h made (put seat_of n 0) seen) gs
+  returned_back : (h : List E) (made : ℕ) (seat_of : ℕ → ℕ) (n : ℕ) (seen : List E) (gs : List (GivenBack E)) → All (Returned maker h made seat_of seen) gs → All (Returned maker h made (put seat_of n 0) seen) gs
   returned_back h made seat_of n seen gs all = All-weaker (Returned maker h made seat_of seen) (Returned maker h made (put seat_of n 0) seen)
       (λ g x. record { made_before = x.made_before; is_back = put_same seat_of n 0 (given_number g) x.is_back; begins = x.begins; own_entries = x.own_entries }) gs all
 
 module _ {O E F : Type 0} (entries : O → List E) (maker : E → ℕ) (marked : O → Option ℕ) (frame_of : O → F) (frame : F) where
   abbrev Rule : State (Option O) (View E F) → Type 0
-  Rule = IsKept entries maker marked frame_of frame
+  Rule = IsRuleKept entries maker marked frame_of frame
 
-  other_more : (d : Facts E) (q j : ℕ) (v : View E F) → j ≢ 0 → Fits maker frame d j v → Fits maker frame (one_more d q) j v
+  other_more : (d : Facts E) (q j : ℕ) (v : View E F) → j ≢ 0 → SeatFits maker frame d j v → SeatFits maker frame (one_more d q) j v
   other_more d q j v other f = record {
     begins = f.begins;
     framed = f.framed;
@@ -72,7 +72,7 @@ module _ {O E F : Type 0} (entries : O → List E) (maker : E → ℕ) (marked :
     earlier = f.earlier;
   }
 
-  keeper_more : (d : Facts E) (q id : ℕ) (v : View E F) (m k : ℕ) → v.role ≡ Admits m k → Fits maker frame d id v → Fits maker frame (one_more d q) id (admitting v)
+  keeper_more : (d : Facts E) (q id : ℕ) (v : View E F) (m k : ℕ) → v.role ≡ Admits m k → SeatFits maker frame d id v → SeatFits maker frame (one_more d q) id (admitting v)
   keeper_more d q id v m k is f = let knows : Knows d.made d.out d.seat_of id (Admits m k) = subst (Knows d.made d.out d.seat_of id) is f.knows in
       let balance : k + length v.given ≡ m = subst (λ (x : Role). Balance x v.given) is f.balance in
       let now : more_out v.role ≡ Admits (m + 1) (k + 1) = ap more_out is in record {
@@ -90,7 +90,7 @@ module _ {O E F : Type 0} (entries : O → List E) (maker : E → ℕ) (marked :
         earlier = f.earlier;
       }
 
-  pass_made : (d : Facts E) (q id : ℕ) (v : View E F) (m k : ℕ) → 0 < q → All (λ e. maker e < d.made) d.history → v.role ≡ Admits m k → Fits maker frame d id v → Fits maker frame (one_more d q) q (admitted v)
+  pass_made : (d : Facts E) (q id : ℕ) (v : View E F) (m k : ℕ) → 0 < q → All (λ e. maker e < d.made) d.history → v.role ≡ Admits m k → SeatFits maker frame d id v → SeatFits maker frame (one_more d q) q (admitted v)
   pass_made d q id v m k high numbers is f = let knows : Knows d.made d.out d.seat_of id (Admits m k) = subst (Knows d.made d.out d.seat_of id) is f.knows in
       let made = knows.0 in let now : next_pass v.role ≡ Plays m = ap next_pass is in let bare = own_beyond maker m d.made d.history numbers (omega arith) in record {
         begins = f.begins;
@@ -123,16 +123,16 @@ module _ {O E F : Type 0} (entries : O → List E) (maker : E → ℕ) (marked :
         held = λ z. let h = held_stays s.views d.holder id v left (r.held z) at idle in
             record { view = h.view; there = at_longer (set s.views id left) (right ∷ []) d.holder h.view h.there; holds = h.holds };
         numbers = All-weaker (λ e. maker e < d.made) (λ e. maker e < d.made + 1) (λ e low. omega arith) d.history r.numbers;
-        counted = let t : passes (set s.views id left ++ right ∷ []) ≡ d.out + 1 = omega arith in t;
+        counted = let t : pass_count (set s.views id left ++ right ∷ []) ≡ d.out + 1 = omega arith in t;
         each_seat = λ j x e. ⊎_elim
-            (λ (t : get_elem? (set s.views id left) j ≡ some x). seats_stay (Fits maker frame d') s.views id left (keeper_more d q id v m k is mine)
+            (λ (t : get_elem? (set s.views id left) j ≡ some x). seats_stay (SeatFits maker frame d') s.views id left (keeper_more d q id v m k is mine)
             (λ i y other there. other_more d q i y (λ z. other (z ∙ sym knows.2)) (r.each_seat i y there)) j x t)
-            (λ (t : (j ≡ length (set s.views id left)) × (right ≡ x)). subst (λ (p : ℕ × View E F). Fits maker frame d' p.0 p.1) (λ i. (sym (t.0 ∙ length-set s.views id left) i, t.1 i))
+            (λ (t : (j ≡ length (set s.views id left)) × (right ≡ x)). subst (λ (p : ℕ × View E F). SeatFits maker frame d' p.0 p.1) (λ i. (sym (t.0 ∙ length-set s.views id left) i, t.1 i))
             (pass_made d q id v m k (omega arith) r.numbers is mine))
             (at_end (set s.views id left) right x j e);
       }
 
-  other_back : (d : Facts E) (n q j : ℕ) (v : View E F) → j ≢ 0 → j ≢ q → d.seat_of n ≡ q → Fits maker frame d j v → Fits maker frame (one_back d n) j v
+  other_back : (d : Facts E) (n q j : ℕ) (v : View E F) → j ≢ 0 → j ≢ q → d.seat_of n ≡ q → SeatFits maker frame d j v → SeatFits maker frame (one_back d n) j v
   other_back d n q j v other apart is f = record {
     begins = f.begins;
     framed = f.framed;
@@ -148,7 +148,7 @@ module _ {O E F : Type 0} (entries : O → List E) (maker : E → ℕ) (marked :
     earlier = f.earlier;
   }
 
-  spent_fits : (d : Facts E) (j : ℕ) → Fits maker frame d j spent_view
+  spent_fits : (d : Facts E) (j : ℕ) → SeatFits maker frame d j spent_view
   spent_fits d j = record {
     begins = (d.history, refl);
     framed = λ h. absurd (false≢true h);
@@ -164,14 +164,14 @@ module _ {O E F : Type 0} (entries : O → List E) (maker : E → ℕ) (marked :
     earlier = ([], refl);
   }
 
-  keeper_back : (d : Facts E) (id : ℕ) (v : View E F) (m k : ℕ) (q : ℕ) (w : View E F) (n : ℕ) → v.role ≡ Admits m k → w.role ≡ Plays n → 0 < d.out → Fits maker frame d id v → Fits maker frame d q w
-      → Fits maker frame (one_back d n) id (taking_back v w)
+  keeper_back : (d : Facts E) (id : ℕ) (v : View E F) (m k : ℕ) (q : ℕ) (w : View E F) (n : ℕ) → v.role ≡ Admits m k → w.role ≡ Plays n → 0 < d.out → SeatFits maker frame d id v → SeatFits maker frame d q w
+      → SeatFits maker frame (one_back d n) id (taking_back v w)
   keeper_back d id v m k q w n is also some_out f o = let knows : Knows d.made d.out d.seat_of id (Admits m k) = subst (Knows d.made d.out d.seat_of id) is f.knows in
       let theirs : Knows d.made d.out d.seat_of q (Plays n) = subst (Knows d.made d.out d.seat_of q) also o.knows in let high = theirs.2 in let out_is = knows.1 in
       let balance : k + length v.given ≡ m = subst (λ (x : Role). Balance x v.given) is f.balance in
-      let own_is : own maker n d.history ≡ own maker n w.seen = subst (λ (x : Role). SameOwn maker x d.history w.seen) also o.same_own in
-      let now : fewer_out v.role ≡ Admits m (k - 1) = ap fewer_out is in let seen : List E = longer v.seen w.seen in let back : Given E = (n, w.seen, w.mark) in
-      let gives : given_by w.role w.seen w.mark ≡ back ∷ [] = ap (λ (x : Role). given_by x w.seen w.mark) also in let mark : Option ℕ = first_mark v.mark w.mark in
+      let own_is : entries_by maker n d.history ≡ entries_by maker n w.seen = subst (λ (x : Role). SameOwn maker x d.history w.seen) also o.same_own in
+      let now : fewer_out v.role ≡ Admits m (k - 1) = ap fewer_out is in let seen : List E = longer v.seen w.seen in let back : GivenBack E = (n, w.seen, w.mark) in
+      let gives : given_by_role w.role w.seen w.mark ≡ back ∷ [] = ap (λ (x : Role). given_by_role x w.seen w.mark) also in let mark : Option ℕ = first_mark v.mark w.mark in
       let first = longer_begins_first d.history v.seen w.seen f.begins o.begins in
       let all = returned_seen maker d.history d.made (put d.seat_of n 0) v.seen seen first v.given (returned_back maker d.history d.made d.seat_of n v.seen v.given f.returned) in record {
         begins = begins_longer d.history v.seen w.seen f.begins o.begins;
@@ -181,13 +181,13 @@ module _ {O E F : Type 0} (entries : O → List E) (maker : E → ℕ) (marked :
         holding = λ h. absurd (false≢true h);
         knows = subst (Knows d.made (d.out - 1) (put d.seat_of n 0) id) (sym now) (knows.0, ap (λ (x : ℕ). x - 1) out_is, knows.2);
         same_own = subst (λ (x : Role). SameOwn maker x d.history seen) (sym now) tt;
-        balance = subst (λ (p : Role × List (Given E)). Balance p.0 (v.given ++ p.1)) (λ i. (sym now i, sym gives i)) (let t : (k - 1) + length (v.given ++ back ∷ []) ≡ m = omega (arith, length-append v.given (back ∷ [])) in t);
-        differ = subst (λ (gs : List (Given E)). AllPairs HasOtherNumber (v.given ++ gs)) (sym gives) (all_pairs_push HasOtherNumber v.given back f.differ
+        balance = subst (λ (p : Role × List (GivenBack E)). Balance p.0 (v.given ++ p.1)) (λ i. (sym now i, sym gives i)) (let t : (k - 1) + length (v.given ++ back ∷ []) ≡ m = omega (arith, length-append v.given (back ∷ [])) in t);
+        differ = subst (λ (gs : List (GivenBack E)). AllPairs HasOtherNumber (v.given ++ gs)) (sym gives) (all_pairs_push HasOtherNumber v.given back f.differ
             (λ i g l e. let x = f.returned i g l in let t : 0 ≡ q = sym x.is_back ∙ (ap d.seat_of e ∙ theirs.1) in omega arith));
-        returned = subst (λ (gs : List (Given E)). All (Returned maker d.history d.made (put d.seat_of n 0) seen) (v.given ++ gs)) (sym gives)
+        returned = subst (λ (gs : List (GivenBack E)). All (Returned maker d.history d.made (put d.seat_of n 0) seen) (v.given ++ gs)) (sym gives)
             (All-push (Returned maker d.history d.made (put d.seat_of n 0) seen) v.given back all
             record { made_before = theirs.0; is_back = put_here d.seat_of n 0 n refl; begins = longer_begins_second d.history v.seen w.seen f.begins o.begins; own_entries = own_is });
-        marks = subst (λ (gs : List (Given E)). All (HasMet mark) (v.given ++ gs)) (sym gives)
+        marks = subst (λ (gs : List (GivenBack E)). All (HasMet mark) (v.given ++ gs)) (sym gives)
             (All-push (HasMet mark) v.given back (marks_later v.mark mark v.given (first_is_kept v.mark w.mark) f.marks) (second_is_kept v.mark w.mark d.mark f.met o.met));
         earlier = first;
       }
@@ -210,10 +210,10 @@ module _ {O E F : Type 0} (entries : O → List E) (maker : E → ℕ) (marked :
         at_home = λ z. let h = r.at_home z in record { object = h.object; home = h.home; entries_are = h.entries_are; mark_is = h.mark_is; frame_is = h.frame_is };
         held = λ z. held_stays vs d.holder q w spent_view (held_stays s.views d.holder id v both (r.held z) at idle) there rests;
         numbers = r.numbers;
-        counted = let t : passes (set vs q spent_view) ≡ d.out - 1 = omega arith in t;
-        each_seat = seats_stay (Fits maker frame d') vs q spent_view (spent_fits d' q)
+        counted = let t : pass_count (set vs q spent_view) ≡ d.out - 1 = omega arith in t;
+        each_seat = seats_stay (SeatFits maker frame d') vs q spent_view (spent_fits d' q)
             (λ j x other e. dite (ℕ_discrete j id)
-            (λ (here : j ≡ id). subst (λ (p : ℕ × View E F). Fits maker frame d' p.0 p.1) (λ i. (sym here i, same_there s.views id j both x here (within s.views id v at) e i))
+            (λ (here : j ≡ id). subst (λ (p : ℕ × View E F). SeatFits maker frame d' p.0 p.1) (λ i. (sym here i, same_there s.views id j both x here (within s.views id v at) e i))
             (keeper_back d id v m k q w n is also (omega arith) mine theirs))
             (λ away. other_back d n q j x (λ z. away (z ∙ sym knows.2)) other known.1 (r.each_seat j x (sym (set_else s.views id j both away) ∙ e))));
       }

@@ -10,8 +10,8 @@ abbrev pub longer : {E : Type 0} → List E → List E → List E
 longer xs ys = if nat_lt (length xs) (length ys) then ys else xs
 
 -- the entries of one maker, in order
-abbrev pub own : {E : Type 0} → (E → ℕ) → ℕ → List E → List E
-own maker n entries = filter (λ e. maker e == n) entries
+abbrev pub entries_by : {E : Type 0} → (E → ℕ) → ℕ → List E → List E
+entries_by maker n entries = filter (λ e. maker e == n) entries
 
 -- one entry of this maker was added at the end
 pub record AddsOne {E : Type 0} (maker : E → ℕ) (who : ℕ) (before after : List E) : Type 0 where
@@ -33,27 +33,27 @@ first_mark (Some k) other = Some k
 first_mark None other = other
 
 -- the number, the list and the mark of a pass that was given back
-abbrev pub Given : Type 0 → Type 0
-Given E = ℕ × List E × Option ℕ
+abbrev pub GivenBack : Type 0 → Type 0
+GivenBack E = ℕ × List E × Option ℕ
 
-abbrev pub given_number : {E : Type 0} → Given E → ℕ
+abbrev pub given_number : {E : Type 0} → GivenBack E → ℕ
 given_number g = g.0
 
-abbrev pub given_list : {E : Type 0} → Given E → List E
+abbrev pub given_list : {E : Type 0} → GivenBack E → List E
 given_list g = g.1
 
-abbrev pub given_mark : {E : Type 0} → Given E → Option ℕ
+abbrev pub given_mark : {E : Type 0} → GivenBack E → Option ℕ
 given_mark g = g.2
 
 -- a history begins with the list of a pass that was given back, and has no other entry with its number
-pub record HasGiven {E : Type 0} (maker : E → ℕ) (history : List E) (g : Given E) : Type 0 where
+pub record HasGiven {E : Type 0} (maker : E → ℕ) (history : List E) (g : GivenBack E) : Type 0 where
   pub begins : StartsWith history (given_list g)
-  pub own_entries : own maker (given_number g) history ≡ own maker (given_number g) (given_list g)
+  pub own_entries : entries_by maker (given_number g) history ≡ entries_by maker (given_number g) (given_list g)
 
 -- a pass that was given back had met this mark or none
-abbrev pub HasMet : {E : Type 0} → Option ℕ → Given E → Type 0
+abbrev pub HasMet : {E : Type 0} → Option ℕ → GivenBack E → Type 0
 HasMet mark g = Met (given_mark g) mark
 
 -- two passes that were given back have different numbers
-abbrev pub HasOtherNumber : {E : Type 0} → Given E → Given E → Type 0
+abbrev pub HasOtherNumber : {E : Type 0} → GivenBack E → GivenBack E → Type 0
 HasOtherNumber g h = given_number g ≡ given_number h → ⊥

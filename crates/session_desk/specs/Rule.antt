@@ -8,7 +8,7 @@ use Rattle.atomic_table.specs.Table.{State, Me, Step}
 use Rattle.session_desk.specs.declared.rule.Role.{Role}
 use Rattle.session_desk.specs.declared.rule.Role.TheVariants.{Admits, Plays, Spent}
 use Rattle.session_desk.specs.declared.rule.View.{View}
-use Rattle.session_desk.specs.Histories.{StartsWith, longer, own, AddsOne, Met, MaySetMark, first_mark, Given, given_number, given_list, HasGiven, HasMet, HasOtherNumber}
+use Rattle.session_desk.specs.Histories.{StartsWith, longer, entries_by, AddsOne, Met, MaySetMark, first_mark, GivenBack, given_number, given_list, HasGiven, HasMet, HasOtherNumber}
 
 -- a keeper's view or a pass's
 abbrev pub is_live : Role → Bool
@@ -23,9 +23,9 @@ pass_weight (Plays number) = 1
 pass_weight Spent = 0
 
 -- how many of the views are passes
-abbrev pub passes : {E F : Type 0} → List (View E F) → ℕ
-passes [] = 0
-passes (v ∷ vs) = pass_weight v.role + passes vs
+abbrev pub pass_count : {E F : Type 0} → List (View E F) → ℕ
+pass_count [] = 0
+pass_count (v ∷ vs) = pass_weight v.role + pass_count vs
 
 -- word 1, of the length and the mark
 abbrev pub length_word : ℕ → Option ℕ → ℕ
@@ -51,22 +51,22 @@ Knows made out seat_of seat Spent = Unit {0}
 
 -- what a pass has seen has all of its own entries
 abbrev pub SameOwn : {E : Type 0} → (E → ℕ) → Role → List E → List E → Type 0
-SameOwn maker (Plays n) history seen = own maker n history ≡ own maker n seen
+SameOwn maker (Plays n) history seen = entries_by maker n history ≡ entries_by maker n seen
 SameOwn maker (Admits m k) history seen = Unit {0}
 SameOwn maker Spent history seen = Unit {0}
 
 -- each pass that was made is out or was given back
-abbrev pub Balance : {E : Type 0} → Role → List (Given E) → Type 0
+abbrev pub Balance : {E : Type 0} → Role → List (GivenBack E) → Type 0
 Balance (Admits m k) given = k + length given ≡ m
 Balance (Plays n) given = Unit {0}
 Balance Spent given = Unit {0}
 
 -- a pass that was given back, whose list the keeper has seen
-pub record Returned {E : Type 0} (maker : E → ℕ) (history : List E) (made : ℕ) (seat_of : ℕ → ℕ) (seen : List E) (g : Given E) : Type 0 where
+pub record Returned {E : Type 0} (maker : E → ℕ) (history : List E) (made : ℕ) (seat_of : ℕ → ℕ) (seen : List E) (g : GivenBack E) : Type 0 where
   pub made_before : given_number g < made
   pub is_back : seat_of (given_number g) ≡ 0
   pub begins : StartsWith seen (given_list g)
-  pub own_entries : own maker (given_number g) history ≡ own maker (given_number g) (given_list g)
+  pub own_entries : entries_by maker (given_number g) history ≡ entries_by maker (given_number g) (given_list g)
 
 -- the view of the seat that has the turn
 pub record Holding {E F : Type 0} (d : Facts E) (seat : ℕ) (v : View E F) : Type 0 where
@@ -76,7 +76,7 @@ pub record Holding {E F : Type 0} (d : Facts E) (seat : ℕ) (v : View E F) : Ty
   pub mark : d.mark ≡ v.mark
 
 -- what one seat's view says
-pub record Fits {E F : Type 0} (maker : E → ℕ) (frame : F) (d : Facts E) (seat : ℕ) (v : View E F) : Type 0 where
+pub record SeatFits {E F : Type 0} (maker : E → ℕ) (frame : F) (d : Facts E) (seat : ℕ) (v : View E F) : Type 0 where
   pub begins : StartsWith d.history v.seen
   pub framed : is_live v.role ≡ true → v.frame ≡ Some frame
   pub met : Met v.mark d.mark
@@ -106,7 +106,7 @@ pub record IsHeldBy {E F : Type 0} (holder : ℕ) (views : List (View E F)) : Ty
   pub holds : view.holds ≡ true
 
 -- the rule
-pub record IsKept {O E F : Type 0} (entries : O → List E) (maker : E → ℕ) (marked : O → Option ℕ) (frame_of : O → F) (frame : F)
+pub record IsRuleKept {O E F : Type 0} (entries : O → List E) (maker : E → ℕ) (marked : O → Option ℕ) (frame_of : O → F) (frame : F)
     (s : State (Option O) (View E F)) : Type 0 where
   pub facts : Facts E
   pub words : s.words ≡ facts.turn ∷ length_word (length facts.history) facts.mark ∷ []
@@ -115,8 +115,8 @@ pub record IsKept {O E F : Type 0} (entries : O → List E) (maker : E → ℕ) 
   pub at_home : facts.turn ≡ 0 → AtHome entries marked frame_of frame facts s.homes
   pub held : facts.turn ≡ 1 → IsHeldBy facts.holder s.views
   pub numbers : All (λ e. maker e < facts.made) facts.history
-  pub counted : passes s.views ≡ facts.out
-  pub each_seat : (j : ℕ) (v : View E F) → get_elem? s.views j ≡ some v → Fits maker frame facts j v
+  pub counted : pass_count s.views ≡ facts.out
+  pub each_seat : (j : ℕ) (v : View E F) → get_elem? s.views j ≡ some v → SeatFits maker frame facts j v
 
 abbrev pub more_out : Role → Role
 more_out (Admits m k) = Admits (m + 1) (k + 1)
@@ -135,10 +135,10 @@ next_pass (Plays n) = Spent
 next_pass Spent = Spent
 
 -- what a seat gives back
-abbrev pub given_by : {E : Type 0} → Role → List E → Option ℕ → List (Given E)
-given_by (Plays n) seen mark = (n, seen, mark) ∷ []
-given_by (Admits m k) seen mark = []
-given_by Spent seen mark = []
+abbrev pub given_by_role : {E : Type 0} → Role → List E → Option ℕ → List (GivenBack E)
+given_by_role (Plays n) seen mark = (n, seen, mark) ∷ []
+given_by_role (Admits m k) seen mark = []
+given_by_role Spent seen mark = []
 
 module _ {E F : Type 0} where
   -- the keeper's view at the start
@@ -163,13 +163,13 @@ module _ {E F : Type 0} where
 
   -- the keeper's view once a pass was given back; it remembers what it had seen before
   abbrev pub taking_back : View E F → View E F → View E F
-  taking_back v w = record { role = fewer_out v.role; holds = false; seen = longer v.seen w.seen; mark = first_mark v.mark w.mark; frame = v.frame; earlier = v.seen; given = v.given ++ given_by w.role w.seen w.mark }
+  taking_back v w = record { role = fewer_out v.role; holds = false; seen = longer v.seen w.seen; mark = first_mark v.mark w.mark; frame = v.frame; earlier = v.seen; given = v.given ++ given_by_role w.role w.seen w.mark }
 
 abbrev pub Sat : Type 0 → Type 0 → Type 0 → Type 0
 Sat O E F = Me (Option O) (View E F)
 
 -- the seat does not have the turn
-pub record IsReady {O E F : Type 0} (role : Role) (me : Sat O E F) : Type 0 where
+pub record IsSeatReady {O E F : Type 0} (role : Role) (me : Sat O E F) : Type 0 where
   pub role_is : me.0.role ≡ role
   pub idle : me.0.holds ≡ false
   pub bare : me.1 ≡ []
@@ -198,7 +198,7 @@ pub record IsInHand {O E F : Type 0} (entries : O → List E) (marked : O → Op
 
 module _ {O E F : Type 0} (entries : O → List E) (maker : E → ℕ) (marked : O → Option ℕ) (frame_of : O → F) where
   -- the turn was free: the seat has it and the object, and has seen all of the history
-  pub record Takes (me after : Sat O E F) : Type 0 where
+  pub record TakesTurn (me after : Sat O E F) : Type 0 where
     pub object : O
     pub slot : after.1 ≡ (0, Some object) ∷ []
     pub view : after.0 ≡ seeing true (entries object) (marked object) me.0
@@ -206,7 +206,7 @@ module _ {O E F : Type 0} (entries : O → List E) (maker : E → ℕ) (marked :
 
   -- an exchange of the turn, free to held. With no pass out the keeper finds it free.
   abbrev pub takes_turn : Step (Option O) → Sat O E F → ℕ → Sat O E F → Type 0
-  takes_turn st me r after = (r ≡ 0 → Takes me after) × (r ≢ 0 → after ≡ me) × ((made : ℕ) → me.0.role ≡ Admits made 0 → r ≡ 0)
+  takes_turn st me r after = (r ≡ 0 → TakesTurn me after) × (r ≢ 0 → after ≡ me) × ((made : ℕ) → me.0.role ≡ Admits made 0 → r ≡ 0)
 
   -- a store of the length and the mark: the holder's list becomes that of the object in hand
   abbrev pub publishes : Step (Option O) → Sat O E F → ℕ → Sat O E F → Type 0
@@ -229,7 +229,7 @@ abbrev pub looks : {O E F : Type 0} → (E → ℕ) → Step (Option O) → Sat 
 looks maker st me r after = Looks maker me.0 r after.0 × (after.1 ≡ me.1)
 
 -- what a keeper's view says by itself
-pub record Tells {E F : Type 0} (maker : E → ℕ) (v : View E F) : Type 0 where
+pub record ViewTells {E F : Type 0} (maker : E → ℕ) (v : View E F) : Type 0 where
   pub balance : Balance v.role v.given
   pub differ : AllPairs HasOtherNumber v.given
   pub given : All (HasGiven maker v.seen) v.given
@@ -238,4 +238,4 @@ pub record Tells {E F : Type 0} (maker : E → ℕ) (v : View E F) : Type 0 wher
 
 -- a load of the turn by the keeper, after a join
 abbrev pub tells : {O E F : Type 0} → (E → ℕ) → Step (Option O) → Sat O E F → ℕ → Sat O E F → Type 0
-tells maker st me r after = (after ≡ me) × Tells maker me.0
+tells maker st me r after = (after ≡ me) × ViewTells maker me.0

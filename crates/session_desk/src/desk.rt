@@ -1,10 +1,10 @@
 //! The desk and its calls.
 ghost use Rattle.std.specs.Prelude.{◌≡◌, ◌↔◌, ◌+◌, ◌<◌, ◌≤◌, ◌++◌, [], ◌∷◌, length, All, AllPairs, Some, None, IsOk, IfOk, IfErr};
 ghost use Rattle.session_desk.specs.Histories.{StartsWith, longer, first_mark, HasGiven, HasMet, HasOtherNumber};
-ghost use Rattle.session_desk.specs.Tokens.{IsOf, IsSamePass, IsSameKeeper, SeesMore, SeesMoreOf, Adds, Refuses, Closes};
+ghost use Rattle.session_desk.specs.Tokens.{IsOf, IsSamePass, IsSameKeeper, SeesMore, SeesMoreOf, PassAdds, PassRefuses, Closes};
 
 use crate::played::Played;
-use crate::plays::{Admit, Look, Return, Take, Tell};
+use crate::plays::{Admit, Look, Return, TakeTurn, Tell};
 use crate::rule::{DeskTable, LENGTH, OBJECT, TURN, TURN_FREE, TURN_HELD};
 use crate::tokens::{Keeper, Out, Pass};
 use crate::turns::{give_turn, publish, take_turn};
@@ -85,8 +85,8 @@ impl<O: Played> Desk<O> {
     ) -> Result<O::Reply, O::Fault>
         requires own { IsOf pass.old.place self.now }
         ensures same { IsSamePass pass.old pass.new }
-        ensures ok { IfOk result (λ reply. Adds O.maker (O.answers self.now.frame) pass.old pass.new mv reply) }
-        ensures fault { IfErr result (λ fault. Refuses O.maker (O.answers self.now.frame) pass.old pass.new mv fault) }
+        ensures ok { IfOk result (λ reply. PassAdds O.maker (O.answers self.now.frame) pass.old pass.new mv reply) }
+        ensures fault { IfErr result (λ fault. PassRefuses O.maker (O.answers self.now.frame) pass.old pass.new mv fault) }
     {
         let shared = &self.table.shared;
         let mut object = take_turn(rt, shared, &mut pass.seat);
@@ -189,7 +189,7 @@ impl<O: Played> Desk<O> {
             mut seat,
         } = keeper;
         let shared = &self.table.shared;
-        shared.compare_exchange::<Take<O>>(&mut seat, TURN, TURN_FREE, TURN_HELD);
+        shared.compare_exchange::<TakeTurn<O>>(&mut seat, TURN, TURN_FREE, TURN_HELD);
         Ok(shared.exchange(&mut seat, OBJECT, None).unwrap())
     }
 }

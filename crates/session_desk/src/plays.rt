@@ -7,11 +7,11 @@ use atomic_table::{Join, Play, Split};
 use std::marker::PhantomData;
 
 /// An exchange of the turn, free to held.
-pub(crate) struct Take<O> {
+pub(crate) struct TakeTurn<O> {
     object: PhantomData<O>,
 }
 
-impl<O: Played> Play<Option<O>, View<O::Entry, O::Frame>> for Take<O> {
+impl<O: Played> Play<Option<O>, View<O::Entry, O::Frame>> for TakeTurn<O> {
     ghost then = { takes_turn O.entries O.maker O.marked O.frame };
 }
 

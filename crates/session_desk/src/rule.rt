@@ -40,9 +40,9 @@ pub struct OneHistory<O> {
 }
 
 impl<O: Played> TableRule<Option<O>, View<O::Entry, O::Frame>, Snapshot<O>> for OneHistory<O> {
-    ghost use Rattle.session_desk.specs.Rule.{IsKept, opening_view};
+    ghost use Rattle.session_desk.specs.Rule.{IsRuleKept, opening_view};
 
-    ghost holds = { λ key. IsKept O.entries O.maker O.marked O.frame (O.frame key.value) };
+    ghost holds = { λ key. IsRuleKept O.entries O.maker O.marked O.frame (O.frame key.value) };
 
     ghost first = { λ key. opening_view (O.frame key.value) };
 }
@@ -80,4 +80,4 @@ pub(crate) type SharedTable<O> = Shared<
 >;
 
 /// A seat at the table.
-pub(crate) type DeskSeat<O> = Seat<Option<O>, View<<O as Played>::Entry, <O as Played>::Frame>>;
+pub(crate) type TableSeat<O> = Seat<Option<O>, View<<O as Played>::Entry, <O as Played>::Frame>>;

@@ -1,28 +1,28 @@
 //! Single turns, by any seat.
 ghost use Rattle.std.specs.Prelude.{◌≡◌, length, true, false, [], ◌∷◌};
 ghost use Rattle.session_desk.specs.declared.rule.Role.TheVariants.{Plays};
-ghost use Rattle.session_desk.specs.Rule.{IsReady, Found, IsInHand, MayBecome, seeing, length_word, is_live};
+ghost use Rattle.session_desk.specs.Rule.{IsSeatReady, Found, IsInHand, MayBecome, seeing, length_word, is_live};
 
 use crate::played::Played;
-use crate::plays::{Free, Publish, Take};
-use crate::rule::{DeskSeat, LENGTH, OBJECT, SharedTable, TURN, TURN_FREE, TURN_HELD};
+use crate::plays::{Free, Publish, TakeTurn};
+use crate::rule::{LENGTH, OBJECT, SharedTable, TURN, TURN_FREE, TURN_HELD, TableSeat};
 use std::sync::Wait;
 
 /// Waits for the turn, and takes it with the object.
 pub(crate) fn take_turn<O: Played, R: Wait>(
     rt: &R,
     shared: &SharedTable<O>,
-    seat: &mut DeskSeat<O>,
+    seat: &mut TableSeat<O>,
 ) -> O
     requires table { (seat.old.table_id ≡ shared.now.table_id) × (shared.now.table_id.words ≡ 2) × (shared.now.table_id.slots ≡ 1) }
     requires live { is_live seat.old.me.0.role ≡ true }
-    requires ready { IsReady seat.old.me.0.role seat.old.me }
+    requires ready { IsSeatReady seat.old.me.0.role seat.old.me }
     ensures seat { seat.new.table_id ≡ seat.old.table_id }
     ensures taken { seat.new.me ≡ (seeing true (O.entries result) (O.marked result) seat.old.me.0, (0, None) ∷ []) }
     ensures found { Found O.entries O.maker O.marked O.frame seat.old.me.0 result }
 {
     for _ in rt.forever() {
-        if shared.compare_exchange::<Take<O>>(seat, TURN, TURN_FREE, TURN_HELD) == TURN_FREE {
+        if shared.compare_exchange::<TakeTurn<O>>(seat, TURN, TURN_FREE, TURN_HELD) == TURN_FREE {
             return shared.exchange(seat, OBJECT, None).unwrap();
         }
         shared.park(rt, TURN, TURN_HELD as u32);
@@ -31,7 +31,7 @@ pub(crate) fn take_turn<O: Played, R: Wait>(
 }
 
 /// Gives the object back as it was found, and lets go of the turn.
-pub(crate) fn give_turn<O: Played>(shared: &SharedTable<O>, seat: &mut DeskSeat<O>, object: O)
+pub(crate) fn give_turn<O: Played>(shared: &SharedTable<O>, seat: &mut TableSeat<O>, object: O)
     requires table { (seat.old.table_id ≡ shared.now.table_id) × (shared.now.table_id.words ≡ 2) × (shared.now.table_id.slots ≡ 1) }
     requires empty { seat.old.me.1 ≡ (0, None) ∷ [] }
     requires hand { IsInHand O.entries O.marked O.frame seat.old.me.0 object }
@@ -56,7 +56,7 @@ fn word_of<O: Played>(object: &O) -> u64
 /// Gives the object back with what the pass `number` made of it, and lets go of the turn.
 pub(crate) fn publish<O: Played>(
     shared: &SharedTable<O>,
-    seat: &mut DeskSeat<O>,
+    seat: &mut TableSeat<O>,
     number: u32,
     object: O,
 )

@@ -17,10 +17,10 @@ is_here Here = true
 is_here _ = false
 
 -- where a client is after an event of its own
-abbrev pub moved_by : Event → Presence → Presence
-moved_by Join p = Here
-moved_by Leave p = Gone
-moved_by _ p = p
+abbrev pub presence_after : Event → Presence → Presence
+presence_after Join p = Here
+presence_after Leave p = Gone
+presence_after _ p = p
 
 -- whether a client may make an event: its coming is first and comes once, and nothing comes behind its going
 abbrev pub may_make : Presence → Event → Bool
@@ -31,14 +31,14 @@ may_make Gone event = false
 -- where a client is behind some entries, from where it was before them
 abbrev pub presence_from : ℕ → Presence → List Entry → Presence
 presence_from who p [] = p
-presence_from who p (entry ∷ entries) = presence_from who (if entry.who == who then moved_by entry.event p else p) entries
+presence_from who p (entry ∷ entries) = presence_from who (if entry.who == who then presence_after entry.event p else p) entries
 
 -- whether a client may make all of its events among some entries, one after another
 abbrev pub may_make_all : ℕ → Presence → List Entry → Bool
 may_make_all who p [] = true
 may_make_all who p (entry ∷ entries) =
     if entry.who == who
-    then may_make p entry.event && may_make_all who (moved_by entry.event p) entries
+    then may_make p entry.event && may_make_all who (presence_after entry.event p) entries
     else may_make_all who p entries
 
 -- each entry is a client's going

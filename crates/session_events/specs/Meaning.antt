@@ -26,12 +26,12 @@ abbrev pub answer_of : Event → Output → Answer Event
 answer_of event output = record { event = event; bytes = drawn_bytes output.drawing; leaving = output.leaving }
 
 -- what an entry is to its client, behind the entries before it; leaving is nothing
-abbrev pub answers_to : Gives → List Entry → Entry → List (Answer Event)
-answers_to gives before entry = if is_leave entry.event then [] else answer_of entry.event (gives before entry) ∷ []
+abbrev pub entry_answers : Gives → List Entry → Entry → List (Answer Event)
+entry_answers gives before entry = if is_leave entry.event then [] else answer_of entry.event (gives before entry) ∷ []
 
 -- what the entries of a session mean
 abbrev pub rules : Gives → Rules Entry Event
-rules gives = record { maker = λ entry. entry.who; event = λ entry. entry.event; answer = answers_to gives }
+rules gives = record { maker = λ entry. entry.who; event = λ entry. entry.event; answer = entry_answers gives }
 
 -- What entries give in any session: who comes is answered by nothing, a key by no drawing, and a drawing lets nobody go.
 pub record IsMeaning (gives : Gives) : Type 0 where

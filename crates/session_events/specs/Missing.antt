@@ -37,7 +37,7 @@ abbrev pub has_missed : ℕ → List Entry → Bool
 has_missed who entries = is_here (presence_from who Away entries) && has_news who entries
 
 -- What a look tells of the entries and the mark that are then seen.
-abbrev pub Tells : Missed → Seated → Type 0
-Tells Nothing seat = (has_missed seat.number seat.seen ≡ false) × (seat.mark ≡ None)
-Tells Something seat = (has_missed seat.number seat.seen ≡ true) × (seat.mark ≡ None)
-Tells (Broken at) seat = seat.mark ≡ Some at
+abbrev pub TellsMissed : Missed → Seated → Type 0
+TellsMissed Nothing seat = (has_missed seat.number seat.seen ≡ false) × (seat.mark ≡ None)
+TellsMissed Something seat = (has_missed seat.number seat.seen ≡ true) × (seat.mark ≡ None)
+TellsMissed (Broken at) seat = seat.mark ≡ Some at

@@ -64,10 +64,10 @@ pub record Sees (gives : Gives) (old new : Seated) : Type 0 where
   pub stands : new.seen ≡ old.seen ++ between
 
 -- the session isn't seen to be broken, unless a step said that it is
-abbrev pub IsWhole : {A : Type 0} → Result A StepFault → Seated → Type 0
-IsWhole (Err (Broken at)) seat = ⊤
-IsWhole (Err NoMemory) seat = ⊤
-IsWhole _ seat = seat.mark ≡ None
+abbrev pub StaysUnbroken : {A : Type 0} → Result A StepFault → Seated → Type 0
+StaysUnbroken (Err (Broken at)) seat = ⊤
+StaysUnbroken (Err NoMemory) seat = ⊤
+StaysUnbroken _ seat = seat.mark ≡ None
 
 -- Why an event was refused, as the entries and the mark that were then seen say, where it is told whether no further client
 -- may come behind some entries. Memory is wanting for no leaving, and where it was, the session has a mark from then on.

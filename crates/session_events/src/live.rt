@@ -2,7 +2,7 @@
 
 ghost use Rattle.std.specs.Prelude.{◌≡◌, IfSome, Some};
 ghost use Rattle.session_events.specs.Seats.{IsIn, IsSameSeat, IsLegalSeat, Sees};
-ghost use Rattle.session_events.specs.Missing.{Tells};
+ghost use Rattle.session_events.specs.Missing.{TellsMissed};
 
 use crate::seat::Seat;
 
@@ -27,6 +27,6 @@ pub trait LiveSeat: Seat {
         ensures sees { Sees Self.gives (Self.seated self.old) (Self.seated self.new) }
         ensures legal { IsLegalSeat (Self.seated self.old) → IsLegalSeat (Self.seated self.new) }
         ensures stays { IsIn (Self.seated self.old) → IsIn (Self.seated self.new) }
-        ensures tells { Tells result (Self.seated self.new) }
+        ensures tells { TellsMissed result (Self.seated self.new) }
         ensures marked { IfSome (Self.seated self.old).mark (λ at. (Self.seated self.new).mark ≡ Some at) };
 }

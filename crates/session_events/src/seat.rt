@@ -6,7 +6,7 @@ ghost use Rattle.session_events.specs.declared.event.Output.{Output};
 ghost use Rattle.session_events.specs.declared.fault.StepFault.TheVariants.{Broken};
 ghost use Rattle.session_events.specs.Entries.{is_leave};
 ghost use Rattle.session_events.specs.Meaning.{IsMeaning};
-ghost use Rattle.session_events.specs.Seats.{Seated, IsIn, IsSameSeat, IsLegalSeat, IsAlone, turned_to, Steps, Sees, Refuses, IsWhole};
+ghost use Rattle.session_events.specs.Seats.{Seated, IsIn, IsSameSeat, IsLegalSeat, IsAlone, turned_to, Steps, Sees, Refuses, StaysUnbroken};
 
 use crate::event::{Event, Output};
 use crate::fault::StepFault;
@@ -40,7 +40,7 @@ pub trait Seat {
         ensures ok { IfOk result (λ output. Steps gives (seated self.old) (seated self.new) event output) }
         ensures err { OnErr result (Sees gives (seated self.old) (seated self.new)) }
         ensures why { IfErr result (λ fault. Refuses crowded fault (seated self.new) event) }
-        ensures whole { IsWhole result (seated self.new) }
+        ensures whole { StaysUnbroken result (seated self.new) }
         ensures marked { IfSome (seated self.old).mark (λ at. (seated self.new).mark ≡ Some at) }
         ensures broken { IfSome (seated self.old).mark (λ at. result ≡ Err (Broken at)) };
 }

@@ -32,7 +32,7 @@ use Rattle.session_lines.specs.Stops.{IsLoss}
 use Rattle.session_lines.specs.Serving.{Service, Serves, HasGone, how_of}
 use Rattle.line_reading.specs.Reading.{IsAll}
 use Rattle.session_lines.specs.Reading.{how_read, WasKept, EndIs}
-use Rattle.session_lines.specs.Connections.{end_of, is_unwritten, Plays, WasServed}
+use Rattle.session_lines.specs.Connections.{connection_end, is_unwritten, Plays, WasServed}
 use Rattle.session_lines.proofs.ReadingLemmas.{stopped-lines}
 use Rattle.session_lines.proofs.ServingLemmas.{serves-append}
 
@@ -155,8 +155,8 @@ lost-stayed : (g : Service) (k : ℕ) (h : List Entry) (got : List (Answer Event
 lost-stayed g k h got f = record { answered = f.answered; stood = inl f.stood }
 
 -- the headline, from what stands
-served : (u : Bool) (g : Service) (x y : Seated) (a b : Outlet) (left rest : Inlet) (r q : Result InputEnd Stop) (z : Seated) → (p : Plays u (Opening ∷ []) g x y a b left rest r) → LinesRead (end_of q) (IsAll left p.bytes) p.bytes (lines_among p.turns)
-    → Stands (protocol g.opens) (rules g.gives) (end_of q) x.number z.seen p.turns p.serves.out → EndIs g.opens (Opening ∷ []) p.turns (answers (rules g.gives) x.number z.seen) q left p.bytes → (w : WasServed u g x.number z.seen a b left rest q) × (w.bytes ≡ p.bytes)
+served : (u : Bool) (g : Service) (x y : Seated) (a b : Outlet) (left rest : Inlet) (r q : Result InputEnd Stop) (z : Seated) → (p : Plays u (Opening ∷ []) g x y a b left rest r) → LinesRead (connection_end q) (IsAll left p.bytes) p.bytes (lines_among p.turns)
+    → Stands (protocol g.opens) (rules g.gives) (connection_end q) x.number z.seen p.turns p.serves.out → EndIs g.opens (Opening ∷ []) p.turns (answers (rules g.gives) x.number z.seen) q left p.bytes → (w : WasServed u g x.number z.seen a b left rest q) × (w.bytes ≡ p.bytes)
 served u g x y a b left rest r q z p l s e = (
   record {
     bytes = p.bytes;
@@ -177,14 +177,14 @@ ended-left : (u : Bool) (g : Service) (x y z : Seated) (a b : Outlet) (left rest
 ended-left u g x y z a b left rest ending p f =
     served u g x y a b left rest (Ok ending) (Ok ending) z p p.lines_are (stands ending p f) (subst (λ got. EndIs g.opens (Opening ∷ []) p.turns got (Ok ending) left p.bytes) (sym f.answered) p.end_is)
   where
-    stands : (ending : InputEnd) (p : Plays u (Opening ∷ []) g x y a b left rest (Ok ending)) → HasLeft (protocol g.opens) (rules g.gives) x.number z.seen p.serves.got → Stands (protocol g.opens) (rules g.gives) (end_of (Ok ending)) x.number z.seen p.turns p.serves.out
+    stands : (ending : InputEnd) (p : Plays u (Opening ∷ []) g x y a b left rest (Ok ending)) → HasLeft (protocol g.opens) (rules g.gives) x.number z.seen p.serves.got → Stands (protocol g.opens) (rules g.gives) (connection_end (Ok ending)) x.number z.seen p.turns p.serves.out
     stands Left p f = left-stands (protocol g.opens) (rules g.gives) x.number z.seen p.turns p.serves.got p.serves.out p.serves.fits f
     stands Ended p f = closed-stands (protocol g.opens) (rules g.gives) x.number z.seen p.turns p.serves.got p.serves.out p.serves.fits f
     stands ReadFault p f = closed-stands (protocol g.opens) (rules g.gives) x.number z.seen p.turns p.serves.got p.serves.out p.serves.fits f
     stands Full p f = closed-stands (protocol g.opens) (rules g.gives) x.number z.seen p.turns p.serves.got p.serves.out p.serves.fits f
 
 -- what was lost, was lost whatever had been played, unless a write failed
-lost-served : (u : Bool) (g : Service) (x y z : Seated) (a b : Outlet) (left rest : Inlet) (r : Result InputEnd Stop) (why : Stop) → end_of (Err why) ≡ Lost → is_unwritten r ≡ false → (p : Plays u (Opening ∷ []) g x y a b left rest r) → HasLost (protocol g.opens) (rules g.gives) x.number z.seen p.serves.got → (w : WasServed u g x.number z.seen a b left rest (Err why)) × (w.bytes ≡ p.bytes)
+lost-served : (u : Bool) (g : Service) (x y z : Seated) (a b : Outlet) (left rest : Inlet) (r : Result InputEnd Stop) (why : Stop) → connection_end (Err why) ≡ Lost → is_unwritten r ≡ false → (p : Plays u (Opening ∷ []) g x y a b left rest r) → HasLost (protocol g.opens) (rules g.gives) x.number z.seen p.serves.got → (w : WasServed u g x.number z.seen a b left rest (Err why)) × (w.bytes ≡ p.bytes)
 lost-served u g x y z a b left rest r why is_lost written p f =
     served u g x y a b left rest r (Err why) z p (subst (λ e. LinesRead e (IsAll left p.bytes) p.bytes (lines_among p.turns)) (sym is_lost) (any-lines r p))
     (subst (λ e. Stands (protocol g.opens) (rules g.gives) e x.number z.seen p.turns p.serves.out) (sym is_lost) (stands r written p f)) tt
@@ -210,7 +210,7 @@ lost-served u g x y z a b left rest r why is_lost written p f =
     stands (Err stop.WriteFault) w p f = cc
 
 -- a leaving that failed is a loss
-loss-is : (why : Stop) (seat : Seated) → IsLoss why seat → end_of (Err why) ≡ Lost
+loss-is : (why : Stop) (seat : Seated) → IsLoss why seat → connection_end (Err why) ≡ Lost
 loss-is stop.HistoryFull seat l = absurd l
 loss-is (stop.Broken at) seat l = refl
 loss-is stop.NoMemory seat l = absurd l

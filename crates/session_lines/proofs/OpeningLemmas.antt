@@ -9,20 +9,20 @@ use Rattle.session_events.specs.declared.event.Event.TheVariants.{Join}
 use Rattle.session_events.specs.declared.event.Answered.{Answered}
 use Rattle.session_events.specs.declared.event.Entry.{Entry}
 use Rattle.session_events.specs.Entries.{entry_with}
-use Rattle.session_events.specs.Meaning.{Gives, IsMeaning, rules, answer_of, answers_to}
+use Rattle.session_events.specs.Meaning.{Gives, IsMeaning, rules, answer_of, entry_answers}
 use Rattle.session_events.specs.Seats.{Seated, IsSameSeat}
 use Rattle.std.specs.declared.result.Result.{Result}
 use Rattle.session_lines.specs.declared.playing.Stop.{Stop}
 use Rattle.session_lines.specs.Session.{keys_played}
 use Rattle.session_lines.specs.declared.playing.Reply.{Reply}
-use Rattle.session_lines.specs.Serving.{AreTaken, AreCut, IsAnswered, Answers, unseen}
+use Rattle.session_lines.specs.Serving.{AreTaken, AreCut, IsAnswered, PhaseAnswers, unseen}
 use Rattle.session_lines.proofs.TakingLemmas.{taken-more, cut-after}
 
 -- what joining is answered
 abbrev join_answer : Answer Event
 join_answer = answer_of Join (record { drawing = None; leaving = false })
 
-answers-join : (g : Gives) (before : List Entry) (who : ℕ) (event : Event) (answers : List Answered) → IsMeaning g → event ≡ Join → answers_to g before (entry_with who event answers) ≡ join_answer ∷ []
+answers-join : (g : Gives) (before : List Entry) (who : ℕ) (event : Event) (answers : List Answered) → IsMeaning g → event ≡ Join → entry_answers g before (entry_with who event answers) ≡ join_answer ∷ []
 answers-join g before who event answers m e = rw e (ap (λ o. answer_of Join o ∷ []) (m.joins before who answers))
 
 joined-step : (t : Bool) (e : Event) (es : List Event) (g h : List (Answer Event)) → (e ≡ Join → g ≡ join_answer ∷ []) → (es ≡ [] → h ≡ []) → (es ≡ Join ∷ [] → h ≡ join_answer ∷ [])
@@ -37,7 +37,7 @@ no-join x e = cc
 joined-answers : (g : Gives) (who : ℕ) (before history : List Entry) → IsMeaning g → own (rules g) who history ≡ Join ∷ [] → answers_behind (rules g) who before history ≡ join_answer ∷ []
 joined-answers g who before [] m e = absurd (no-join Join e)
 joined-answers g who before (n ∷ history) m e =
-    joined-step (n.who == who) n.event (own (rules g) who history) (answers_to g before n) (answers_behind (rules g) who (before ++ n ∷ []) history)
+    joined-step (n.who == who) n.event (own (rules g) who history) (entry_answers g before n) (answers_behind (rules g) who (before ++ n ∷ []) history)
     (answers-join g before n.who n.event n.answers m) (answers_behind-others (rules g) who (before ++ n ∷ []) history) (joined-answers g who (before ++ n ∷ []) history m) e
 
 -- the joining was taken
@@ -61,6 +61,6 @@ opening-taken g x y keys reply m new t = record { out = t.out; taken = taken-mor
 opening-cut : (g : Gives) (x y : Seated) (keys : List Key) (why : Stop) → IsMeaning g → own (rules g) x.number x.seen ≡ Join ∷ [] → AreCut g x y (keys_played keys) why → AreCut g (unseen x) y (Join ∷ keys_played keys) why
 opening-cut g x y keys why m new t = cut-after g (unseen x) x y (Join ∷ []) (keys_played keys) [] false why (same-unseen x) (joined-taken g x m new) t
 
-pub opening-answers : (g : Gives) (x y : Seated) (keys : List Key) (r : Result Reply Stop) → IsMeaning g → own (rules g) x.number x.seen ≡ Join ∷ [] → Answers g x y (keys_played keys) [] r → Answers g (unseen x) y (Join ∷ keys_played keys) [] r
+pub opening-answers : (g : Gives) (x y : Seated) (keys : List Key) (r : Result Reply Stop) → IsMeaning g → own (rules g) x.number x.seen ≡ Join ∷ [] → PhaseAnswers g x y (keys_played keys) [] r → PhaseAnswers g (unseen x) y (Join ∷ keys_played keys) [] r
 opening-answers g x y keys (Ok reply) m new t = opening-taken g x y keys reply m new t
 opening-answers g x y keys (Err why) m new t = opening-cut g x y keys why m new t

@@ -18,9 +18,9 @@ use Rattle.key_names.specs.declared.key.Key.{Key}
 use Rattle.session_events.specs.declared.event.Event.{Event}
 use Rattle.session_events.specs.Seats.{Seated, IsSameSeat}
 use Rattle.line_reading.specs.declared.limits.TheConstants.{MAX_INPUT, MAX_PIECE}
-use Rattle.line_reading.specs.declared.reader.Next.{Next}
-use Rattle.line_reading.specs.declared.reader.Next.TheVariants as next
-use Rattle.line_reading.specs.Reading.{Reading, IsNeeded, IsAll, Reads}
+use Rattle.line_reading.specs.declared.reader.NextLine.{NextLine}
+use Rattle.line_reading.specs.declared.reader.NextLine.TheVariants as next
+use Rattle.line_reading.specs.Reading.{Reading, IsNeeded, IsAll, ReadsCounted}
 use Rattle.line_reading.proofs.CutLemmas.{lines-first, no-lines, all-part, lines-given, part-given, given-pushed, none-pushed}
 use Rattle.session_lines.specs.declared.playing.Stop.{Stop}
 use Rattle.session_lines.specs.declared.playing.Stop.TheVariants as stop
@@ -30,7 +30,7 @@ use Rattle.session_lines.specs.Stops.{IsLoss}
 use Rattle.session_lines.specs.Session.{protocol}
 use Rattle.session_lines.specs.Serving.{Service, Serves, how_of, line_phases}
 use Rattle.session_lines.specs.Reading.{EndIs, FaultIs}
-use Rattle.session_lines.specs.Connections.{end_of, AreAsked, Plays}
+use Rattle.session_lines.specs.Connections.{connection_end, AreAsked, Plays}
 use Rattle.session_lines.proofs.ServingLemmas.{serves-append, serves-over, serves-stopped, serves-nothing, serves-lost}
 
 -- the lines of some turns, and of others behind them
@@ -130,7 +130,7 @@ last-more left rest bytes more pending turns m e none (inr p) l =
     }
 
 -- a call of the reader took what it took
-abbrev pub read-more : {E : Type 0} (u : Bool) (g : Service) (old new : Seated) (a b : Outlet) (left rest more : Inlet) (answer : Result Next E) (was now : Reading) (r : Reads answer was now rest more) → more.most ≡ rest.most
+abbrev pub read-more : {E : Type 0} (u : Bool) (g : Service) (old new : Seated) (a b : Outlet) (left rest more : Inlet) (answer : Result NextLine E) (was now : Reading) (r : ReadsCounted answer was now rest more) → more.most ≡ rest.most
     → HasRead u g old new a b left rest was.taken was.pending → HasRead u g old new a b left more now.taken (was.pending ++ r.bytes)
 read-more u g old new a b left rest more answer was now r m s = record {
   bytes = s.bytes ++ r.bytes;
@@ -147,8 +147,8 @@ read-more u g old new a b left rest more answer was now r m s = record {
 }
 
 -- what a call of the reader told
-pub told : {E : Type 0} (n m : Next) (was now : Reading) (left rest : Inlet) → n ≡ m → Reads {E = E} (Ok n) was now left rest → Reads {E = E} (Ok m) was now left rest
-told {E = E} n m was now left rest e r = subst (λ q. Reads {E = E} (Ok q) was now left rest) e r
+pub told : {E : Type 0} (n m : NextLine) (was now : Reading) (left rest : Inlet) → n ≡ m → ReadsCounted {E = E} (Ok n) was now left rest → ReadsCounted {E = E} (Ok m) was now left rest
+told {E = E} n m was now left rest e r = subst (λ q. ReadsCounted {E = E} (Ok q) was now left rest) e r
 
 -- the input has ended, with all that was taken before
 pub all-behind : (a b : Option (List ℕ)) (bytes more : List ℕ) → Consumes a b bytes → IfSome b (λ input. input ≡ more) → IfSome a (λ input. input ≡ bytes ++ more)
@@ -191,7 +191,7 @@ input-lines bytes behind given e none h =
     ∙ ap (λ q. given ++ as_line q) (ap (last_part []) e ∙ part-given given behind none ∙ all-part behind h)
 
 -- of lines that were cut short, these are those that were read
-pub stopped-lines : (why : Stop) (ended : Type 0) (bytes : List ℕ) (lines : List (List ℕ)) → AreLines ended bytes lines → LinesRead (end_of (Err why)) ended bytes lines
+pub stopped-lines : (why : Stop) (ended : Type 0) (bytes : List ℕ) (lines : List (List ℕ)) → AreLines ended bytes lines → LinesRead (connection_end (Err why)) ended bytes lines
 stopped-lines stop.HistoryFull ended bytes lines a = a
 stopped-lines (stop.Broken at) ended bytes lines a = a
 stopped-lines stop.NoMemory ended bytes lines a = a
@@ -218,7 +218,7 @@ last-behind left bytes turns more l = record {
 }
 
 -- a line was played, and the client stays
-pub line-went : {E : Type 0} (u : Bool) (g : Service) (old mid new : Seated) (a b c : Outlet) (left rest more : Inlet) (was now : Reading) (said : List ℕ) (l : Bool) → l ≡ false → IsSameSeat old mid → said ≡ now.line → more.most ≡ rest.most → (r : Reads {E = E} (Ok next.Line) was now rest more)
+pub line-went : {E : Type 0} (u : Bool) (g : Service) (old mid new : Seated) (a b c : Outlet) (left rest more : Inlet) (was now : Reading) (said : List ℕ) (l : Bool) → l ≡ false → IsSameSeat old mid → said ≡ now.line → more.most ≡ rest.most → (r : ReadsCounted {E = E} (Ok next.Line) was now rest more)
     → (s : HasRead u g old mid a b left rest was.taken was.pending) → Serves g mid new b c (how_of (Ok l)) (line_phases (said ∷ [])) → (p : HasRead u g old new a c left more now.taken now.pending) × (p.bytes ≡ s.bytes ++ r.bytes)
 line-went u g old mid new a b c left rest more was now said l f same e m r s t =
     let h = read-more u g old mid a b left rest more (Ok next.Line) was now r m s in
@@ -289,7 +289,7 @@ stopped-at u g old mid new a b c left rest taken behind line beyond lines why h 
     takes = h.takes;
     few = omega (arith, h.few, h.count);
     turns = with-lines h.turns (line ∷ beyond);
-    lines_are = subst (λ ls. LinesRead (end_of (Err why)) (IsAll left h.bytes) h.bytes ls) (sym (lines-with h.turns (line ∷ beyond) lines cut)) (stopped-lines why (IsAll left h.bytes) h.bytes lines read);
+    lines_are = subst (λ ls. LinesRead (connection_end (Err why)) (IsAll left h.bytes) h.bytes ls) (sym (lines-with h.turns (line ∷ beyond) lines cut)) (stopped-lines why (IsAll left h.bytes) h.bytes lines read);
     asked = λ e. asked-with h.turns (line ∷ beyond) (h.asked e);
     serves = subst (λ ts. Serves g old new a c (how_of (Err why)) ts) (sym (later-append h.turns (turns_of (line ∷ beyond))))
         (serves-append g old mid new a b c (how_of (Err why)) (later h.turns) (line_phases (line ∷ []) ++ line_phases beyond) same h.serves (serves-stopped g mid new b c why (line_phases (line ∷ [])) (line_phases beyond) t));
@@ -304,7 +304,7 @@ as-left g x y a b said line l f e t = subst (λ q. Serves g x y a b Over (line_p
 as-stopped : (g : Service) (x y : Seated) (a b : Outlet) (why : Stop) (said line : List ℕ) → said ≡ line → Serves g x y a b (how_of (Err why)) (line_phases (said ∷ [])) → Serves g x y a b (how_of (Err why)) (line_phases (line ∷ []))
 as-stopped g x y a b why said line e t = subst (λ q. Serves g x y a b (how_of (Err why)) (line_phases (q ∷ []))) e t
 
-pub line-left : {E : Type 0} (u : Bool) (g : Service) (old mid new : Seated) (a b c : Outlet) (left rest more : Inlet) (was now : Reading) (said : List ℕ) (l : Bool) → l ≡ true → IsSameSeat old mid → said ≡ now.line → more.most ≡ rest.most → (r : Reads {E = E} (Ok next.Line) was now rest more)
+pub line-left : {E : Type 0} (u : Bool) (g : Service) (old mid new : Seated) (a b c : Outlet) (left rest more : Inlet) (was now : Reading) (said : List ℕ) (l : Bool) → l ≡ true → IsSameSeat old mid → said ≡ now.line → more.most ≡ rest.most → (r : ReadsCounted {E = E} (Ok next.Line) was now rest more)
     → (s : HasRead u g old mid a b left rest was.taken was.pending) → Serves g mid new b c (how_of (Ok l)) (line_phases (said ∷ [])) → (p : Plays u [] g old new a c left more (Ok Left)) × (p.bytes ≡ s.bytes ++ r.bytes)
 line-left u g old mid new a b c left rest more was now said l f same e m r s t =
     let h = read-more u g old mid a b left rest more (Ok next.Line) was now r m s in
@@ -327,7 +327,7 @@ line-left u g old mid new a b c left rest more was now said l f same e m r s t =
     })))
     (as-left g mid new b c said now.line l f e t)
 
-pub line-stopped : {E : Type 0} (u : Bool) (g : Service) (old mid new : Seated) (a b c : Outlet) (left rest more : Inlet) (was now : Reading) (said : List ℕ) (why : Stop) → IsSameSeat old mid → said ≡ now.line → more.most ≡ rest.most → (r : Reads {E = E} (Ok next.Line) was now rest more)
+pub line-stopped : {E : Type 0} (u : Bool) (g : Service) (old mid new : Seated) (a b c : Outlet) (left rest more : Inlet) (was now : Reading) (said : List ℕ) (why : Stop) → IsSameSeat old mid → said ≡ now.line → more.most ≡ rest.most → (r : ReadsCounted {E = E} (Ok next.Line) was now rest more)
     → (s : HasRead u g old mid a b left rest was.taken was.pending) → Serves g mid new b c (how_of (Err why)) (line_phases (said ∷ [])) → (p : Plays u [] g old new a c left more (Err why)) × (p.bytes ≡ s.bytes ++ r.bytes)
 line-stopped u g old mid new a b c left rest more was now said why same e m r s t =
     let h = read-more u g old mid a b left rest more (Ok next.Line) was now r m s in
@@ -340,7 +340,7 @@ pub last-lines : (bytes behind line : List ℕ) (given : List (List ℕ)) → by
 last-lines bytes behind line given e none all h some =
     input-lines bytes line given (e ∙ ap (λ q. with_newlines given ++ q) all) none h ∙ ap (λ r. given ++ r) (some-line line some)
 
-pub last-went : {E : Type 0} (u : Bool) (g : Service) (old mid new : Seated) (a b c : Outlet) (left rest more : Inlet) (was now : Reading) (said : List ℕ) (l : Bool) → l ≡ false → IsSameSeat old mid → said ≡ now.line → more.most ≡ rest.most → (r : Reads {E = E} (Ok next.Last) was now rest more)
+pub last-went : {E : Type 0} (u : Bool) (g : Service) (old mid new : Seated) (a b c : Outlet) (left rest more : Inlet) (was now : Reading) (said : List ℕ) (l : Bool) → l ≡ false → IsSameSeat old mid → said ≡ now.line → more.most ≡ rest.most → (r : ReadsCounted {E = E} (Ok next.Last) was now rest more)
     → (s : HasRead u g old mid a b left rest was.taken was.pending) → Serves g mid new b c (how_of (Ok l)) (line_phases (said ∷ [])) → (p : Plays u [] g old new a c left more (Ok Ended)) × (p.bytes ≡ s.bytes ++ r.bytes)
 last-went u g old mid new a b c left rest more was now said l f same e m r s t =
     let h = read-more u g old mid a b left rest more (Ok next.Last) was now r m s in
@@ -361,7 +361,7 @@ last-went u g old mid new a b c left rest more was now said l f same e m r s t =
       refl,
     )
 
-pub last-left : {E : Type 0} (u : Bool) (g : Service) (old mid new : Seated) (a b c : Outlet) (left rest more : Inlet) (was now : Reading) (said : List ℕ) (l : Bool) → l ≡ true → IsSameSeat old mid → said ≡ now.line → more.most ≡ rest.most → (r : Reads {E = E} (Ok next.Last) was now rest more)
+pub last-left : {E : Type 0} (u : Bool) (g : Service) (old mid new : Seated) (a b c : Outlet) (left rest more : Inlet) (was now : Reading) (said : List ℕ) (l : Bool) → l ≡ true → IsSameSeat old mid → said ≡ now.line → more.most ≡ rest.most → (r : ReadsCounted {E = E} (Ok next.Last) was now rest more)
     → (s : HasRead u g old mid a b left rest was.taken was.pending) → Serves g mid new b c (how_of (Ok l)) (line_phases (said ∷ [])) → (p : Plays u [] g old new a c left more (Ok Left)) × (p.bytes ≡ s.bytes ++ r.bytes)
 last-left u g old mid new a b c left rest more was now said l f same e m r s t =
     let h = read-more u g old mid a b left rest more (Ok next.Last) was now r m s in
@@ -373,7 +373,7 @@ last-left u g old mid new a b c left rest more was now said l f same e m r s t =
     (λ got kept. inr (inr (all, record { front = s.turns; behind = Said now.line ∷ []; cut = refl; lines = sym whole; stays = kept s.turns [] (sym (append-nil s.turns)) })))
     (as-left g mid new b c said now.line l f e t)
 
-pub last-stopped : {E : Type 0} (u : Bool) (g : Service) (old mid new : Seated) (a b c : Outlet) (left rest more : Inlet) (was now : Reading) (said : List ℕ) (why : Stop) → IsSameSeat old mid → said ≡ now.line → more.most ≡ rest.most → (r : Reads {E = E} (Ok next.Last) was now rest more)
+pub last-stopped : {E : Type 0} (u : Bool) (g : Service) (old mid new : Seated) (a b c : Outlet) (left rest more : Inlet) (was now : Reading) (said : List ℕ) (why : Stop) → IsSameSeat old mid → said ≡ now.line → more.most ≡ rest.most → (r : ReadsCounted {E = E} (Ok next.Last) was now rest more)
     → (s : HasRead u g old mid a b left rest was.taken was.pending) → Serves g mid new b c (how_of (Err why)) (line_phases (said ∷ [])) → (p : Plays u [] g old new a c left more (Err why)) × (p.bytes ≡ s.bytes ++ r.bytes)
 last-stopped u g old mid new a b c left rest more was now said why same e m r s t =
     let h = read-more u g old mid a b left rest more (Ok next.Last) was now r m s in
@@ -383,7 +383,7 @@ last-stopped u g old mid new a b c left rest more was now said why same e m r s 
     (as-stopped g mid new b c why said now.line e t)
 
 -- the input ended behind a newline, or before all bytes
-pub input-ended : {E : Type 0} (u : Bool) (g : Service) (old new : Seated) (a b : Outlet) (left rest more : Inlet) (was now : Reading) → more.most ≡ rest.most → (r : Reads {E = E} (Ok next.Ended) was now rest more)
+pub input-ended : {E : Type 0} (u : Bool) (g : Service) (old new : Seated) (a b : Outlet) (left rest more : Inlet) (was now : Reading) → more.most ≡ rest.most → (r : ReadsCounted {E = E} (Ok next.Ended) was now rest more)
     → (s : HasRead u g old new a b left rest was.taken was.pending) → (p : Plays u [] g old new a b left more (Ok Ended)) × (p.bytes ≡ s.bytes ++ r.bytes)
 input-ended u g old new a b left rest more was now m r s =
     let h = read-more u g old new a b left rest more (Ok next.Ended) was now r m s in
@@ -402,7 +402,7 @@ input-ended u g old new a b left rest more was now m r s =
     )
 
 -- the input failed
-pub input-failed : {E : Type 0} (u : Bool) (g : Service) (old new : Seated) (a b : Outlet) (left rest more : Inlet) (was now : Reading) → more.most ≡ rest.most → (r : Reads {E = E} (Ok next.ReadFault) was now rest more)
+pub input-failed : {E : Type 0} (u : Bool) (g : Service) (old new : Seated) (a b : Outlet) (left rest more : Inlet) (was now : Reading) → more.most ≡ rest.most → (r : ReadsCounted {E = E} (Ok next.ReadFault) was now rest more)
     → (s : HasRead u g old new a b left rest was.taken was.pending) → (p : Plays u [] g old new a b left more (Ok ReadFault)) × (p.bytes ≡ s.bytes ++ r.bytes)
 input-failed u g old new a b left rest more was now m r s =
     let h = read-more u g old new a b left rest more (Ok next.ReadFault) was now r m s in (
@@ -420,7 +420,7 @@ input-failed u g old new a b left rest more was now m r s =
     )
 
 -- all that may be taken was taken
-pub input-full : {E : Type 0} (u : Bool) (g : Service) (old new : Seated) (a b : Outlet) (left rest more : Inlet) (was now : Reading) → more.most ≡ rest.most → (r : Reads {E = E} (Ok next.Full) was now rest more)
+pub input-full : {E : Type 0} (u : Bool) (g : Service) (old new : Seated) (a b : Outlet) (left rest more : Inlet) (was now : Reading) → more.most ≡ rest.most → (r : ReadsCounted {E = E} (Ok next.Full) was now rest more)
     → (s : HasRead u g old new a b left rest was.taken was.pending) → (p : Plays u [] g old new a b left more (Ok Full)) × (p.bytes ≡ s.bytes ++ r.bytes)
 input-full u g old new a b left rest more was now m r s =
     let h = read-more u g old new a b left rest more (Ok next.Full) was now r m s in (
@@ -438,7 +438,7 @@ input-full u g old new a b left rest more was now m r s =
     )
 
 -- memory was wanting for a line
-pub line-lost : {E : Type 0} (e : E) (u : Bool) (g : Service) (old new : Seated) (a b : Outlet) (left rest more : Inlet) (was now : Reading) → IsSameSeat old new → more.most ≡ rest.most → (r : Reads (Err e) was now rest more)
+pub line-lost : {E : Type 0} (e : E) (u : Bool) (g : Service) (old new : Seated) (a b : Outlet) (left rest more : Inlet) (was now : Reading) → IsSameSeat old new → more.most ≡ rest.most → (r : ReadsCounted (Err e) was now rest more)
     → (s : HasRead u g old new a b left rest was.taken was.pending) → (p : Plays u [] g old new a b left more (Err stop.NoMemory)) × (p.bytes ≡ s.bytes ++ r.bytes)
 line-lost e u g old new a b left rest more was now same m r s =
     let h = read-more u g old new a b left rest more (Err e) was now r m s in
@@ -458,7 +458,7 @@ line-lost e u g old new a b left rest more was now same m r s =
     )
 
 -- fewer bytes are left to come, or stand behind a line
-pub line-shorter : {E : Type 0} (left rest : Inlet) (was now : Reading) → Reads {E = E} (Ok next.Line) was now left rest → (MAX_INPUT - now.taken) + length now.pending < (MAX_INPUT - was.taken) + length was.pending
+pub line-shorter : {E : Type 0} (left rest : Inlet) (was now : Reading) → ReadsCounted {E = E} (Ok next.Line) was now left rest → (MAX_INPUT - now.taken) + length now.pending < (MAX_INPUT - was.taken) + length was.pending
 line-shorter left rest was now r =
     omega (arith, r.counted, r.few, ap length r.gives.split, length-append was.pending r.bytes, length-append now.line (10 ∷ now.pending))
 

@@ -13,7 +13,7 @@ use Rattle.session_events.specs.declared.event.Event.TheVariants.{Key as Struck,
 use Rattle.session_events.specs.declared.event.Entry.{Entry}
 use Rattle.session_events.specs.declared.event.Output.{Output}
 use Rattle.session_events.specs.Entries.{entry_with, is_leave}
-use Rattle.session_events.specs.Meaning.{Gives, IsMeaning, rules, answer_of, answers_to, drawn_bytes}
+use Rattle.session_events.specs.Meaning.{Gives, IsMeaning, rules, answer_of, entry_answers, drawn_bytes}
 use Rattle.session_events.specs.Seats.{Seated, IsSameSeat, Steps, Sees}
 use Rattle.session_lines.specs.declared.playing.Stop.{Stop}
 use Rattle.session_lines.specs.declared.playing.Stop.TheVariants as stop
@@ -35,7 +35,7 @@ steps-add : (g : Gives) (x y : Seated) (event : Event) (output : Output) → is_
 steps-add g x y event output stays s =
     let here : List Entry = x.seen ++ s.between in
     let entry : Entry = entry_with x.number event s.answers in
-    let said : answers_to g here entry ≡ answer_of event output ∷ [] = chosen (is_leave event) (answer_of event (g here entry)) stays ∙ ap (λ o. answer_of event o ∷ []) (sym s.is) in
+    let said : entry_answers g here entry ≡ answer_of event output ∷ [] = chosen (is_leave event) (answer_of event (g here entry)) stays ∙ ap (λ o. answer_of event o ∷ []) (sym s.is) in
     let own : Adds (rules g) x.number here (here ++ entry ∷ []) (answer_of event output ∷ []) =
     subst (λ q. Adds (rules g) x.number here (here ++ entry ∷ []) q) said
     (adds-own (rules g) x.number here entry (eq-eqb x.number x.number refl) (ap events_of said)) in

@@ -21,14 +21,14 @@ use Rattle.session_lines.specs.Serving.{Service, Serves}
 use Rattle.session_lines.specs.Reading.{how_read, EndIs}
 
 -- how a connection ended
-abbrev pub end_of : Result InputEnd Stop → End
-end_of (Ok Left) = WasLeft
-end_of (Ok Ended) = Closed
-end_of (Ok ReadFault) = Cut
-end_of (Ok Full) = Cut
-end_of (Err HistoryFull) = Refused
-end_of (Err WriteFault) = Unwritten
-end_of (Err _) = Lost
+abbrev pub connection_end : Result InputEnd Stop → End
+connection_end (Ok Left) = WasLeft
+connection_end (Ok Ended) = Closed
+connection_end (Ok ReadFault) = Cut
+connection_end (Ok Full) = Cut
+connection_end (Err HistoryFull) = Refused
+connection_end (Err WriteFault) = Unwritten
+connection_end (Err _) = Lost
 
 -- whether a write failed
 abbrev pub is_unwritten : Result InputEnd Stop → Bool
@@ -46,7 +46,7 @@ pub record Plays (unasked : Bool) (first : List Phase) (with : Service) (old new
   pub takes : Consumes left.left rest.left bytes
   pub few : length bytes ≤ MAX_INPUT
   pub turns : List Turn
-  pub lines_are : LinesRead (end_of result) (IsAll left bytes) bytes (lines_among turns)
+  pub lines_are : LinesRead (connection_end result) (IsAll left bytes) bytes (lines_among turns)
   pub asked : unasked ≡ false → AreAsked turns
   pub serves : Serves with old new before now (how_read result) (first ++ later turns)
   pub end_is : EndIs with.opens first turns serves.got result left bytes
@@ -61,7 +61,7 @@ pub record WasServed (unasked : Bool) (with : Service) (who : ℕ) (history : Li
   pub asked : unasked ≡ false → AreAsked turns
   pub out : List ℕ
   pub sends : Appends before.told now.told out
-  pub served : IsServed (protocol with.opens) (rules with.gives) (end_of result) who history turns (IsAll left bytes) bytes out
+  pub served : IsServed (protocol with.opens) (rules with.gives) (connection_end result) who history turns (IsAll left bytes) bytes out
   pub end_is : EndIs with.opens (Opening ∷ []) turns (answers (rules with.gives) who history) result left bytes
 
 -- why a connection ended, behind the client's leaving: a full history has more entries than it may have by that leaving

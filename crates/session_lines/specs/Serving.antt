@@ -51,9 +51,9 @@ pub record AreCut (gives : Gives) (old new : Seated) (events : List Event) (why 
   pub short : LeavesOut why (length got) (length events)
 
 -- events that draw nothing were taken, or a beginning of them
-abbrev pub Takes : Gives → Seated → Seated → List Event → Result Bool Stop → Type 0
-Takes gives old new events (Ok leaving) = AreTaken gives old new events [] leaving
-Takes gives old new events (Err why) = AreCut gives old new events why
+abbrev pub TakesEvents : Gives → Seated → Seated → List Event → Result Bool Stop → Type 0
+TakesEvents gives old new events (Ok leaving) = AreTaken gives old new events [] leaving
+TakesEvents gives old new events (Err why) = AreCut gives old new events why
 
 -- the client was drawn, whether it asked for it or not, by which it may not leave, or its drawing was refused
 abbrev pub TakesDrawing : Gives → Bool → Seated → Seated → Result Telling Stop → Type 0
@@ -67,9 +67,9 @@ pub record IsAnswered (gives : Gives) (old new : Seated) (events : List Event) (
   pub told : telling_bytes reply.telling ≡ out ++ said
 
 -- a phase was played, or a beginning of its events was taken
-abbrev pub Answers : Gives → Seated → Seated → List Event → List ℕ → Result Reply Stop → Type 0
-Answers gives old new events said (Ok reply) = IsAnswered gives old new events said reply
-Answers gives old new events said (Err why) = AreCut gives old new events why
+abbrev pub PhaseAnswers : Gives → Seated → Seated → List Event → List ℕ → Result Reply Stop → Type 0
+PhaseAnswers gives old new events said (Ok reply) = IsAnswered gives old new events said reply
+PhaseAnswers gives old new events said (Err why) = AreCut gives old new events why
 
 -- The client left: entries of others may have come before its leaving.
 pub record HasGone (gives : Gives) (old new : Seated) : Type 0 where
@@ -116,6 +116,6 @@ abbrev pub unseen : Seated → Seated
 unseen seat = record seat { seen = [] }
 
 -- where the client stays and nothing stopped, what has come of the next line is kept
-abbrev pub KeepsPart : Result Bool Stop → List ℕ → List ℕ → Type 0
-KeepsPart (Ok false) kept part = kept ≡ part
-KeepsPart _ kept part = ⊤
+abbrev pub KeepsLinePart : Result Bool Stop → List ℕ → List ℕ → Type 0
+KeepsLinePart (Ok false) kept part = kept ≡ part
+KeepsLinePart _ kept part = ⊤

@@ -22,16 +22,16 @@ played_by (Ok (Keys keys)) = keys_played keys
 played_by (Err refusal) = []
 
 -- the bytes of a line's refusal, if it is refused
-abbrev pub refused_by : Result Request Refusal → List ℕ
-refused_by (Ok request) = []
-refused_by (Err refusal) = refusal_bytes refusal
+abbrev pub bytes_of_refusal : Result Request Refusal → List ℕ
+bytes_of_refusal (Ok request) = []
+bytes_of_refusal (Err refusal) = refusal_bytes refusal
 
 -- the protocol of the editor's connections, where these keys are struck before the first drawing
 abbrev pub protocol : List Key → Protocol Event
 protocol opens = record {
   opening = Join ∷ keys_played opens;
   asks = λ line. played_by (read_request line);
-  refuses = λ line. refused_by (read_request line);
+  refuses = λ line. bytes_of_refusal (read_request line);
   idles = Refresh false;
   leaves = Leave;
 }

@@ -6,7 +6,7 @@ ghost use Rattle.session_events.specs.Entries.{is_join, is_leave};
 ghost use Rattle.session_events.specs.Meaning.{IsMeaning, drawn_bytes};
 ghost use Rattle.session_events.specs.Seats.{IsIn, IsSameSeat, IsLegalSeat, Steps, Sees};
 ghost use Rattle.session_lines.specs.Session.{keys_played};
-ghost use Rattle.session_lines.specs.Serving.{telling_bytes, Takes, TakesDrawing, Answers, Leaves};
+ghost use Rattle.session_lines.specs.Serving.{telling_bytes, TakesEvents, TakesDrawing, PhaseAnswers, Leaves};
 ghost use Rattle.session_lines.specs.Stops.{IsReady, Stays, Stops, IsLoss, StaysWhole};
 
 use drawings::{Drawing, Refusal};
@@ -106,7 +106,7 @@ fn strike<S: Seat>(alloc: Global, seat: &mut S, key: Key) -> Result<bool, Stop>
     ensures stays { Stays (S.seated seat.old) (S.seated seat.new) }
     ensures kept { S.kept seat.new ≡ S.kept seat.old }
     ensures whole { StaysWhole result (S.seated seat.old).mark (S.seated seat.new).mark }
-    ensures takes { Takes S.gives (S.seated seat.old) (S.seated seat.new) (Struck key ∷ []) result }
+    ensures takes { TakesEvents S.gives (S.seated seat.old) (S.seated seat.new) (Struck key ∷ []) result }
     ensures stops { Stops result (S.seated seat.new) }
 {
     let output = take(alloc, seat, Event::Key(key))?;
@@ -133,7 +133,7 @@ pub fn answer_idle<S: Seat>(alloc: Global, seat: &mut S) -> Result<Reply, Stop>
     ensures stays { Stays (S.seated seat.old) (S.seated seat.new) }
     ensures kept { S.kept seat.new ≡ S.kept seat.old }
     ensures whole { StaysWhole result (S.seated seat.old).mark (S.seated seat.new).mark }
-    ensures answers { Answers S.gives (S.seated seat.old) (S.seated seat.new) (Refresh false ∷ []) [] result }
+    ensures answers { PhaseAnswers S.gives (S.seated seat.old) (S.seated seat.new) (Refresh false ∷ []) [] result }
     ensures remains { IfOk result (λ reply. reply.leaving ≡ false) }
     ensures stops { Stops result (S.seated seat.new) }
 {
@@ -151,7 +151,7 @@ pub fn play_keys<S: Seat>(alloc: Global, seat: &mut S, keys: &[Key]) -> Result<R
     ensures stays { Stays (S.seated seat.old) (S.seated seat.new) }
     ensures kept { S.kept seat.new ≡ S.kept seat.old }
     ensures whole { StaysWhole result (S.seated seat.old).mark (S.seated seat.new).mark }
-    ensures answers { Answers S.gives (S.seated seat.old) (S.seated seat.new) (keys_played keys.now) [] result }
+    ensures answers { PhaseAnswers S.gives (S.seated seat.old) (S.seated seat.new) (keys_played keys.now) [] result }
     ensures stops { Stops result (S.seated seat.new) }
 {
     let mut leaving = false;

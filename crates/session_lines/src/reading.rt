@@ -10,7 +10,7 @@ ghost use Rattle.session_lines.specs.Stops.{IsReady, Stays, Causes, StaysWhole};
 use crate::playing::Stop;
 use crate::turns::play_line;
 use kak_ports::{Sink, Source};
-use line_reading::{LineReader, Next};
+use line_reading::{LineReader, NextLine};
 use session_events::Seat;
 use std::alloc::Global;
 
@@ -47,21 +47,21 @@ pub fn play_input<S: Seat, I: Source, K: Sink>(
     let mut reader = LineReader::new(alloc);
     'lines: loop {
         match reader.next(source)? {
-            Next::Line => {
+            NextLine::Line => {
                 if play_line(alloc, seat, sink, out, reader.line())? {
                     return Ok(InputEnd::Left);
                 }
             }
-            Next::Last => {
+            NextLine::Last => {
                 let leaving = play_line(alloc, seat, sink, out, reader.line())?;
                 if leaving {
                     return Ok(InputEnd::Left);
                 }
                 return Ok(InputEnd::Ended);
             }
-            Next::Ended => return Ok(InputEnd::Ended),
-            Next::ReadFault => return Ok(InputEnd::ReadFault),
-            Next::Full => return Ok(InputEnd::Full),
+            NextLine::Ended => return Ok(InputEnd::Ended),
+            NextLine::ReadFault => return Ok(InputEnd::ReadFault),
+            NextLine::Full => return Ok(InputEnd::Full),
         }
     }
 }

@@ -7,8 +7,8 @@ ghost use Rattle.session_turns.specs.Histories.{own};
 ghost use Rattle.session_turns.specs.Turns.{Opening};
 ghost use Rattle.session_events.specs.declared.event.Event.TheVariants.{Join};
 ghost use Rattle.session_events.specs.Meaning.{rules};
-ghost use Rattle.session_lines.specs.Session.{keys_played, played_by, refused_by};
-ghost use Rattle.session_lines.specs.Serving.{service, telling_bytes, Answers, Serves, how_of, line_phases, unseen};
+ghost use Rattle.session_lines.specs.Session.{keys_played, played_by, bytes_of_refusal};
+ghost use Rattle.session_lines.specs.Serving.{service, telling_bytes, PhaseAnswers, Serves, how_of, line_phases, unseen};
 ghost use Rattle.session_lines.specs.Sending.{Sends, Counts, Tells};
 ghost use Rattle.session_lines.specs.Stops.{IsReady, Stays, Stops, Causes, StaysWhole};
 
@@ -26,7 +26,7 @@ pub fn answer_line<S: Seat>(alloc: Global, seat: &mut S, line: &[u8]) -> Result<
     ensures stays { Stays (S.seated seat.old) (S.seated seat.new) }
     ensures kept { S.kept seat.new ≡ S.kept seat.old }
     ensures whole { StaysWhole result (S.seated seat.old).mark (S.seated seat.new).mark }
-    ensures answers { Answers S.gives (S.seated seat.old) (S.seated seat.new) (played_by (read_request line.now)) (refused_by (read_request line.now)) result }
+    ensures answers { PhaseAnswers S.gives (S.seated seat.old) (S.seated seat.new) (played_by (read_request line.now)) (bytes_of_refusal (read_request line.now)) result }
     ensures stops { Stops result (S.seated seat.new) }
 {
     match decode_line(alloc, line) {
@@ -50,7 +50,7 @@ pub fn answer_opening<S: Seat>(alloc: Global, seat: &mut S, keys: &[Key]) -> Res
     ensures stays { Stays (S.seated seat.old) (S.seated seat.new) }
     ensures kept { S.kept seat.new ≡ S.kept seat.old }
     ensures whole { StaysWhole result (S.seated seat.old).mark (S.seated seat.new).mark }
-    ensures answers { Answers S.gives (unseen (S.seated seat.old)) (S.seated seat.new) (Join ∷ keys_played keys.now) [] result }
+    ensures answers { PhaseAnswers S.gives (unseen (S.seated seat.old)) (S.seated seat.new) (Join ∷ keys_played keys.now) [] result }
     ensures stops { Stops result (S.seated seat.new) }
 {
     play_keys(alloc, seat, keys)

@@ -17,23 +17,23 @@ use Rattle.session_lines.specs.declared.playing.Stop.TheVariants.{HistoryFull, B
 use Rattle.session_lines.specs.Stops.{StaysWhole}
 use Rattle.session_replay.specs.declared.ends.ReplayEnd.{ReplayEnd}
 use Rattle.session_replay.specs.declared.ends.ReplayEnd.TheVariants as end
-use Rattle.session_replay.specs.declared.players.Client.{Client}
-use Rattle.session_replay.specs.Clients.{Held}
+use Rattle.session_replay.specs.declared.players.ReplayClient.{ReplayClient}
+use Rattle.session_replay.specs.Clients.{HeldClient}
 use Rattle.session_replay.specs.Players.{reports}
-use Rattle.session_replay.specs.Phases.{HoldReports, WasPlayed, IsNoLoss, Halts, AreInOrder}
-use Rattle.session_replay.specs.Replays.{unwritten, Reports, WasReplayed, FaultIs}
+use Rattle.session_replay.specs.Phases.{HoldReports, WasPlayed, IsNoLoss, Halts, ArePlayedInOrder}
+use Rattle.session_replay.specs.Replays.{unwritten, Reports, WasReplayed, ReplayFaultIs}
 use Rattle.session_replay.proofs.ReportLemmas.{reports-are}
 use Rattle.session_replay.proofs.StoppedLemmas.{IsLosing, replayed-lost}
 
 -- the reports of clients, one after another
-reports-flat : (clients : List Client) → flat_map (λ client. client.report.items) clients ≡ flat_map (λ report. report) (reports clients)
+reports-flat : (clients : List ReplayClient) → flat_map (λ client. client.report.items) clients ≡ flat_map (λ report. report) (reports clients)
 reports-flat [] = refl
 reports-flat (client ∷ clients) = ap (λ q. client.report.items ++ q) (reports-flat clients)
 
-all-reports : (clients : List Client) (shown : List Shown) → length clients ≡ length shown → ((who : ℕ) → who < length shown → get_or (reports clients) who [] ≡ report_of (get_or shown who (untold Silent))) → flat_map (λ client. client.report.items) clients ≡ flat_map report_of shown
+all-reports : (clients : List ReplayClient) (shown : List Shown) → length clients ≡ length shown → ((who : ℕ) → who < length shown → get_or (reports clients) who [] ≡ report_of (get_or shown who (untold Silent))) → flat_map (λ client. client.report.items) clients ≡ flat_map report_of shown
 all-reports clients shown count each = reports-flat clients ∙ reports-are shown (reports clients) (length-map clients (λ client. client.report.items) ∙ count) each
 
-held-reports : (ended : Result ReplayEnd Stop) (clients : List Client) (shown : List Shown) (held : ℕ → Held) → length clients ≡ length shown → ((who : ℕ) → (held who).report ≡ get_or (reports clients) who []) → HoldReports ended shown held → IsNoLoss ended → flat_map (λ client. client.report.items) clients ≡ flat_map report_of shown
+held-reports : (ended : Result ReplayEnd Stop) (clients : List ReplayClient) (shown : List Shown) (held : ℕ → HeldClient) → length clients ≡ length shown → ((who : ℕ) → (held who).report ≡ get_or (reports clients) who []) → HoldReports ended shown held → IsNoLoss ended → flat_map (λ client. client.report.items) clients ≡ flat_map report_of shown
 held-reports (Ok by) clients shown held count is h none = all-reports clients shown count (λ who inside. sym (is who) ∙ h who inside)
 held-reports (Err HistoryFull) clients shown held count is h none = all-reports clients shown count (λ who inside. sym (is who) ∙ h who inside)
 held-reports (Err WriteFault) clients shown held count is h none = all-reports clients shown count (λ who inside. sym (is who) ∙ h who inside)
@@ -48,7 +48,7 @@ same-reports (Err (Broken at)) result before now xs ys e r = r
 same-reports (Err NoMemory) result before now xs ys e r = r
 
 -- what was played, behind the reports
-pub played-replayed : (g : Gives) (limit at : ℕ) (kinds : List Kind) (ended result : Result ReplayEnd Stop) (h : List Entry) (held : ℕ → Held) (clients told : List Client) (left rest : Inlet) (before now : Outlet) → at ≡ limit → length clients ≡ length kinds → ((who : ℕ) → (held who).report ≡ get_or (reports clients) who [])
+pub played-replayed : (g : Gives) (limit at : ℕ) (kinds : List Kind) (ended result : Result ReplayEnd Stop) (h : List Entry) (held : ℕ → HeldClient) (clients told : List ReplayClient) (left rest : Inlet) (before now : Outlet) → at ≡ limit → length clients ≡ length kinds → ((who : ℕ) → (held who).report ≡ get_or (reports clients) who [])
     → told ≡ clients → WasPlayed g at kinds ended h held left rest → Reports ended result before now (flat_map (λ client. client.report.items) told) → WasReplayed g limit kinds h left rest before now result
 played-replayed g limit at kinds ended result h held clients told left rest before now e many is t q r =
     let p : WasPlayed g limit kinds ended h held left rest = subst (λ n. WasPlayed g n kinds ended h held left rest) e q in
@@ -67,7 +67,7 @@ played-replayed g limit at kinds ended result h held clients told left rest befo
     }
 
 -- nothing was read where memory was wanting for the clients
-no-order : (g : Gives) (limit count : ℕ) → AreInOrder g limit count [] []
+no-order : (g : Gives) (limit count : ℕ) → ArePlayedInOrder g limit count [] []
 no-order g limit count shown same i inside = absurd (omega (arith, inside))
 
 pub nothing-replayed : (g : Gives) (limit : ℕ) (kinds : List Kind) (h : List Entry) (left : Inlet) (now : Outlet) → h ≡ [] → WasReplayed g limit kinds h left left now now (Err NoMemory)

@@ -6,14 +6,14 @@ use Rattle.std.specs.Io.KnownBytes.{Consumes}
 use Rattle.std.proofs.KnownBytes.{Consumes-nil, Consumes-trans}
 use Rattle.kak_ports.specs.Ports.{Inlet}
 use Rattle.line_reading.specs.declared.limits.TheConstants.{MAX_INPUT, MAX_PIECE}
-use Rattle.line_reading.specs.declared.reader.Next.{Next}
-use Rattle.line_reading.specs.declared.reader.Next.TheVariants as next
-use Rattle.line_reading.specs.Reading.{Reading, IsNeeded, IsAll, Reads}
+use Rattle.line_reading.specs.declared.reader.NextLine.{NextLine}
+use Rattle.line_reading.specs.declared.reader.NextLine.TheVariants as next
+use Rattle.line_reading.specs.Reading.{Reading, IsNeeded, IsAll, ReadsCounted}
 use Rattle.line_reading.proofs.CutLemmas.{no-lines, lines-given, given-pushed, none-pushed}
 use Rattle.session_turns.specs.Lines.{whole_lines, lines_of_input, with_newlines, HasNoNewline}
 use Rattle.session_lines.proofs.ReadingLemmas.{all-behind, lines-behind, lines-all, lines-at, last-lines, input-lines}
 use Rattle.session_replay.specs.Replays.{AreFirst, IsNeededFor}
-use Rattle.session_replay.specs.Phases.{HasGiven, HasFirst, HasAllLines, HasWholeLines}
+use Rattle.session_replay.specs.Phases.{HasGivenLines, HasFirst, HasAllLines, HasWholeLines}
 
 -- of the bytes all but a last piece completed no line that wasn't given out
 pub record LastPiece (left : Inlet) (bytes : List ℕ) (given : List (List ℕ)) : Type 0 where
@@ -72,7 +72,7 @@ begin-reading left reading t p = record {
 }
 
 -- a call of the reader took what it took
-abbrev read-more : {E : Type 0} (left rest more : Inlet) (answer : Result Next E) (was now : Reading) (given : List (List ℕ)) (r : Reads answer was now rest more) → more.most ≡ rest.most
+abbrev read-more : {E : Type 0} (left rest more : Inlet) (answer : Result NextLine E) (was now : Reading) (given : List (List ℕ)) (r : ReadsCounted answer was now rest more) → more.most ≡ rest.most
     → HasRead left rest was.taken was.pending given → HasRead left more now.taken (was.pending ++ r.bytes) given
 read-more left rest more answer was now given r m s = record {
   bytes = s.bytes ++ r.bytes;
@@ -97,7 +97,7 @@ needed-next left bytes line given l = record {
 }
 
 -- a line was given out
-pub line-read : {E : Type 0} (left rest more : Inlet) (was now : Reading) (given : List (List ℕ)) → more.most ≡ rest.most → Reads {E = E} (Ok next.Line) was now rest more
+pub line-read : {E : Type 0} (left rest more : Inlet) (was now : Reading) (given : List (List ℕ)) → more.most ≡ rest.most → ReadsCounted {E = E} (Ok next.Line) was now rest more
     → HasRead left rest was.taken was.pending given → HasRead left more now.taken now.pending (given ++ now.line ∷ [])
 line-read left rest more was now given m r s =
     let h = read-more left rest more (Ok next.Line) was now given r m s in
@@ -120,8 +120,8 @@ line-read left rest more was now given m r s =
       };
     }
 
-pub line-given : {E : Type 0} (left rest more : Inlet) (was now : Reading) (given : List (List ℕ)) → more.most ≡ rest.most → Reads {E = E} (Ok next.Line) was now rest more
-    → HasRead left rest was.taken was.pending given → HasGiven left more (given ++ now.line ∷ [])
+pub line-given : {E : Type 0} (left rest more : Inlet) (was now : Reading) (given : List (List ℕ)) → more.most ≡ rest.most → ReadsCounted {E = E} (Ok next.Line) was now rest more
+    → HasRead left rest was.taken was.pending given → HasGivenLines left more (given ++ now.line ∷ [])
 line-given left rest more was now given m r s =
     let h = read-more left rest more (Ok next.Line) was now given r m s in
     record {
@@ -137,8 +137,8 @@ line-given left rest more was now given m r s =
     }
 
 -- a last line was given out, behind which the input has ended
-pub last-given : {E : Type 0} (left rest more : Inlet) (was now : Reading) (given : List (List ℕ)) → more.most ≡ rest.most → Reads {E = E} (Ok next.Last) was now rest more
-    → HasRead left rest was.taken was.pending given → HasGiven left more (given ++ now.line ∷ [])
+pub last-given : {E : Type 0} (left rest more : Inlet) (was now : Reading) (given : List (List ℕ)) → more.most ≡ rest.most → ReadsCounted {E = E} (Ok next.Last) was now rest more
+    → HasRead left rest was.taken was.pending given → HasGivenLines left more (given ++ now.line ∷ [])
 last-given left rest more was now given m r s =
     let h = read-more left rest more (Ok next.Last) was now given r m s in
     record {
@@ -152,7 +152,7 @@ last-given left rest more was now given m r s =
       needed = needed-next left (s.bytes ++ r.bytes) now.line given h.last;
     }
 
-pub last-all : {E : Type 0} (left rest more : Inlet) (was now : Reading) (given : List (List ℕ)) → more.most ≡ rest.most → Reads {E = E} (Ok next.Last) was now rest more
+pub last-all : {E : Type 0} (left rest more : Inlet) (was now : Reading) (given : List (List ℕ)) → more.most ≡ rest.most → ReadsCounted {E = E} (Ok next.Last) was now rest more
     → HasRead left rest was.taken was.pending given → HasAllLines left more (given ++ now.line ∷ [])
 last-all left rest more was now given m r s =
     let h = read-more left rest more (Ok next.Last) was now given r m s in
@@ -165,7 +165,7 @@ last-all left rest more was now given m r s =
     }
 
 -- the input has ended behind the lines that were given
-pub ended-all : {E : Type 0} (left rest more : Inlet) (was now : Reading) (given : List (List ℕ)) → more.most ≡ rest.most → Reads {E = E} (Ok next.Ended) was now rest more
+pub ended-all : {E : Type 0} (left rest more : Inlet) (was now : Reading) (given : List (List ℕ)) → more.most ≡ rest.most → ReadsCounted {E = E} (Ok next.Ended) was now rest more
     → HasRead left rest was.taken was.pending given → HasAllLines left more given
 ended-all left rest more was now given m r s =
     let h = read-more left rest more (Ok next.Ended) was now given r m s in
@@ -178,7 +178,7 @@ ended-all left rest more was now given m r s =
     }
 
 -- the input failed behind them
-pub fault-whole : {E : Type 0} (left rest more : Inlet) (was now : Reading) (given : List (List ℕ)) → more.most ≡ rest.most → Reads {E = E} (Ok next.ReadFault) was now rest more
+pub fault-whole : {E : Type 0} (left rest more : Inlet) (was now : Reading) (given : List (List ℕ)) → more.most ≡ rest.most → ReadsCounted {E = E} (Ok next.ReadFault) was now rest more
     → HasRead left rest was.taken was.pending given → HasWholeLines left more now.taken given
 fault-whole left rest more was now given m r s =
     let h = read-more left rest more (Ok next.ReadFault) was now given r m s in
@@ -191,7 +191,7 @@ fault-whole left rest more was now given m r s =
     }
 
 -- all that may be taken was taken behind them
-pub full-whole : {E : Type 0} (left rest more : Inlet) (was now : Reading) (given : List (List ℕ)) → more.most ≡ rest.most → Reads {E = E} (Ok next.Full) was now rest more
+pub full-whole : {E : Type 0} (left rest more : Inlet) (was now : Reading) (given : List (List ℕ)) → more.most ≡ rest.most → ReadsCounted {E = E} (Ok next.Full) was now rest more
     → HasRead left rest was.taken was.pending given → HasWholeLines left more MAX_INPUT given
 full-whole left rest more was now given m r s =
     let h = read-more left rest more (Ok next.Full) was now given r m s in
@@ -204,7 +204,7 @@ full-whole left rest more was now given m r s =
     }
 
 -- memory was wanting for a line behind them
-pub none-first : {E : Type 0} (e : E) (left rest more : Inlet) (was now : Reading) (given : List (List ℕ)) → more.most ≡ rest.most → Reads (Err e) was now rest more
+pub none-first : {E : Type 0} (e : E) (left rest more : Inlet) (was now : Reading) (given : List (List ℕ)) → more.most ≡ rest.most → ReadsCounted (Err e) was now rest more
     → HasRead left rest was.taken was.pending given → HasFirst left more given
 none-first e left rest more was now given m r s =
     let h = read-more left rest more (Err e) was now given r m s in

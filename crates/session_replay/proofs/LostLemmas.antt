@@ -21,9 +21,9 @@ use Rattle.session_events.specs.declared.event.Entry.{Entry}
 use Rattle.session_events.specs.Entries.{is_leave}
 use Rattle.session_events.specs.Meaning.{Gives, rules}
 use Rattle.session_lines.specs.Session.{protocol, played_by}
-use Rattle.session_replay.specs.declared.places.Place.{Place}
-use Rattle.session_replay.specs.declared.places.Place.TheVariants as place
-use Rattle.session_replay.specs.Clients.{GotTo, LeftAt, Stands}
+use Rattle.session_replay.specs.declared.places.ClientPlace.{ClientPlace}
+use Rattle.session_replay.specs.declared.places.ClientPlace.TheVariants as place
+use Rattle.session_replay.specs.Clients.{GotTo, LeftAt, ClientStands}
 use Rattle.session_replay.specs.Replays.{StandsAt}
 use Rattle.session_replay.specs.Partings.{StandsLast}
 use Rattle.session_replay.proofs.ClientLemmas.{phases-append}
@@ -73,7 +73,7 @@ left-at-lost g Unsent k h lines told ending some l = absurd ending
 left-at-lost g Lost k h lines told ending some l = absurd ending
 
 -- so it is for a client of a moment
-pub stands-lost : (g : Gives) (p : Place) (k : ℕ) (h : List Entry) (lines : List (List ℕ)) (told : List ℕ) → Stands g p k h lines told → StandsAt WasLost g k h lines told
+pub stands-lost : (g : Gives) (p : ClientPlace) (k : ℕ) (h : List Entry) (lines : List (List ℕ)) (told : List ℕ) → ClientStands g p k h lines told → StandsAt WasLost g k h lines told
 stands-lost g place.Away k h lines told s = never-came WasLost g k h lines told s.0 s.2 s.1
 stands-lost g place.Here k h lines told s = got-at-lost g Whole k h lines told tt s.1 s.2
 stands-lost g place.Gone k h lines told s = left-at-lost g Over k h lines told tt s.0 s.1
@@ -86,7 +86,7 @@ ending-known Short e = tt
 ending-known Unsent e = absurd e
 ending-known Lost e = absurd e
 
-pub last-lost : (g : Gives) (how : How) (p : Place) (k : ℕ) (h : List Entry) (lines : List (List ℕ)) (told : List ℕ) → IsEnding how → StandsLast g how p k h lines told → StandsAt WasLost g k h lines told
+pub last-lost : (g : Gives) (how : How) (p : ClientPlace) (k : ℕ) (h : List Entry) (lines : List (List ℕ)) (told : List ℕ) → IsEnding how → StandsLast g how p k h lines told → StandsAt WasLost g k h lines told
 last-lost g how place.Away k h lines told ending s = by lines s.2
   where
     by : (ls : List (List ℕ)) → (ls ≡ []) ⊎ ((how ≡ Short) × GotTo g Short k h ls told) → StandsAt WasLost g k h ls told

@@ -11,26 +11,26 @@ use Rattle.session_events.specs.declared.event.Event.{Event}
 use Rattle.session_events.specs.declared.event.Event.TheVariants.{Leave}
 use Rattle.session_events.specs.declared.event.Entry.{Entry}
 use Rattle.session_events.specs.Entries.{is_leave}
-use Rattle.session_events.specs.Legal.{Presence, Away, Gone, is_here, moved_by, presence_from}
+use Rattle.session_events.specs.Legal.{Presence, Away, Gone, is_here, presence_after, presence_from}
 use Rattle.session_events.specs.Meaning.{Gives, rules}
-use Rattle.session_replay.specs.declared.places.Place.{Place}
-use Rattle.session_replay.specs.declared.places.Place.TheVariants as place
-use Rattle.session_replay.specs.Clients.{LeftAt, Stands, Held, IsMoment}
+use Rattle.session_replay.specs.declared.places.ClientPlace.{ClientPlace}
+use Rattle.session_replay.specs.declared.places.ClientPlace.TheVariants as place
+use Rattle.session_replay.specs.Clients.{LeftAt, ClientStands, HeldClient, IsMoment}
 use Rattle.session_replay.specs.Replays.{is_over}
 use Rattle.session_replay.proofs.ClientLemmas.{presence-others}
 
 -- where a client is, by its own events
 abbrev moves : Presence → List Event → Presence
 moves p [] = p
-moves p (event ∷ events) = moves (moved_by event p) events
+moves p (event ∷ events) = moves (presence_after event p) events
 
 moves-append : (p : Presence) (a b : List Event) → moves p (a ++ b) ≡ moves (moves p a) b
 moves-append p [] b = refl
-moves-append p (event ∷ a) b = moves-append (moved_by event p) a b
+moves-append p (event ∷ a) b = moves-append (presence_after event p) a b
 
 presence-step : (g : Gives) (k : ℕ) (t : Bool) (p : Presence) (entry : Entry) (h : List Entry) → ((q : Presence) → presence_from k q h ≡ moves q (own (rules g) k h))
-    → presence_from k (if t then moved_by entry.event p else p) h ≡ moves p (if t then entry.event ∷ own (rules g) k h else own (rules g) k h)
-presence-step g k true p entry h next = next (moved_by entry.event p)
+    → presence_from k (if t then presence_after entry.event p else p) h ≡ moves p (if t then entry.event ∷ own (rules g) k h else own (rules g) k h)
+presence-step g k true p entry h next = next (presence_after entry.event p)
 presence-step g k false p entry h next = next p
 
 presence-own : (g : Gives) (k : ℕ) (p : Presence) (h : List Entry) → presence_from k p h ≡ moves p (own (rules g) k h)
@@ -42,7 +42,7 @@ left-is-gone : (g : Gives) (k : ℕ) (h : List Entry) (events : List Event) → 
 left-is-gone g k h events e = presence-own g k Away h ∙ ap (moves Away) e ∙ moves-append Away events (Leave ∷ [])
 
 -- a client that hasn't come, or has gone, isn't here
-not-here : (g : Gives) (p : Place) (k : ℕ) (h : List Entry) (lines : List (List ℕ)) (told : List ℕ) → p ≢ place.Here → Stands g p k h lines told → is_here (presence_from k Away h) ≡ false
+not-here : (g : Gives) (p : ClientPlace) (k : ℕ) (h : List Entry) (lines : List (List ℕ)) (told : List ℕ) → p ≢ place.Here → ClientStands g p k h lines told → is_here (presence_from k Away h) ≡ false
 not-here g place.Away k h lines told differs s = ap is_here (presence-others g k Away h s.0)
 not-here g place.Here k h lines told differs s = absurd (differs refl)
 not-here g place.Gone k h lines told differs s = ap is_here (left-is-gone g k h (events_of s.1.got) s.1.events)
@@ -104,7 +104,7 @@ has-left g k h events e = own-leaving g k h (ap (list_any is_leave) e ∙ list_a
     last false = refl
 
 -- a replay is over where a client has gone, and none is here
-pub gone-over : (g : Gives) (kinds : List Kind) (k : ℕ) (lines mine : List (List ℕ)) (told : List ℕ) (h : List Entry) (held : ℕ → Held) (how : How) → IsMoment g kinds lines h held
+pub gone-over : (g : Gives) (kinds : List Kind) (k : ℕ) (lines mine : List (List ℕ)) (told : List ℕ) (h : List Entry) (held : ℕ → HeldClient) (how : How) → IsMoment g kinds lines h held
     → ((other : ℕ) → other < length kinds → (held other).place ≢ place.Here) → LeftAt g how k h mine told → is_over h ≡ true
 gone-over g kinds k lines mine told h held how m nobody l =
     rw (has-left g k h (events_of l.got) l.events, no-maker (λ n. is_here (presence_from n Away h)) h absent) refl

@@ -12,10 +12,10 @@ use Rattle.session_events.specs.Legal.{Away, is_here, presence_from}
 use Rattle.session_events.specs.Meaning.{Gives, rules}
 use Rattle.session_events.proofs.LegalLemmas.{presence-append}
 use Rattle.session_lines.specs.Session.{protocol}
-use Rattle.session_replay.specs.declared.places.Place.{Place}
-use Rattle.session_replay.specs.declared.places.Place.TheVariants as place
+use Rattle.session_replay.specs.declared.places.ClientPlace.{ClientPlace}
+use Rattle.session_replay.specs.declared.places.ClientPlace.TheVariants as place
 use Rattle.session_replay.specs.Written.{Of, written, lines_for}
-use Rattle.session_replay.specs.Clients.{GotTo, Stands, Held, Keeps, IsClient, IsMoment, GrowsBy}
+use Rattle.session_replay.specs.Clients.{GotTo, ClientStands, HeldClient, Keeps, IsClient, IsMoment, GrowsBy}
 use Rattle.session_replay.specs.Replays.{StandsAt}
 use Rattle.session_replay.specs.Partings.{ends_as, how_at, StandsLast, IsParting, AreParting}
 use Rattle.session_replay.proofs.ClientLemmas.{own-others, presence-others, got-others, left-others, still-strange, lines-others}
@@ -23,12 +23,12 @@ use Rattle.session_replay.proofs.EndingLemmas.{left-closed, left-left, left-refu
 use Rattle.session_replay.specs.Phases.{hows_at, IsEnding}
 
 -- a client of a moment may part
-stands-parting : (g : Gives) (p : Place) (k : ℕ) (h : List Entry) (lines : List (List ℕ)) (told : List ℕ) → Stands g p k h lines told → StandsLast g (how_at p) p k h lines told
+stands-parting : (g : Gives) (p : ClientPlace) (k : ℕ) (h : List Entry) (lines : List (List ℕ)) (told : List ℕ) → ClientStands g p k h lines told → StandsLast g (how_at p) p k h lines told
 stands-parting g place.Away k h lines told s = (s.0, s.2, inl s.1)
 stands-parting g place.Here k h lines told s = s
 stands-parting g place.Gone k h lines told s = s
 
-pub client-parting : (g : Gives) (kind : Kind) (k : ℕ) (h : List Entry) (lines : List (List ℕ)) (held : Held) → IsClient g kind k h lines held → IsParting g kind (how_at held.place) k h lines held
+pub client-parting : (g : Gives) (kind : Kind) (k : ℕ) (h : List Entry) (lines : List (List ℕ)) (held : HeldClient) → IsClient g kind k h lines held → IsParting g kind (how_at held.place) k h lines held
 client-parting g kind k h lines held c = record {
   shown = c.shown;
   kind_is = c.kind_is;
@@ -37,7 +37,7 @@ client-parting g kind k h lines held c = record {
 }
 
 -- behind the last line nobody has parted yet
-pub parting-begins : (g : Gives) (kinds : List Kind) (lines : List (List ℕ)) (h : List Entry) (held : ℕ → Held) → IsMoment g kinds lines h held → AreParting g kinds (λ who. how_at (held who).place) 0 lines h held
+pub parting-begins : (g : Gives) (kinds : List Kind) (lines : List (List ℕ)) (h : List Entry) (held : ℕ → HeldClient) → IsMoment g kinds lines h held → AreParting g kinds (λ who. how_at (held who).place) 0 lines h held
 parting-begins g kinds lines h held m = record {
   clients = λ who inside. client-parting g (get_or kinds who Silent) who h (lines_for (length kinds) who lines) (held who) (m.clients who inside);
   parted = λ who below. absurd (omega (arith, below));
@@ -45,7 +45,7 @@ parting-begins g kinds lines h held m = record {
 }
 
 -- entries of others leave a client where it stands
-pub last-others : (g : Gives) (how : How) (p : Place) (k : ℕ) (h more : List Entry) (lines : List (List ℕ)) (told : List ℕ) → own (rules g) k more ≡ [] → StandsLast g how p k h lines told → StandsLast g how p k (h ++ more) lines told
+pub last-others : (g : Gives) (how : How) (p : ClientPlace) (k : ℕ) (h more : List Entry) (lines : List (List ℕ)) (told : List ℕ) → own (rules g) k more ≡ [] → StandsLast g how p k h lines told → StandsLast g how p k (h ++ more) lines told
 last-others g how place.Away k h more lines told e s = (own-others g k h more e ∙ s.0, s.1, coming s.2)
   where
     coming : (lines ≡ []) ⊎ ((how ≡ Short) × GotTo g Short k h lines told) → (lines ≡ []) ⊎ ((how ≡ Short) × GotTo g Short k (h ++ more) lines told)
@@ -58,7 +58,7 @@ last-others g how place.Here k h more lines told e s = (
 )
 last-others g how place.Gone k h more lines told e s = (s.0, left-others g how k h more lines told e s.1)
 
-other-parting : (g : Gives) (kind : Kind) (how : How) (who other : ℕ) (h h' : List Entry) (lines : List (List ℕ)) (held held' : Held) → GrowsBy g who h h' → other ≢ who → held' ≡ held → IsParting g kind how other h lines held → IsParting g kind how other h' lines held'
+other-parting : (g : Gives) (kind : Kind) (how : How) (who other : ℕ) (h h' : List Entry) (lines : List (List ℕ)) (held held' : HeldClient) → GrowsBy g who h h' → other ≢ who → held' ≡ held → IsParting g kind how other h lines held → IsParting g kind how other h' lines held'
 other-parting g kind how who other h h' lines held held' grows differs same c =
     subst (λ q. IsParting g kind how other h' lines q) (sym same) (record {
       shown = c.shown;
@@ -69,7 +69,7 @@ other-parting g kind how who other h h' lines held held' grows differs same c =
     })
 
 -- one client's place changes, and the others stay
-one-parts : (g : Gives) (kinds : List Kind) (hows hows' : ℕ → How) (who : ℕ) (lines lines' : List (List ℕ)) (h h' : List Entry) (held held' : ℕ → Held)
+one-parts : (g : Gives) (kinds : List Kind) (hows hows' : ℕ → How) (who : ℕ) (lines lines' : List (List ℕ)) (h h' : List Entry) (held held' : ℕ → HeldClient)
     → ((other : ℕ) → other < length kinds → other ≢ who → IsParting g (get_or kinds other Silent) (hows other) other h (lines_for (length kinds) other lines) (held other)) → GrowsBy g who h h'
     → ((other : ℕ) → other ≢ who → lines_for (length kinds) other lines' ≡ lines_for (length kinds) other lines) → ((other : ℕ) → other ≢ who → hows' other ≡ hows other) → ((other : ℕ) → other ≢ who → held' other ≡ held other)
     → IsParting g (get_or kinds who Silent) (hows' who) who h' (lines_for (length kinds) who lines') (held' who)
@@ -91,7 +91,7 @@ pub apart : (n k other : ℕ) → n ≤ other → k < n → other ≢ k
 apart n k other past inside e = absurd (omega (arith, past, e, inside))
 
 -- the next client left
-pub one-parted : (g : Gives) (kinds : List Kind) (hows : ℕ → How) (who : ℕ) (lines : List (List ℕ)) (h h' : List Entry) (held held' : ℕ → Held) → AreParting g kinds hows who lines h held → GrowsBy g who h h' → who < length kinds
+pub one-parted : (g : Gives) (kinds : List Kind) (hows : ℕ → How) (who : ℕ) (lines : List (List ℕ)) (h h' : List Entry) (held held' : ℕ → HeldClient) → AreParting g kinds hows who lines h held → GrowsBy g who h h' → who < length kinds
     → ((other : ℕ) → other ≢ who → held' other ≡ held other) → (held' who).place ≢ place.Here
     → IsParting g (get_or kinds who Silent) (hows who) who h' (lines_for (length kinds) who lines) (held' who) → AreParting g kinds hows (who + 1) lines h' held'
 one-parted g kinds hows who lines h h' held held' m grows inside same gone mine = record {
@@ -107,7 +107,7 @@ one-parted g kinds hows who lines h h' held held' m grows inside same gone mine 
         subst (λ q. q.place ≢ place.Here) (sym (same other differs)) (m.parted other (smaller other who below differs))
 
 -- the next client isn't here
-pub none-parted : (g : Gives) (kinds : List Kind) (hows : ℕ → How) (who : ℕ) (lines : List (List ℕ)) (h : List Entry) (held : ℕ → Held) → AreParting g kinds hows who lines h held → (held who).place ≢ place.Here → AreParting g kinds hows (who + 1) lines h held
+pub none-parted : (g : Gives) (kinds : List Kind) (hows : ℕ → How) (who : ℕ) (lines : List (List ℕ)) (h : List Entry) (held : ℕ → HeldClient) → AreParting g kinds hows who lines h held → (held who).place ≢ place.Here → AreParting g kinds hows (who + 1) lines h held
 none-parted g kinds hows who lines h held m away = record { clients = m.clients; parted = λ other below. by other below (other == who) refl; strangers = m.strangers }
   where
     by : (other : ℕ) → other < who + 1 → (t : Bool) → (other == who) ≡ t → (held other).place ≢ place.Here
@@ -115,7 +115,7 @@ none-parted g kinds hows who lines h held m away = record { clients = m.clients;
     by other below false e = m.parted other (smaller other who below (eqb-false other who e))
 
 -- an event of a client was refused in its line, and it is to part as the others
-pub refused-begins : (g : Gives) (kinds : List Kind) (who : ℕ) (lines : List (List ℕ)) (w line : List ℕ) (h h' : List Entry) (held held' : ℕ → Held) → IsMoment g kinds lines h held → GrowsBy g who h h' → who < length kinds
+pub refused-begins : (g : Gives) (kinds : List Kind) (who : ℕ) (lines : List (List ℕ)) (w line : List ℕ) (h h' : List Entry) (held held' : ℕ → HeldClient) → IsMoment g kinds lines h held → GrowsBy g who h h' → who < length kinds
     → written (length kinds) w ≡ Of who line → ((other : ℕ) → other ≢ who → held' other ≡ held other)
     → IsParting g (get_or kinds who Silent) Short who h' (lines_for (length kinds) who (lines ++ w ∷ [])) (held' who) → AreParting g kinds (hows_at who held) 0 (lines ++ w ∷ []) h' held'
 refused-begins g kinds who lines w line h h' held held' m grows inside is same mine = record {
@@ -142,7 +142,7 @@ refused-at g k h [] told none nothing s = (none, nothing)
 refused-at g k h (line ∷ lines) told none nothing s = never-refused g k h (line ∷ lines) told none s
 
 -- a client that isn't here any more stands as it ended
-pub last-ended : (g : Gives) (how : How) (p : Place) (k : ℕ) (h : List Entry) (lines : List (List ℕ)) (told : List ℕ) → IsEnding how → p ≢ place.Here → StandsLast g how p k h lines told → StandsAt (ends_as how) g k h lines told
+pub last-ended : (g : Gives) (how : How) (p : ClientPlace) (k : ℕ) (h : List Entry) (lines : List (List ℕ)) (told : List ℕ) → IsEnding how → p ≢ place.Here → StandsLast g how p k h lines told → StandsAt (ends_as how) g k h lines told
 last-ended g how place.Here k h lines told ending away s = absurd (away refl)
 last-ended g how place.Away k h lines told ending away s = by s.2
   where
@@ -163,19 +163,19 @@ nothing-told shown e = by shown.kind
     by Json = e
     by Silent = refl
 
-pub last-report : (g : Gives) (kind : Kind) (how : How) (k : ℕ) (h : List Entry) (lines : List (List ℕ)) (held : Held) → held.place ≢ place.Here → (c : IsParting g kind how k h lines held) → held.report ≡ report_of c.shown
+pub last-report : (g : Gives) (kind : Kind) (how : How) (k : ℕ) (h : List Entry) (lines : List (List ℕ)) (held : HeldClient) → held.place ≢ place.Here → (c : IsParting g kind how k h lines held) → held.report ≡ report_of c.shown
 last-report g kind how k h lines held away c = by held.place away c.keeps c.stands
   where
-    by : (p : Place) → p ≢ place.Here → Keeps p held c.shown → StandsLast g how p k h lines (json_lines c.shown.told) → held.report ≡ report_of c.shown
+    by : (p : ClientPlace) → p ≢ place.Here → Keeps p held c.shown → StandsLast g how p k h lines (json_lines c.shown.told) → held.report ≡ report_of c.shown
     by place.Away away keeps stands = keeps.1 ∙ sym (nothing-told c.shown stands.1)
     by place.Here away keeps stands = absurd (away refl)
     by place.Gone away keeps stands = keeps.1
 
 -- behind lines that were played, and one whose event was refused, each client has one of these ways
-pub how-ends : (p : Place) → IsEnding (how_at p)
+pub how-ends : (p : ClientPlace) → IsEnding (how_at p)
 how-ends place.Away = tt
 how-ends place.Here = tt
 how-ends place.Gone = tt
 
-pub hows-end : (who : ℕ) (held : ℕ → Held) (other : ℕ) → IsEnding (hows_at who held other)
+pub hows-end : (who : ℕ) (held : ℕ → HeldClient) (other : ℕ) → IsEnding (hows_at who held other)
 hows-end who held other = elim (other == who) as (λ t. IsEnding (if t then Short else how_at (held other).place)) [ true ↦ tt | false ↦ how-ends (held other).place ]

@@ -4,8 +4,8 @@ use Rattle.std.specs.Prelude.{get_or, Some, None}
 use Rattle.std.specs.declared.option.Option.{Option}
 use Rattle.kak_ports.specs.Ports.{Inlet, Rose}
 use Rattle.ui_board.specs.Told.{Kind, Silent, json_lines}
-use Rattle.line_reading.specs.declared.reader.Next.TheVariants as next
-use Rattle.line_reading.specs.Reading.{Reading, Reads}
+use Rattle.line_reading.specs.declared.reader.NextLine.TheVariants as next
+use Rattle.line_reading.specs.Reading.{Reading, ReadsCounted}
 use Rattle.session_turns.specs.Growth.{Begins, Over}
 use Rattle.session_events.specs.declared.event.Entry.{Entry}
 use Rattle.session_events.specs.Meaning.{Gives}
@@ -13,28 +13,28 @@ use Rattle.session_lines.specs.declared.playing.Stop.{Stop}
 use Rattle.session_lines.specs.declared.playing.Stop.TheVariants.{HistoryFull, Broken, NoMemory, WriteFault}
 use Rattle.session_replay.specs.declared.ends.ReplayEnd.{ReplayEnd}
 use Rattle.session_replay.specs.declared.ends.ReplayEnd.TheVariants as end
-use Rattle.session_replay.specs.declared.places.Place.TheVariants as place
+use Rattle.session_replay.specs.declared.places.ClientPlace.TheVariants as place
 use Rattle.session_replay.specs.declared.players.Taken.{Taken}
 use Rattle.session_replay.specs.declared.players.Taken.TheVariants as taken
 use Rattle.session_replay.specs.Written.{Bad, written, lines_for}
-use Rattle.session_replay.specs.Clients.{Stands, Held, IsClient, IsMoment}
-use Rattle.session_replay.specs.Players.{IsHeldStill, IsPlayed, IsCutOff, SomeIsAt, TakesWritten, AreSomewhere}
-use Rattle.session_replay.specs.Phases.{HasGiven, AreInOrder, HasPlayed, HasFinished, PlaysOn, AllPlayed, HasStopped}
-use Rattle.session_replay.specs.Replays.{is_over, FaultIs}
+use Rattle.session_replay.specs.Clients.{ClientStands, HeldClient, IsClient, IsMoment}
+use Rattle.session_replay.specs.Players.{IsHeldStill, IsPlayed, IsPlayCutOff, SomeIsAt, TakesWritten, AreSomewhere}
+use Rattle.session_replay.specs.Phases.{HasGivenLines, ArePlayedInOrder, HasPlayed, HasFinished, PlaysOn, AllPlayed, HasStopped}
+use Rattle.session_replay.specs.Replays.{is_over, ReplayFaultIs}
 use Rattle.session_replay.proofs.OverLemmas.{here-not-over, gone-over}
 use Rattle.session_replay.proofs.GivenLemmas.{HasRead, begin-reading, line-read, line-given, last-given, last-all, ended-all, fault-whole, full-whole, none-first}
 use Rattle.session_replay.proofs.HeadlineLemmas.{nothing-played, order-behind, line-played, bad-more}
 
 -- a replay isn't over behind a moment at which somebody is here
-some-here : (g : Gives) (kinds : List Kind) (lines : List (List ℕ)) (h : List Entry) (held : ℕ → Held) → IsMoment g kinds lines h held → SomeIsAt place.Here (length kinds) held → is_over h ≡ false
+some-here : (g : Gives) (kinds : List Kind) (lines : List (List ℕ)) (h : List Entry) (held : ℕ → HeldClient) → IsMoment g kinds lines h held → SomeIsAt place.Here (length kinds) held → is_over h ≡ false
 some-here g kinds lines h held m some =
     let c = m.clients some.0 some.1 in
-    let stands : Stands g place.Here some.0 h (lines_for (length kinds) some.0 lines) (json_lines c.shown.told) =
-    subst (λ p. Stands g p some.0 h (lines_for (length kinds) some.0 lines) (json_lines c.shown.told)) some.2 c.stands in
+    let stands : ClientStands g place.Here some.0 h (lines_for (length kinds) some.0 lines) (json_lines c.shown.told) =
+    subst (λ p. ClientStands g p some.0 h (lines_for (length kinds) some.0 lines) (json_lines c.shown.told)) some.2 c.stands in
     here-not-over g some.0 h stands.0
 
 -- one more line was played
-played-more : (g : Gives) (limit : ℕ) (kinds : List Kind) (lines : List (List ℕ)) (w : List ℕ) (old new : List Entry) (before now : ℕ → Held) → HasPlayed g limit kinds lines old before → IsPlayed g kinds lines w old new now → is_over new ≡ false → HasPlayed g limit kinds (lines ++ w ∷ []) new now
+played-more : (g : Gives) (limit : ℕ) (kinds : List Kind) (lines : List (List ℕ)) (w : List ℕ) (old new : List Entry) (before now : ℕ → HeldClient) → HasPlayed g limit kinds lines old before → IsPlayed g kinds lines w old new now → is_over new ≡ false → HasPlayed g limit kinds (lines ++ w ∷ []) new now
 played-more g limit kinds lines w old new before now p q over =
     let more : List Entry = q.grows.0 in
     let e : new ≡ old ++ more = q.grows.1 in
@@ -42,10 +42,10 @@ played-more g limit kinds lines w old new before now p q over =
     (line-played g limit kinds lines w old more before now p (subst (λ h. IsMoment g kinds (lines ++ w ∷ []) h now) e q.moment) q.good (subst (λ h. is_over h ≡ false) e over))
 
 -- what was taken of a line, as the answer says
-taken-as : (g : Gives) (kinds : List Kind) (lines : List (List ℕ)) (w : List ℕ) (old new : List Entry) (before now : ℕ → Held) (t u : Taken) → t ≡ u → TakesWritten g kinds lines w (Ok t) old new before now → TakesWritten g kinds lines w (Ok u) old new before now
+taken-as : (g : Gives) (kinds : List Kind) (lines : List (List ℕ)) (w : List ℕ) (old new : List Entry) (before now : ℕ → HeldClient) (t u : Taken) → t ≡ u → TakesWritten g kinds lines w (Ok t) old new before now → TakesWritten g kinds lines w (Ok u) old new before now
 taken-as g kinds lines w old new before now t u e k = subst (λ q. TakesWritten g kinds lines w (Ok q) old new before now) e k
 
-pub plays-stayed : (g : Gives) (limit : ℕ) (kinds : List Kind) (lines : List (List ℕ)) (w : List ℕ) (old new : List Entry) (before now : ℕ → Held) (t : Taken) → t ≡ taken.Stayed → HasPlayed g limit kinds lines old before → TakesWritten g kinds lines w (Ok t) old new before now
+pub plays-stayed : (g : Gives) (limit : ℕ) (kinds : List Kind) (lines : List (List ℕ)) (w : List ℕ) (old new : List Entry) (before now : ℕ → HeldClient) (t : Taken) → t ≡ taken.Stayed → HasPlayed g limit kinds lines old before → TakesWritten g kinds lines w (Ok t) old new before now
     → HasPlayed g limit kinds (lines ++ w ∷ []) new now
 plays-stayed g limit kinds lines w old new before now t e p k = by (taken-as g kinds lines w old new before now t taken.Stayed e k)
   where
@@ -54,38 +54,38 @@ plays-stayed g limit kinds lines w old new before now t e p k = by (taken-as g k
     by (q, inr same) = played-more g limit kinds lines w old new before now p q (ap is_over same ∙ p.over_is)
 
 -- a client left by the line, and another is here still
-pub plays-left : (g : Gives) (limit count : ℕ) (kinds : List Kind) (lines : List (List ℕ)) (w : List ℕ) (old new : List Entry) (before now : ℕ → Held) (t : Taken) → t ≡ taken.Left → length kinds ≡ count → HasPlayed g limit kinds lines old before → TakesWritten g kinds lines w (Ok t) old new before now
+pub plays-left : (g : Gives) (limit count : ℕ) (kinds : List Kind) (lines : List (List ℕ)) (w : List ℕ) (old new : List Entry) (before now : ℕ → HeldClient) (t : Taken) → t ≡ taken.Left → length kinds ≡ count → HasPlayed g limit kinds lines old before → TakesWritten g kinds lines w (Ok t) old new before now
     → SomeIsAt place.Here count now → HasPlayed g limit kinds (lines ++ w ∷ []) new now
 plays-left g limit count kinds lines w old new before now t e many p k some =
     let q : IsPlayed g kinds lines w old new now = (taken-as g kinds lines w old new before now t taken.Left e k).0 in
     played-more g limit kinds lines w old new before now p q (some-here g kinds (lines ++ w ∷ []) new now q.moment (subst (λ n. SomeIsAt place.Here n now) (sym many) some))
 
 -- or none is, and the replay is over
-pub plays-over : (g : Gives) (limit count : ℕ) (kinds : List Kind) (lines : List (List ℕ)) (w : List ℕ) (old new : List Entry) (before now : ℕ → Held) (t : Taken) → t ≡ taken.Left → length kinds ≡ count → HasPlayed g limit kinds lines old before → TakesWritten g kinds lines w (Ok t) old new before now
+pub plays-over : (g : Gives) (limit count : ℕ) (kinds : List Kind) (lines : List (List ℕ)) (w : List ℕ) (old new : List Entry) (before now : ℕ → HeldClient) (t : Taken) → t ≡ taken.Left → length kinds ≡ count → HasPlayed g limit kinds lines old before → TakesWritten g kinds lines w (Ok t) old new before now
     → ((who : ℕ) → who < count → (now who).place ≢ place.Here) → HasFinished g limit kinds (lines ++ w ∷ []) new now
 plays-over g limit count kinds lines w old new before now t e many p k nobody =
     let left = taken-as g kinds lines w old new before now t taken.Left e k in
     let q : IsPlayed g kinds lines w old new now = left.0 in
     let who : ℕ = left.1.0 in
     let c = q.moment.clients who left.1.1 in
-    let gone : Stands g place.Gone who new (lines_for (length kinds) who (lines ++ w ∷ [])) (json_lines c.shown.told) =
-    subst (λ a. Stands g a who new (lines_for (length kinds) who (lines ++ w ∷ [])) (json_lines c.shown.told)) left.1.2 c.stands in
+    let gone : ClientStands g place.Gone who new (lines_for (length kinds) who (lines ++ w ∷ [])) (json_lines c.shown.told) =
+    subst (λ a. ClientStands g a who new (lines_for (length kinds) who (lines ++ w ∷ [])) (json_lines c.shown.told)) left.1.2 c.stands in
     record {
       moment = q.moment;
       good = bad-more (length kinds) lines w p.good q.good;
       over_is = gone-over g kinds who (lines ++ w ∷ []) (lines_for (length kinds) who (lines ++ w ∷ [])) (json_lines c.shown.told) new now Over q.moment
           (λ other inside. nobody other (subst (λ n. other < n) many inside)) gone.1;
-      order = subst (λ h. AreInOrder g limit (length kinds) (lines ++ w ∷ []) h) (sym q.grows.1) (order-behind g limit kinds lines w old q.grows.0 before p);
+      order = subst (λ h. ArePlayedInOrder g limit (length kinds) (lines ++ w ∷ []) h) (sym q.grows.1) (order-behind g limit kinds lines w old q.grows.0 before p);
     }
 
 -- where nothing was played, all stands as it stood
-moment-still : (g : Gives) (kinds : List Kind) (lines : List (List ℕ)) (old new : List Entry) (before now : ℕ → Held) → new ≡ old → IsHeldStill before now → IsMoment g kinds lines old before → IsMoment g kinds lines new now
+moment-still : (g : Gives) (kinds : List Kind) (lines : List (List ℕ)) (old new : List Entry) (before now : ℕ → HeldClient) → new ≡ old → IsHeldStill before now → IsMoment g kinds lines old before → IsMoment g kinds lines new now
 moment-still g kinds lines old new before now e same m = subst (λ h. IsMoment g kinds lines h now) (sym e) (record {
   clients = λ who inside. subst (λ q. IsClient g (get_or kinds who Silent) who old (lines_for (length kinds) who lines) q) (sym (same who)) (m.clients who inside);
   strangers = m.strangers;
 })
 
-pub plays-bad : (g : Gives) (limit : ℕ) (kinds : List Kind) (lines : List (List ℕ)) (w : List ℕ) (old new : List Entry) (before now : ℕ → Held) (t : Taken) → t ≡ taken.Bad → HasPlayed g limit kinds lines old before → TakesWritten g kinds lines w (Ok t) old new before now
+pub plays-bad : (g : Gives) (limit : ℕ) (kinds : List Kind) (lines : List (List ℕ)) (w : List ℕ) (old new : List Entry) (before now : ℕ → HeldClient) (t : Taken) → t ≡ taken.Bad → HasPlayed g limit kinds lines old before → TakesWritten g kinds lines w (Ok t) old new before now
     → (written (length kinds) w ≡ Bad) × HasPlayed g limit kinds lines new now
 plays-bad g limit kinds lines w old new before now t e p k =
     let bad = taken-as g kinds lines w old new before now t taken.Bad e k in
@@ -93,27 +93,27 @@ plays-bad g limit kinds lines w old new before now t e p k =
     (bad.0, subst (λ h. HasPlayed g limit kinds lines h now) (sym bad.1) then)
 
 -- While lines are read and played: these were, and this was taken for them.
-pub record AreReading (g : Gives) (limit : ℕ) (kinds : List Kind) (h : List Entry) (held : ℕ → Held) (left rest : Inlet) (reading : Reading) : Type 0 where
+pub record AreReading (g : Gives) (limit : ℕ) (kinds : List Kind) (h : List Entry) (held : ℕ → HeldClient) (left rest : Inlet) (reading : Reading) : Type 0 where
   pub lines : List (List ℕ)
   pub played : HasPlayed g limit kinds lines h held
   pub read : HasRead left rest reading.taken reading.pending lines
 
-pub reading-begins : (g : Gives) (limit : ℕ) (kinds : List Kind) (h : List Entry) (held : ℕ → Held) (left : Inlet) (reading : Reading) → h ≡ [] → IsMoment g kinds [] h held → reading.taken ≡ 0 → reading.pending ≡ [] → AreReading g limit kinds h held left left reading
+pub reading-begins : (g : Gives) (limit : ℕ) (kinds : List Kind) (h : List Entry) (held : ℕ → HeldClient) (left : Inlet) (reading : Reading) → h ≡ [] → IsMoment g kinds [] h held → reading.taken ≡ 0 → reading.pending ≡ [] → AreReading g limit kinds h held left left reading
 reading-begins g limit kinds h held left reading e m none nothing = record {
   lines = [];
   played = subst (λ q. HasPlayed g limit kinds [] q held) (sym e) (nothing-played g limit kinds held (subst (λ q. IsMoment g kinds [] q held) e m));
   read = begin-reading left reading none nothing;
 }
 
-pub reading-somewhere : (g : Gives) (limit count now : ℕ) (kinds : List Kind) (h : List Entry) (held : ℕ → Held) (left rest : Inlet) (reading : Reading) → length kinds ≡ count → now ≡ count → AreReading g limit kinds h held left rest reading → AreSomewhere g now h held
+pub reading-somewhere : (g : Gives) (limit count now : ℕ) (kinds : List Kind) (h : List Entry) (held : ℕ → HeldClient) (left rest : Inlet) (reading : Reading) → length kinds ≡ count → now ≡ count → AreReading g limit kinds h held left rest reading → AreSomewhere g now h held
 reading-somewhere g limit count now kinds h held left rest reading many same r = record { kinds = kinds; lines = r.lines; many = many ∙ sym same; moment = r.played.moment }
 
 -- memory was wanting for a line
-pub next-lost : {E : Type 0} (e : E) (g : Gives) (limit : ℕ) (kinds : List Kind) (h : List Entry) (held : ℕ → Held) (left rest more : Inlet) (was now : Reading) → more.most ≡ rest.most → Reads (Err e) was now rest more → AreReading g limit kinds h held left rest was → HasStopped g limit kinds (Err NoMemory) h held left more
+pub next-lost : {E : Type 0} (e : E) (g : Gives) (limit : ℕ) (kinds : List Kind) (h : List Entry) (held : ℕ → HeldClient) (left rest more : Inlet) (was now : Reading) → more.most ≡ rest.most → ReadsCounted (Err e) was now rest more → AreReading g limit kinds h held left rest was → HasStopped g limit kinds (Err NoMemory) h held left more
 next-lost e g limit kinds h held left rest more was now m r s = inl (refl, record { lines = s.lines; played = s.played; read = none-first e left rest more was now s.lines m r s.read })
 
 -- a line was played
-pub line-on : {E : Type 0} (g : Gives) (limit : ℕ) (kinds : List Kind) (old new : List Entry) (before held : ℕ → Held) (left rest more : Inlet) (was now : Reading) (said : List ℕ) (o : Option ReplayEnd) → o ≡ None → said ≡ now.line → more.most ≡ rest.most → Reads {E = E} (Ok next.Line) was now rest more
+pub line-on : {E : Type 0} (g : Gives) (limit : ℕ) (kinds : List Kind) (old new : List Entry) (before held : ℕ → HeldClient) (left rest more : Inlet) (was now : Reading) (said : List ℕ) (o : Option ReplayEnd) → o ≡ None → said ≡ now.line → more.most ≡ rest.most → ReadsCounted {E = E} (Ok next.Line) was now rest more
     → (s : AreReading g limit kinds old before left rest was) → PlaysOn g limit kinds s.lines said (Ok o) old new before held → AreReading g limit kinds new held left more now
 line-on g limit kinds old new before held left rest more was now said o f e m r s p = record {
   lines = s.lines ++ now.line ∷ [];
@@ -122,20 +122,20 @@ line-on g limit kinds old new before held left rest more was now said o f e m r 
 }
 
 -- a line by which the replay ends
-ends-by : (ended : ReplayEnd) (g : Gives) (limit : ℕ) (kinds : List Kind) (lines : List (List ℕ)) (w : List ℕ) (old new : List Entry) (before held : ℕ → Held) (left more : Inlet) → HasGiven left more (lines ++ w ∷ []) → PlaysOn g limit kinds lines w (Ok (Some ended)) old new before held → HasStopped g limit kinds (Ok ended) new held left more
+ends-by : (ended : ReplayEnd) (g : Gives) (limit : ℕ) (kinds : List Kind) (lines : List (List ℕ)) (w : List ℕ) (old new : List Entry) (before held : ℕ → HeldClient) (left more : Inlet) → HasGivenLines left more (lines ++ w ∷ []) → PlaysOn g limit kinds lines w (Ok (Some ended)) old new before held → HasStopped g limit kinds (Ok ended) new held left more
 ends-by end.Over g limit kinds lines w old new before held left more r p = record { lines = lines ++ w ∷ []; finished = p; read = r }
 ends-by end.BadClient g limit kinds lines w old new before held left more r p = record { lines = lines; last = w; bad = p.0; played = p.1; read = r }
 ends-by end.Ended g limit kinds lines w old new before held left more r p = absurd p
 ends-by end.ReadFault g limit kinds lines w old new before held left more r p = absurd p
 ends-by end.Full g limit kinds lines w old new before held left more r p = absurd p
 
-pub line-ends : {E : Type 0} (g : Gives) (limit : ℕ) (kinds : List Kind) (old new : List Entry) (before held : ℕ → Held) (left rest more : Inlet) (was now : Reading) (said : List ℕ) (o : Option ReplayEnd) (ended : ReplayEnd) → o ≡ Some ended → said ≡ now.line → more.most ≡ rest.most → Reads {E = E} (Ok next.Line) was now rest more
+pub line-ends : {E : Type 0} (g : Gives) (limit : ℕ) (kinds : List Kind) (old new : List Entry) (before held : ℕ → HeldClient) (left rest more : Inlet) (was now : Reading) (said : List ℕ) (o : Option ReplayEnd) (ended : ReplayEnd) → o ≡ Some ended → said ≡ now.line → more.most ≡ rest.most → ReadsCounted {E = E} (Ok next.Line) was now rest more
     → (s : AreReading g limit kinds old before left rest was) → PlaysOn g limit kinds s.lines said (Ok o) old new before held → HasStopped g limit kinds (Ok ended) new held left more
 line-ends g limit kinds old new before held left rest more was now said o ended f e m r s p =
     ends-by ended g limit kinds s.lines now.line old new before held left more (line-given left rest more was now s.lines m r s.read)
     (subst (λ q. PlaysOn g limit kinds s.lines q (Ok (Some ended)) old new before held) e (subst (λ q. PlaysOn g limit kinds s.lines said (Ok q) old new before held) f p))
 
-pub line-stopped : {E : Type 0} (g : Gives) (limit : ℕ) (kinds : List Kind) (old new : List Entry) (before held : ℕ → Held) (left rest more : Inlet) (was now : Reading) (said : List ℕ) (why : Stop) → said ≡ now.line → more.most ≡ rest.most → Reads {E = E} (Ok next.Line) was now rest more
+pub line-stopped : {E : Type 0} (g : Gives) (limit : ℕ) (kinds : List Kind) (old new : List Entry) (before held : ℕ → HeldClient) (left rest more : Inlet) (was now : Reading) (said : List ℕ) (why : Stop) → said ≡ now.line → more.most ≡ rest.most → ReadsCounted {E = E} (Ok next.Line) was now rest more
     → (s : AreReading g limit kinds old before left rest was) → PlaysOn g limit kinds s.lines said (Err why) old new before held → HasStopped g limit kinds (Err why) new held left more
 line-stopped g limit kinds old new before held left rest more was now said why e m r s p = inr (record {
   lines = s.lines;
@@ -143,18 +143,18 @@ line-stopped g limit kinds old new before held left rest more was now said why e
   old = old;
   before = before;
   played = s.played;
-  cut = subst (λ q. IsCutOff g why kinds s.lines q old new before held) e p;
+  cut = subst (λ q. IsPlayCutOff g why kinds s.lines q old new before held) e p;
   read = line-given left rest more was now s.lines m r s.read;
 })
 
 -- so it is for a last line, behind which the input has ended
-pub last-ends : {E : Type 0} (g : Gives) (limit : ℕ) (kinds : List Kind) (old new : List Entry) (before held : ℕ → Held) (left rest more : Inlet) (was now : Reading) (said : List ℕ) (o : Option ReplayEnd) (ended : ReplayEnd) → o ≡ Some ended → said ≡ now.line → more.most ≡ rest.most → Reads {E = E} (Ok next.Last) was now rest more
+pub last-ends : {E : Type 0} (g : Gives) (limit : ℕ) (kinds : List Kind) (old new : List Entry) (before held : ℕ → HeldClient) (left rest more : Inlet) (was now : Reading) (said : List ℕ) (o : Option ReplayEnd) (ended : ReplayEnd) → o ≡ Some ended → said ≡ now.line → more.most ≡ rest.most → ReadsCounted {E = E} (Ok next.Last) was now rest more
     → (s : AreReading g limit kinds old before left rest was) → PlaysOn g limit kinds s.lines said (Ok o) old new before held → HasStopped g limit kinds (Ok ended) new held left more
 last-ends g limit kinds old new before held left rest more was now said o ended f e m r s p =
     ends-by ended g limit kinds s.lines now.line old new before held left more (last-given left rest more was now s.lines m r s.read)
     (subst (λ q. PlaysOn g limit kinds s.lines q (Ok (Some ended)) old new before held) e (subst (λ q. PlaysOn g limit kinds s.lines said (Ok q) old new before held) f p))
 
-pub last-stopped : {E : Type 0} (g : Gives) (limit : ℕ) (kinds : List Kind) (old new : List Entry) (before held : ℕ → Held) (left rest more : Inlet) (was now : Reading) (said : List ℕ) (why : Stop) → said ≡ now.line → more.most ≡ rest.most → Reads {E = E} (Ok next.Last) was now rest more
+pub last-stopped : {E : Type 0} (g : Gives) (limit : ℕ) (kinds : List Kind) (old new : List Entry) (before held : ℕ → HeldClient) (left rest more : Inlet) (was now : Reading) (said : List ℕ) (why : Stop) → said ≡ now.line → more.most ≡ rest.most → ReadsCounted {E = E} (Ok next.Last) was now rest more
     → (s : AreReading g limit kinds old before left rest was) → PlaysOn g limit kinds s.lines said (Err why) old new before held → HasStopped g limit kinds (Err why) new held left more
 last-stopped g limit kinds old new before held left rest more was now said why e m r s p = inr (record {
   lines = s.lines;
@@ -162,11 +162,11 @@ last-stopped g limit kinds old new before held left rest more was now said why e
   old = old;
   before = before;
   played = s.played;
-  cut = subst (λ q. IsCutOff g why kinds s.lines q old new before held) e p;
+  cut = subst (λ q. IsPlayCutOff g why kinds s.lines q old new before held) e p;
   read = last-given left rest more was now s.lines m r s.read;
 })
 
-pub last-on : {E : Type 0} (g : Gives) (limit : ℕ) (kinds : List Kind) (old new : List Entry) (before held : ℕ → Held) (left rest more : Inlet) (was now : Reading) (said : List ℕ) (o : Option ReplayEnd) → o ≡ None → said ≡ now.line → more.most ≡ rest.most → Reads {E = E} (Ok next.Last) was now rest more
+pub last-on : {E : Type 0} (g : Gives) (limit : ℕ) (kinds : List Kind) (old new : List Entry) (before held : ℕ → HeldClient) (left rest more : Inlet) (was now : Reading) (said : List ℕ) (o : Option ReplayEnd) → o ≡ None → said ≡ now.line → more.most ≡ rest.most → ReadsCounted {E = E} (Ok next.Last) was now rest more
     → (s : AreReading g limit kinds old before left rest was) → PlaysOn g limit kinds s.lines said (Ok o) old new before held → HasStopped g limit kinds (Ok end.Ended) new held left more
 last-on g limit kinds old new before held left rest more was now said o f e m r s p = record {
   lines = s.lines ++ now.line ∷ [];
@@ -175,30 +175,30 @@ last-on g limit kinds old new before held left rest more was now said o f e m r 
 }
 
 -- no line more was read
-pub next-ended : {E : Type 0} (g : Gives) (limit : ℕ) (kinds : List Kind) (h : List Entry) (held : ℕ → Held) (left rest more : Inlet) (was now : Reading) → more.most ≡ rest.most → Reads {E = E} (Ok next.Ended) was now rest more → AreReading g limit kinds h held left rest was → HasStopped g limit kinds (Ok end.Ended) h held left more
+pub next-ended : {E : Type 0} (g : Gives) (limit : ℕ) (kinds : List Kind) (h : List Entry) (held : ℕ → HeldClient) (left rest more : Inlet) (was now : Reading) → more.most ≡ rest.most → ReadsCounted {E = E} (Ok next.Ended) was now rest more → AreReading g limit kinds h held left rest was → HasStopped g limit kinds (Ok end.Ended) h held left more
 next-ended g limit kinds h held left rest more was now m r s = record { lines = s.lines; played = s.played; read = ended-all left rest more was now s.lines m r s.read }
 
-pub next-failed : {E : Type 0} (g : Gives) (limit : ℕ) (kinds : List Kind) (h : List Entry) (held : ℕ → Held) (left rest more : Inlet) (was now : Reading) → more.most ≡ rest.most → Reads {E = E} (Ok next.ReadFault) was now rest more → AreReading g limit kinds h held left rest was → HasStopped g limit kinds (Ok end.ReadFault) h held left more
+pub next-failed : {E : Type 0} (g : Gives) (limit : ℕ) (kinds : List Kind) (h : List Entry) (held : ℕ → HeldClient) (left rest more : Inlet) (was now : Reading) → more.most ≡ rest.most → ReadsCounted {E = E} (Ok next.ReadFault) was now rest more → AreReading g limit kinds h held left rest was → HasStopped g limit kinds (Ok end.ReadFault) h held left more
 next-failed g limit kinds h held left rest more was now m r s = record { lines = s.lines; played = s.played; read = (now.taken, fault-whole left rest more was now s.lines m r s.read) }
 
-pub next-full : {E : Type 0} (g : Gives) (limit : ℕ) (kinds : List Kind) (h : List Entry) (held : ℕ → Held) (left rest more : Inlet) (was now : Reading) → more.most ≡ rest.most → Reads {E = E} (Ok next.Full) was now rest more → AreReading g limit kinds h held left rest was → HasStopped g limit kinds (Ok end.Full) h held left more
+pub next-full : {E : Type 0} (g : Gives) (limit : ℕ) (kinds : List Kind) (h : List Entry) (held : ℕ → HeldClient) (left rest more : Inlet) (was now : Reading) → more.most ≡ rest.most → ReadsCounted {E = E} (Ok next.Full) was now rest more → AreReading g limit kinds h held left rest was → HasStopped g limit kinds (Ok end.Full) h held left more
 next-full g limit kinds h held left rest more was now m r s = record { lines = s.lines; played = s.played; read = full-whole left rest more was now s.lines m r s.read }
 
 -- where playing stopped, no read fault was met
-pub fault-none : (why : Stop) (left rest : Inlet) → rest.faults ≡ left.faults → FaultIs (Err why) left rest
+pub fault-none : (why : Stop) (left rest : Inlet) → rest.faults ≡ left.faults → ReplayFaultIs (Err why) left rest
 fault-none HistoryFull left rest e = e
 fault-none (Broken at) left rest e = inl e
 fault-none NoMemory left rest e = inl e
 fault-none WriteFault left rest e = e
 
-fault-ended : (ended : ReplayEnd) (g : Gives) (limit : ℕ) (kinds : List Kind) (lines : List (List ℕ)) (w : List ℕ) (old new : List Entry) (before held : ℕ → Held) (left rest : Inlet) → PlaysOn g limit kinds lines w (Ok (Some ended)) old new before held → rest.faults ≡ left.faults → FaultIs (Ok ended) left rest
+fault-ended : (ended : ReplayEnd) (g : Gives) (limit : ℕ) (kinds : List Kind) (lines : List (List ℕ)) (w : List ℕ) (old new : List Entry) (before held : ℕ → HeldClient) (left rest : Inlet) → PlaysOn g limit kinds lines w (Ok (Some ended)) old new before held → rest.faults ≡ left.faults → ReplayFaultIs (Ok ended) left rest
 fault-ended end.Over g limit kinds lines w old new before held left rest p e = e
 fault-ended end.BadClient g limit kinds lines w old new before held left rest p e = e
 fault-ended end.Ended g limit kinds lines w old new before held left rest p e = e
 fault-ended end.ReadFault g limit kinds lines w old new before held left rest p e = absurd p
 fault-ended end.Full g limit kinds lines w old new before held left rest p e = e
 
-pub fault-by : (o : Option ReplayEnd) (ended : ReplayEnd) (g : Gives) (limit : ℕ) (kinds : List Kind) (lines : List (List ℕ)) (w : List ℕ) (old new : List Entry) (before held : ℕ → Held) (left rest : Inlet) → o ≡ Some ended → PlaysOn g limit kinds lines w (Ok o) old new before held → rest.faults ≡ left.faults → FaultIs (Ok ended) left rest
+pub fault-by : (o : Option ReplayEnd) (ended : ReplayEnd) (g : Gives) (limit : ℕ) (kinds : List Kind) (lines : List (List ℕ)) (w : List ℕ) (old new : List Entry) (before held : ℕ → HeldClient) (left rest : Inlet) → o ≡ Some ended → PlaysOn g limit kinds lines w (Ok o) old new before held → rest.faults ≡ left.faults → ReplayFaultIs (Ok ended) left rest
 fault-by o ended g limit kinds lines w old new before held left rest f p e = fault-ended ended g limit kinds lines w old new before held left rest (subst (λ q. PlaysOn g limit kinds lines w (Ok q) old new before held) f p) e
 
 pub not-some : (o : Option ReplayEnd) → ((ended : ReplayEnd) → o ≡ Some ended → ⊥) → o ≡ None

@@ -19,20 +19,20 @@ use Rattle.session_lines.specs.Session.{protocol}
 use Rattle.session_lines.specs.Serving.{how_of}
 use Rattle.session_lines.specs.Stops.{IsLoss}
 use Rattle.session_replay.specs.Boxes.{kind_in, told_in}
-use Rattle.session_replay.specs.declared.places.Place.TheVariants as place
-use Rattle.session_replay.specs.declared.players.Client.{Client}
+use Rattle.session_replay.specs.declared.places.ClientPlace.TheVariants as place
+use Rattle.session_replay.specs.declared.players.ReplayClient.{ReplayClient}
 use Rattle.session_replay.specs.declared.players.Taken.TheVariants as taken
 use Rattle.session_replay.specs.declared.written.Written as answer
 use Rattle.session_replay.specs.declared.written.Written.TheVariants as variant
 use Rattle.session_replay.specs.Written.{Of, Blank, written, lines_for}
 use Rattle.session_replay.specs.WrittenPlaces.{written_at}
-use Rattle.session_replay.specs.Clients.{GotTo, LeftAt, Stands, Held, Keeps, IsClient, IsMoment, GrowsBy}
+use Rattle.session_replay.specs.Clients.{GotTo, LeftAt, ClientStands, HeldClient, Keeps, IsClient, IsMoment, GrowsBy}
 use Rattle.session_replay.specs.Replays.{is_bad}
 use Rattle.session_replay.specs.Players.{places, reports, held_of, IsHeldStill, OthersAreHeld, let_off, IsAt, IsHere, IsStopped, TakesLine, PassesLine, IsPlayed, TakesWritten, kinds_of, told_by_all}
 use Rattle.session_replay.proofs.ClientLemmas.{phases-append, stands-gone, moment-line, moment-blank}
 
 -- two things held are the same where their parts are
-same-held : (a b : Held) → a.place ≡ b.place → a.box ≡ b.box → a.report ≡ b.report → a ≡ b
+same-held : (a b : HeldClient) → a.place ≡ b.place → a.box ≡ b.box → a.report ≡ b.report → a ≡ b
 same-held a b p x r =
     ap (λ q. record { place = q; box = a.box; report = a.report }) p
     ∙ ap (λ q. record { place = b.place; box = q; report = a.report }) x
@@ -52,29 +52,29 @@ seat-left zero (seat ∷ seats) = refl
 seat-left (suc n) (seat ∷ seats) = seat-left n seats
 
 -- nothing is held for another client but what was held
-pub held-others : {B : Type 0} (shown : B → Shown) (old new : List (Option B)) (clients : List Client) (who : ℕ) (client : Client) → ((other : ℕ) → other ≢ who → seat_at other new ≡ seat_at other old)
+pub held-others : {B : Type 0} (shown : B → Shown) (old new : List (Option B)) (clients : List ReplayClient) (who : ℕ) (client : ReplayClient) → ((other : ℕ) → other ≢ who → seat_at other new ≡ seat_at other old)
     → OthersAreHeld who (held_of shown old clients) (held_of shown new (set clients who client))
 held-others shown old new clients who client seats other differs = same-held _ _
     (ap (λ q. get_or q other place.Away) (map-set (λ c. c.place) clients who client) ∙ get_or-set_other (places clients) who other client.place place.Away differs)
     (ap (option_map shown) (seats other differs))
     (ap (λ q. get_or q other []) (map-set (λ c. c.report.items) clients who client) ∙ get_or-set_other (reports clients) who other client.report.items [] differs)
 
-pub held-others-seats : {B : Type 0} (shown : B → Shown) (old new : List (Option B)) (clients : List Client) (who : ℕ) → OthersStay who old new → OthersAreHeld who (held_of shown old clients) (held_of shown new clients)
+pub held-others-seats : {B : Type 0} (shown : B → Shown) (old new : List (Option B)) (clients : List ReplayClient) (who : ℕ) → OthersStay who old new → OthersAreHeld who (held_of shown old clients) (held_of shown new clients)
 held-others-seats shown old new clients who stay other differs = same-held _ _ refl (ap (option_map shown) (seat-others who other old new differs stay)) refl
 
 -- nothing is held but what was held
-pub held-still : {B : Type 0} (shown : B → Shown) (old new : List (Option B)) (clients : List Client) → new ≡ old → IsHeldStill (held_of shown old clients) (held_of shown new clients)
+pub held-still : {B : Type 0} (shown : B → Shown) (old new : List (Option B)) (clients : List ReplayClient) → new ≡ old → IsHeldStill (held_of shown old clients) (held_of shown new clients)
 held-still shown old new clients e who = ap (λ q. held_of shown q clients who) e
 
 -- what is held for the client whose place is written
-pub place-set : (clients : List Client) (who : ℕ) (client : Client) → who < length clients → get_or (places (set clients who client)) who place.Away ≡ client.place
+pub place-set : (clients : List ReplayClient) (who : ℕ) (client : ReplayClient) → who < length clients → get_or (places (set clients who client)) who place.Away ≡ client.place
 place-set clients who client inside = ap (λ q. get_or q who place.Away) (map-set (λ c. c.place) clients who client) ∙ get_or-set_same (places clients) who client.place place.Away (omega (arith, inside, length-map clients (λ c. c.place)))
 
-pub report-set : (clients : List Client) (who : ℕ) (client : Client) → who < length clients → get_or (reports (set clients who client)) who [] ≡ client.report.items
+pub report-set : (clients : List ReplayClient) (who : ℕ) (client : ReplayClient) → who < length clients → get_or (reports (set clients who client)) who [] ≡ client.report.items
 report-set clients who client inside = ap (λ q. get_or q who []) (map-set (λ c. c.report.items) clients who client) ∙ get_or-set_same (reports clients) who client.report.items [] (omega (arith, inside, length-map clients (λ c. c.report.items)))
 
 -- a client is let off
-pub held-off : {B : Type 0} (shown : B → Shown) (old new : List (Option B)) (clients : List Client) (who : ℕ) (client : Client) → who < length clients → new ≡ left_at who old → client.place ≡ place.Gone
+pub held-off : {B : Type 0} (shown : B → Shown) (old new : List (Option B)) (clients : List ReplayClient) (who : ℕ) (client : ReplayClient) → who < length clients → new ≡ left_at who old → client.place ≡ place.Gone
     → client.report.items ≡ report_at (shown_at shown who old) → held_of shown new (set clients who client) who ≡ let_off (shown_at shown who old)
 held-off shown old new clients who client inside left gone report = same-held _ _
     (place-set clients who client inside ∙ gone)
@@ -82,7 +82,7 @@ held-off shown old new clients who client inside left gone report = same-held _ 
     (report-set clients who client inside ∙ report)
 
 -- where a client is that was read
-pub place-at : (clients : List Client) (who : ℕ) (client : Client) → who < length clients → client ≡ get_or clients who client → get_or (places clients) who place.Away ≡ client.place
+pub place-at : (clients : List ReplayClient) (who : ℕ) (client : ReplayClient) → who < length clients → client ≡ get_or clients who client → get_or (places clients) who place.Away ≡ client.place
 place-at clients who client inside is = get_or-map (λ c. c.place) clients who client place.Away inside ∙ ap (λ c. c.place) (sym is)
 
 -- lines behind are free where a client may leave, or was stopped
@@ -107,7 +107,7 @@ stop-lines g why who h lines more told s = record {
     by stop.WriteFault f = unsent-more (protocol []) (phases (turns_of lines)) (later (turns_of more)) s.got told f
 
 -- A client whose line was stopped.
-pub stopped-at : (g : Gives) (why : Stop) (kind : Kind) (who : ℕ) (h : List Entry) (lines : List (List ℕ)) (held : Held) → is_none held.box ≡ false → kind_in held.box ≡ Some kind → held.report ≡ [] → IsAt g held.place who h
+pub stopped-at : (g : Gives) (why : Stop) (kind : Kind) (who : ℕ) (h : List Entry) (lines : List (List ℕ)) (held : HeldClient) → is_none held.box ≡ false → kind_in held.box ≡ Some kind → held.report ≡ [] → IsAt g held.place who h
     → GotTo g (how_of (Err why)) who h lines (told_in held.box) → IsStopped g why kind who h lines held
 stopped-at g why kind who h lines held there is none at got = by held.box refl there is got
   where
@@ -115,7 +115,7 @@ stopped-at g why kind who h lines held there is none at got = by held.box refl t
     by None e there is got = absurd (let no : true ≡ false = there in cc)
     by (Some shown) e there is got = record { shown = shown; kind_is = cc; box = e; report = none; gets = inl (at, got) }
 
-pub stopped-lost : (g : Gives) (why : Stop) (kind : Kind) (who : ℕ) (h : List Entry) (lines : List (List ℕ)) (old held : Held) → held ≡ old → is_none old.box ≡ false → kind_in old.box ≡ Some kind → old.report ≡ []
+pub stopped-lost : (g : Gives) (why : Stop) (kind : Kind) (who : ℕ) (h : List Entry) (lines : List (List ℕ)) (old held : HeldClient) → held ≡ old → is_none old.box ≡ false → kind_in old.box ≡ Some kind → old.report ≡ []
     → (how_of (Err why) ≡ Lost) × (GotTo g Over who h lines (told_in old.box) ⊎ LeftAt g Over who h lines (told_in old.box)) → IsStopped g why kind who h lines held
 stopped-lost g why kind who h lines old held same there is none lost = subst (λ q. IsStopped g why kind who h lines q) (sym same) (by old.box refl there is lost)
   where
@@ -124,7 +124,7 @@ stopped-lost g why kind who h lines old held same there is none lost = subst (λ
     by (Some shown) e there is lost = record { shown = shown; kind_is = cc; box = e; report = none; gets = inr lost }
 
 -- A client that was let off.
-pub client-off : (g : Gives) (kind : Kind) (who : ℕ) (h : List Entry) (lines : List (List ℕ)) (box : Option Shown) (held : Held) → held ≡ let_off box → is_none box ≡ false → kind_in box ≡ Some kind → 0 < length lines
+pub client-off : (g : Gives) (kind : Kind) (who : ℕ) (h : List Entry) (lines : List (List ℕ)) (box : Option Shown) (held : HeldClient) → held ≡ let_off box → is_none box ≡ false → kind_in box ≡ Some kind → 0 < length lines
     → LeftAt g Over who h lines (told_in box) → IsClient g kind who h lines held × (held.place ≡ place.Gone)
 client-off g kind who h lines box held off there is some left = (subst (λ q. IsClient g kind who h lines q) (sym off) (by box there is left), ap (λ q. q.place) off)
   where
@@ -133,7 +133,7 @@ client-off g kind who h lines box held off there is some left = (subst (λ q. Is
     by (Some shown) there is left = record { shown = shown; kind_is = cc; keeps = (refl, refl); stands = (some, left) }
 
 -- A client that is here.
-pub here-now : (g : Gives) (how : How) (kind : Kind) (who : ℕ) (h : List Entry) (lines : List (List ℕ)) (held : Held) → is_none held.box ≡ false → kind_in held.box ≡ Some kind → held.report ≡ [] → held.place ≡ place.Here → is_here (presence_from who Away h) ≡ true
+pub here-now : (g : Gives) (how : How) (kind : Kind) (who : ℕ) (h : List Entry) (lines : List (List ℕ)) (held : HeldClient) → is_none held.box ≡ false → kind_in held.box ≡ Some kind → held.report ≡ [] → held.place ≡ place.Here → is_here (presence_from who Away h) ≡ true
     → GotTo g how who h lines (told_in held.box) → IsHere g how kind who h lines held
 here-now g how kind who h lines held there is none at here got = by held.box refl there is got
   where
@@ -141,61 +141,61 @@ here-now g how kind who h lines held there is none at here got = by held.box ref
     by None e there is got = absurd (let no : true ≡ false = there in cc)
     by (Some shown) e there is got = record { shown = shown; kind_is = cc; box = e; report = none; at = at; here = here; got = got }
 
-pub here-client : (g : Gives) (kind : Kind) (who : ℕ) (h : List Entry) (lines : List (List ℕ)) (held : Held) → 0 < length lines → IsHere g Whole kind who h lines held → IsClient g kind who h lines held
+pub here-client : (g : Gives) (kind : Kind) (who : ℕ) (h : List Entry) (lines : List (List ℕ)) (held : HeldClient) → 0 < length lines → IsHere g Whole kind who h lines held → IsClient g kind who h lines held
 here-client g kind who h lines held some w = record {
   shown = w.shown;
   kind_is = w.kind_is;
   keeps = subst (λ q. Keeps q held w.shown) (sym w.at) (w.box, w.report);
-  stands = subst (λ q. Stands g q who h lines (json_lines w.shown.told)) (sym w.at) (w.here, some, w.got);
+  stands = subst (λ q. ClientStands g q who h lines (json_lines w.shown.told)) (sym w.at) (w.here, some, w.got);
 }
 
-pub here-told : (g : Gives) (how : How) (kind : Kind) (who : ℕ) (h : List Entry) (lines : List (List ℕ)) (held : Held) → IsHere g how kind who h lines held → GotTo g how who h lines (told_in held.box)
+pub here-told : (g : Gives) (how : How) (kind : Kind) (who : ℕ) (h : List Entry) (lines : List (List ℕ)) (held : HeldClient) → IsHere g how kind who h lines held → GotTo g how who h lines (told_in held.box)
 here-told g how kind who h lines held w = subst (λ q. GotTo g how who h lines q) (ap told_in (sym w.box)) w.got
 
-pub here-kind : (g : Gives) (how : How) (kind : Kind) (who : ℕ) (h : List Entry) (lines : List (List ℕ)) (old : Held) (box : Option Shown) → kind_in box ≡ kind_in old.box → IsHere g how kind who h lines old → kind_in box ≡ Some kind
+pub here-kind : (g : Gives) (how : How) (kind : Kind) (who : ℕ) (h : List Entry) (lines : List (List ℕ)) (old : HeldClient) (box : Option Shown) → kind_in box ≡ kind_in old.box → IsHere g how kind who h lines old → kind_in box ≡ Some kind
 here-kind g how kind who h lines old box e w = e ∙ ap kind_in w.box ∙ ap Some w.kind_is
 
 -- What stands for a client, by where it is.
-pub client-here : (g : Gives) (kind : Kind) (who : ℕ) (h : List Entry) (lines : List (List ℕ)) (held : Held) → held.place ≡ place.Here → IsClient g kind who h lines held → IsHere g Whole kind who h lines held
+pub client-here : (g : Gives) (kind : Kind) (who : ℕ) (h : List Entry) (lines : List (List ℕ)) (held : HeldClient) → held.place ≡ place.Here → IsClient g kind who h lines held → IsHere g Whole kind who h lines held
 client-here g kind who h lines held at c =
-    let s = subst (λ q. Stands g q who h lines (json_lines c.shown.told)) at c.stands in
+    let s = subst (λ q. ClientStands g q who h lines (json_lines c.shown.told)) at c.stands in
     let k = subst (λ q. Keeps q held c.shown) at c.keeps in
     record { shown = c.shown; kind_is = c.kind_is; box = k.0; report = k.1; at = at; here = s.0; got = s.2 }
 
-pub here-boxed : (g : Gives) (how : How) (kind : Kind) (who : ℕ) (h : List Entry) (lines : List (List ℕ)) (held : Held) → IsHere g how kind who h lines held → is_none held.box ≡ false
+pub here-boxed : (g : Gives) (how : How) (kind : Kind) (who : ℕ) (h : List Entry) (lines : List (List ℕ)) (held : HeldClient) → IsHere g how kind who h lines held → is_none held.box ≡ false
 here-boxed g how kind who h lines held w = ap is_none w.box
 
-away-stands : (g : Gives) (kind : Kind) (who : ℕ) (h : List Entry) (lines : List (List ℕ)) (held : Held) → held.place ≡ place.Away → (c : IsClient g kind who h lines held) → Stands g place.Away who h lines (json_lines c.shown.told)
-away-stands g kind who h lines held at c = subst (λ q. Stands g q who h lines (json_lines c.shown.told)) at c.stands
+away-stands : (g : Gives) (kind : Kind) (who : ℕ) (h : List Entry) (lines : List (List ℕ)) (held : HeldClient) → held.place ≡ place.Away → (c : IsClient g kind who h lines held) → ClientStands g place.Away who h lines (json_lines c.shown.told)
+away-stands g kind who h lines held at c = subst (λ q. ClientStands g q who h lines (json_lines c.shown.told)) at c.stands
 
-away-box : (g : Gives) (kind : Kind) (who : ℕ) (h : List Entry) (lines : List (List ℕ)) (held : Held) → held.place ≡ place.Away → (c : IsClient g kind who h lines held) → held.box ≡ Some c.shown
+away-box : (g : Gives) (kind : Kind) (who : ℕ) (h : List Entry) (lines : List (List ℕ)) (held : HeldClient) → held.place ≡ place.Away → (c : IsClient g kind who h lines held) → held.box ≡ Some c.shown
 away-box g kind who h lines held at c = (subst (λ q. Keeps q held c.shown) at c.keeps).0
 
-pub away-report : (g : Gives) (kind : Kind) (who : ℕ) (h : List Entry) (lines : List (List ℕ)) (held : Held) → held.place ≡ place.Away → IsClient g kind who h lines held → held.report ≡ []
+pub away-report : (g : Gives) (kind : Kind) (who : ℕ) (h : List Entry) (lines : List (List ℕ)) (held : HeldClient) → held.place ≡ place.Away → IsClient g kind who h lines held → held.report ≡ []
 away-report g kind who h lines held at c = (subst (λ q. Keeps q held c.shown) at c.keeps).1
 
-pub away-own : (g : Gives) (kind : Kind) (who : ℕ) (h : List Entry) (lines : List (List ℕ)) (held : Held) → held.place ≡ place.Away → IsClient g kind who h lines held → own (rules g) who h ≡ []
+pub away-own : (g : Gives) (kind : Kind) (who : ℕ) (h : List Entry) (lines : List (List ℕ)) (held : HeldClient) → held.place ≡ place.Away → IsClient g kind who h lines held → own (rules g) who h ≡ []
 away-own g kind who h lines held at c = (away-stands g kind who h lines held at c).0
 
-pub away-lines : (g : Gives) (kind : Kind) (who : ℕ) (h : List Entry) (lines : List (List ℕ)) (held : Held) → held.place ≡ place.Away → IsClient g kind who h lines held → lines ≡ []
+pub away-lines : (g : Gives) (kind : Kind) (who : ℕ) (h : List Entry) (lines : List (List ℕ)) (held : HeldClient) → held.place ≡ place.Away → IsClient g kind who h lines held → lines ≡ []
 away-lines g kind who h lines held at c = (away-stands g kind who h lines held at c).1
 
-pub away-untold : (g : Gives) (kind : Kind) (who : ℕ) (h : List Entry) (lines : List (List ℕ)) (held : Held) → held.place ≡ place.Away → IsClient g kind who h lines held → told_in held.box ≡ []
+pub away-untold : (g : Gives) (kind : Kind) (who : ℕ) (h : List Entry) (lines : List (List ℕ)) (held : HeldClient) → held.place ≡ place.Away → IsClient g kind who h lines held → told_in held.box ≡ []
 away-untold g kind who h lines held at c = ap told_in (away-box g kind who h lines held at c) ∙ (away-stands g kind who h lines held at c).2
 
-pub away-boxed : (g : Gives) (kind : Kind) (who : ℕ) (h : List Entry) (lines : List (List ℕ)) (held : Held) → held.place ≡ place.Away → IsClient g kind who h lines held → is_none held.box ≡ false
+pub away-boxed : (g : Gives) (kind : Kind) (who : ℕ) (h : List Entry) (lines : List (List ℕ)) (held : HeldClient) → held.place ≡ place.Away → IsClient g kind who h lines held → is_none held.box ≡ false
 away-boxed g kind who h lines held at c = ap is_none (away-box g kind who h lines held at c)
 
-pub away-kind : (g : Gives) (kind : Kind) (who : ℕ) (h : List Entry) (lines : List (List ℕ)) (held : Held) → held.place ≡ place.Away → IsClient g kind who h lines held → kind_in held.box ≡ Some kind
+pub away-kind : (g : Gives) (kind : Kind) (who : ℕ) (h : List Entry) (lines : List (List ℕ)) (held : HeldClient) → held.place ≡ place.Away → IsClient g kind who h lines held → kind_in held.box ≡ Some kind
 away-kind g kind who h lines held at c = ap kind_in (away-box g kind who h lines held at c) ∙ ap Some c.kind_is
 
-pub gone-client : (g : Gives) (kind : Kind) (who : ℕ) (h : List Entry) (lines : List (List ℕ)) (line : List ℕ) (held : Held) → held.place ≡ place.Gone → IsClient g kind who h lines held → IsClient g kind who h (lines ++ line ∷ []) held
+pub gone-client : (g : Gives) (kind : Kind) (who : ℕ) (h : List Entry) (lines : List (List ℕ)) (line : List ℕ) (held : HeldClient) → held.place ≡ place.Gone → IsClient g kind who h lines held → IsClient g kind who h (lines ++ line ∷ []) held
 gone-client g kind who h lines line held at c = record {
   shown = c.shown;
   kind_is = c.kind_is;
   keeps = c.keeps;
-  stands = subst (λ q. Stands g q who h (lines ++ line ∷ []) (json_lines c.shown.told)) (sym at)
-      (stands-gone g who h lines line (json_lines c.shown.told) (subst (λ q. Stands g q who h lines (json_lines c.shown.told)) at c.stands));
+  stands = subst (λ q. ClientStands g q who h (lines ++ line ∷ []) (json_lines c.shown.told)) (sym at)
+      (stands-gone g who h lines line (json_lines c.shown.told) (subst (λ q. ClientStands g q who h lines (json_lines c.shown.told)) at c.stands));
 }
 
 -- where one seat was left, the others are as they were
@@ -210,7 +210,7 @@ pub whole-told : (g : Gives) (leaving : Bool) (who : ℕ) (h : List Entry) (line
 whole-told g leaving who h lines told e got = subst (λ b. GotTo g (how_of (Ok b)) who h lines told) e got
 
 -- A written line was played for its client.
-played-line : (g : Gives) (kinds : List Kind) (who : ℕ) (lines : List (List ℕ)) (w line : List ℕ) (h h' : List Entry) (held held' : ℕ → Held) → IsMoment g kinds lines h held → GrowsBy g who h h' → who < length kinds → written (length kinds) w ≡ Of who line → OthersAreHeld who held held'
+played-line : (g : Gives) (kinds : List Kind) (who : ℕ) (lines : List (List ℕ)) (w line : List ℕ) (h h' : List Entry) (held held' : ℕ → HeldClient) → IsMoment g kinds lines h held → GrowsBy g who h h' → who < length kinds → written (length kinds) w ≡ Of who line → OthersAreHeld who held held'
     → IsClient g (get_or kinds who Silent) who h' (lines_for (length kinds) who lines ++ line ∷ []) (held' who) → IsPlayed g kinds lines w h h' held'
 played-line g kinds who lines w line h h' held held' m grows inside is others client = record {
   good = ap is_bad is;
@@ -218,7 +218,7 @@ played-line g kinds who lines w line h h' held held' m grows inside is others cl
   moment = moment-line g kinds who lines w line h h' held held' m grows inside is others client;
 }
 
-pub written-left : (g : Gives) (kinds : List Kind) (who : ℕ) (lines : List (List ℕ)) (w line : List ℕ) (h h' : List Entry) (held held' : ℕ → Held) (left : Bool) → left ≡ true → IsMoment g kinds lines h held → GrowsBy g who h h' → who < length kinds
+pub written-left : (g : Gives) (kinds : List Kind) (who : ℕ) (lines : List (List ℕ)) (w line : List ℕ) (h h' : List Entry) (held held' : ℕ → HeldClient) (left : Bool) → left ≡ true → IsMoment g kinds lines h held → GrowsBy g who h h' → who < length kinds
     → written (length kinds) w ≡ Of who line → OthersAreHeld who held held'
     → TakesLine g (get_or kinds who Silent) who (Ok left) h' (lines_for (length kinds) who lines ++ line ∷ []) (held' who) ⊎ PassesLine g (get_or kinds who Silent) who (Ok left) h h' (lines_for (length kinds) who lines ++ line ∷ []) (held' who)
     → TakesWritten g kinds lines w (Ok taken.Left) h h' held held'
@@ -230,7 +230,7 @@ written-left g kinds who lines w line h h' held held' left e m grows inside is o
     by true e (inr p) = absurd (let no = p.stays in cc)
     by false e t = absurd (cc)
 
-pub written-stayed : (g : Gives) (kinds : List Kind) (who : ℕ) (lines : List (List ℕ)) (w line : List ℕ) (h h' : List Entry) (held held' : ℕ → Held) (left : Bool) → left ≡ false → IsMoment g kinds lines h held → GrowsBy g who h h' → who < length kinds
+pub written-stayed : (g : Gives) (kinds : List Kind) (who : ℕ) (lines : List (List ℕ)) (w line : List ℕ) (h h' : List Entry) (held held' : ℕ → HeldClient) (left : Bool) → left ≡ false → IsMoment g kinds lines h held → GrowsBy g who h h' → who < length kinds
     → written (length kinds) w ≡ Of who line → OthersAreHeld who held held'
     → TakesLine g (get_or kinds who Silent) who (Ok left) h' (lines_for (length kinds) who lines ++ line ∷ []) (held' who) ⊎ PassesLine g (get_or kinds who Silent) who (Ok left) h h' (lines_for (length kinds) who lines ++ line ∷ []) (held' who)
     → TakesWritten g kinds lines w (Ok taken.Stayed) h h' held held'
@@ -242,7 +242,7 @@ written-stayed g kinds who lines w line h h' held held' left e m grows inside is
     by false e (inr p) = (played-line g kinds who lines w line h h' held held' m grows inside is others p.client, inr p.same)
     by true e t = absurd (cc)
 
-pub written-cut : (g : Gives) (why : Stop) (kinds : List Kind) (who : ℕ) (lines : List (List ℕ)) (w line : List ℕ) (h h' : List Entry) (held held' : ℕ → Held) → IsMoment g kinds lines h held → GrowsBy g who h h' → who < length kinds
+pub written-cut : (g : Gives) (why : Stop) (kinds : List Kind) (who : ℕ) (lines : List (List ℕ)) (w line : List ℕ) (h h' : List Entry) (held held' : ℕ → HeldClient) → IsMoment g kinds lines h held → GrowsBy g who h h' → who < length kinds
     → written (length kinds) w ≡ Of who line → OthersAreHeld who held held'
     → TakesLine g (get_or kinds who Silent) who (Err why) h' (lines_for (length kinds) who lines ++ line ∷ []) (held' who) ⊎ PassesLine g (get_or kinds who Silent) who (Err why) h h' (lines_for (length kinds) who lines ++ line ∷ []) (held' who)
     → TakesWritten g kinds lines w (Err why) h h' held held'
@@ -261,13 +261,13 @@ written-cut g why kinds who lines w line h h' held held' m grows inside is other
 pub written-of : (n count : ℕ) (kinds : List Kind) (w line : List ℕ) (given : answer.Written) (who from : ℕ) → n ≡ count → length kinds ≡ count → written_at w given ≡ written n w → given ≡ variant.Of who from → line ≡ drop from w → written (length kinds) w ≡ Of who line
 written-of n count kinds w line given who from e many reading is sliced = ap (λ q. written q w) (many ∙ sym e) ∙ sym reading ∙ ap (written_at w) is ∙ ap (Of who) (sym sliced)
 
-pub written-blank : (n count : ℕ) (g : Gives) (kinds : List Kind) (lines : List (List ℕ)) (w : List ℕ) (h : List Entry) (held : ℕ → Held) (given : answer.Written) → n ≡ count → length kinds ≡ count → written_at w given ≡ written n w → given ≡ variant.Blank → IsMoment g kinds lines h held
+pub written-blank : (n count : ℕ) (g : Gives) (kinds : List Kind) (lines : List (List ℕ)) (w : List ℕ) (h : List Entry) (held : ℕ → HeldClient) (given : answer.Written) → n ≡ count → length kinds ≡ count → written_at w given ≡ written n w → given ≡ variant.Blank → IsMoment g kinds lines h held
     → TakesWritten g kinds lines w (Ok taken.Stayed) h h held held
 written-blank n count g kinds lines w h held given e many reading is m =
     let blank : written (length kinds) w ≡ Blank = ap (λ q. written q w) (many ∙ sym e) ∙ sym reading ∙ ap (written_at w) is in
     (record { good = ap is_bad blank; grows = ([], sym (append-nil h)); moment = moment-blank g kinds lines w h held m blank }, inr refl)
 
-pub written-bad : (n count : ℕ) (g : Gives) (kinds : List Kind) (lines : List (List ℕ)) (w : List ℕ) (h : List Entry) (held : ℕ → Held) (given : answer.Written) → n ≡ count → length kinds ≡ count → written_at w given ≡ written n w → given ≡ variant.Bad
+pub written-bad : (n count : ℕ) (g : Gives) (kinds : List Kind) (lines : List (List ℕ)) (w : List ℕ) (h : List Entry) (held : ℕ → HeldClient) (given : answer.Written) → n ≡ count → length kinds ≡ count → written_at w given ≡ written n w → given ≡ variant.Bad
     → TakesWritten g kinds lines w (Ok taken.Bad) h h held held
 written-bad n count g kinds lines w h held given e many reading is = (ap (λ q. written q w) (many ∙ sym e) ∙ sym reading ∙ ap (written_at w) is, refl, λ who. refl)
 
@@ -313,7 +313,7 @@ none-at [] who = refl
 none-at (box ∷ boxes) zero = refl
 none-at (box ∷ boxes) (suc who) = none-at boxes who
 
-pub all-away : {B : Type 0} (g : Gives) (shown : B → Shown) (boxes : List B) (seats : List (Option B)) (clients : List Client) (h : List Entry) → seats ≡ map Some boxes → places clients ≡ map (λ ui. place.Away) boxes → reports clients ≡ map (λ ui. []) boxes → h ≡ [] → told_by_all shown boxes ≡ []
+pub all-away : {B : Type 0} (g : Gives) (shown : B → Shown) (boxes : List B) (seats : List (Option B)) (clients : List ReplayClient) (h : List Entry) → seats ≡ map Some boxes → places clients ≡ map (λ ui. place.Away) boxes → reports clients ≡ map (λ ui. []) boxes → h ≡ [] → told_by_all shown boxes ≡ []
     → IsMoment g (kinds_of shown boxes) [] h (held_of shown seats clients)
 all-away g shown boxes seats clients h s p r e untold = record {
   clients = λ who inside. by who (untold-at shown boxes who inside untold);
@@ -328,11 +328,11 @@ all-away g shown boxes seats clients h s p r e untold = record {
           shown = w.what;
           kind_is = w.kind;
           keeps = subst (λ q. Keeps q (held_of shown seats clients who) w.what) (sym at) (box, ap (λ q. get_or q who []) r ∙ none-at boxes who);
-          stands = subst (λ q. Stands g q who h [] (json_lines w.what.told)) (sym at) (ap (own (rules g) who) e, refl, ap json_lines w.told);
+          stands = subst (λ q. ClientStands g q who h [] (json_lines w.what.told)) (sym at) (ap (own (rules g) who) e, refl, ap json_lines w.told);
         }
 
 -- what a client's box reported that was read
-pub report-at : (clients : List Client) (who : ℕ) (client : Client) → who < length clients → client ≡ get_or clients who client → get_or (reports clients) who [] ≡ client.report.items
+pub report-at : (clients : List ReplayClient) (who : ℕ) (client : ReplayClient) → who < length clients → client ≡ get_or clients who client → get_or (reports clients) who [] ≡ client.report.items
 report-at clients who client inside is = get_or-map (λ c. c.report.items) clients who client [] inside ∙ ap (λ c. c.report.items) (sym is)
 
 -- what stands where a client couldn't be let go
@@ -353,10 +353,10 @@ more-of a [] i inside = absurd (omega (arith, inside))
 more-of a (x ∷ xs) zero inside = refl
 more-of a (x ∷ xs) (suc i) inside = let e : suc i + 1 ≡ suc (i + 1) = omega arith in rw e (ap (λ q. a ∷ q) (more-of a xs i (omega (arith, inside))))
 
-pub next-away : {B : Type 0} (boxes : List B) (i : ℕ) (old new : List Client) (client : Client) → i < length boxes → places old ≡ map (λ ui. place.Away) (take i boxes) → new ≡ old ++ client ∷ [] → client.place ≡ place.Away → places new ≡ map (λ ui. place.Away) (take (i + 1) boxes)
+pub next-away : {B : Type 0} (boxes : List B) (i : ℕ) (old new : List ReplayClient) (client : ReplayClient) → i < length boxes → places old ≡ map (λ ui. place.Away) (take i boxes) → new ≡ old ++ client ∷ [] → client.place ≡ place.Away → places new ≡ map (λ ui. place.Away) (take (i + 1) boxes)
 next-away boxes i old new client inside e n away =
     ap places n ∙ map-append (λ c. c.place) old (client ∷ []) ∙ ap (λ q. q ++ client.place ∷ []) e ∙ ap (λ q. map (λ ui. place.Away) (take i boxes) ++ q ∷ []) away ∙ sym (more-of place.Away boxes i inside)
 
-pub next-unreported : {B : Type 0} (boxes : List B) (i : ℕ) (old new : List Client) (client : Client) → i < length boxes → reports old ≡ map (λ ui. []) (take i boxes) → new ≡ old ++ client ∷ [] → client.report.items ≡ [] → reports new ≡ map (λ ui. []) (take (i + 1) boxes)
+pub next-unreported : {B : Type 0} (boxes : List B) (i : ℕ) (old new : List ReplayClient) (client : ReplayClient) → i < length boxes → reports old ≡ map (λ ui. []) (take i boxes) → new ≡ old ++ client ∷ [] → client.report.items ≡ [] → reports new ≡ map (λ ui. []) (take (i + 1) boxes)
 next-unreported boxes i old new client inside e n none =
     ap reports n ∙ map-append (λ c. c.report.items) old (client ∷ []) ∙ ap (λ q. q ++ client.report.items ∷ []) e ∙ ap (λ q. map (λ ui. []) (take i boxes) ++ q ∷ []) none ∙ sym (more-of [] boxes i inside)

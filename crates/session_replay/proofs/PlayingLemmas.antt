@@ -22,13 +22,13 @@ use Rattle.session_lines.specs.declared.playing.Stop.{Stop}
 use Rattle.session_lines.specs.declared.playing.Stop.TheVariants as stop
 use Rattle.session_lines.specs.declared.playing.Reply.{Reply}
 use Rattle.session_lines.specs.Sending.{FailsFor}
-use Rattle.session_lines.specs.Session.{protocol, keys_played, played_by, refused_by}
-use Rattle.session_lines.specs.Serving.{telling_bytes, AreCut, LeavesOut, IsAnswered, Answers, HasGone, Leaves, Serves, service, how_of, unseen}
+use Rattle.session_lines.specs.Session.{protocol, keys_played, played_by, bytes_of_refusal}
+use Rattle.session_lines.specs.Serving.{telling_bytes, AreCut, LeavesOut, IsAnswered, PhaseAnswers, HasGone, Leaves, Serves, service, how_of, unseen}
 use Rattle.session_lines.specs.Stops.{StopsFor, IsLoss}
 use Rattle.session_lines.proofs.ServingLemmas.{answered-told, answered-untold, serves-cut}
 use Rattle.session_lines.proofs.OpeningLemmas.{opening-answers}
 use Rattle.session_replay.specs.Boxes.{box_outlet, told_in}
-use Rattle.session_replay.specs.Clients.{GotTo, LeftAt, GrowsBy, Leaves as LeavesAlone}
+use Rattle.session_replay.specs.Clients.{GotTo, LeftAt, GrowsBy, LeavesAlone}
 use Rattle.session_replay.proofs.BoxLemmas.{told-more}
 
 -- the entries of others among entries put together
@@ -90,7 +90,7 @@ grows-by g who o x z more turned same alone e = record { more = more; grows = e;
 seen-is : (who : ℕ) (o x z : Seated) (more : List Entry) → x ≡ turned_to who o → z.seen ≡ x.seen ++ more → z.seen ≡ o.seen ++ more
 seen-is who o x z more turned e = e ∙ ap (λ q. q.seen ++ more) turned
 
-pub answers-grow : (g : Gives) (who : ℕ) (o x z : Seated) (es : List Event) (said : List ℕ) (r : Result Reply Stop) → x ≡ turned_to who o → IsSameSeat x z → IsAlone z → Answers g x z es said r → GrowsBy g who o.seen z.seen
+pub answers-grow : (g : Gives) (who : ℕ) (o x z : Seated) (es : List Event) (said : List ℕ) (r : Result Reply Stop) → x ≡ turned_to who o → IsSameSeat x z → IsAlone z → PhaseAnswers g x z es said r → GrowsBy g who o.seen z.seen
 answers-grow g who o x z es said (Ok reply) turned same alone a = grows-by g who o x z a.taken.adds.more turned same alone (seen-is who o x z a.taken.adds.more turned a.taken.adds.grows)
 answers-grow g who o x z es said (Err why) turned same alone a = grows-by g who o x z a.adds.more turned same alone (seen-is who o x z a.adds.more turned a.adds.grows)
 
@@ -143,7 +143,7 @@ opened g how who x z s t number there untold w = record {
 }
 
 -- what a client that has come is answered from its coming on
-open-answers : (g : Gives) (who : ℕ) (o x z : Seated) (r : Result Reply Stop) → x ≡ turned_to who o → IsMeaning g → own (rules g) who o.seen ≡ Join ∷ [] → Answers g x z (keys_played []) [] r → Answers g (unseen x) z (Join ∷ keys_played []) [] r
+open-answers : (g : Gives) (who : ℕ) (o x z : Seated) (r : Result Reply Stop) → x ≡ turned_to who o → IsMeaning g → own (rules g) who o.seen ≡ Join ∷ [] → PhaseAnswers g x z (keys_played []) [] r → PhaseAnswers g (unseen x) z (Join ∷ keys_played []) [] r
 open-answers g who o x z r turned meaning new a = opening-answers g x z [] r meaning (subst (λ q. own (rules g) q.number q.seen ≡ Join ∷ []) (sym turned) new) a
 
 named : (who : ℕ) (o x : Seated) → x ≡ turned_to who o → x.number ≡ who
@@ -209,19 +209,19 @@ line-cut g who o x z s line lines why turned there stops cut w =
 
 -- a line was played, and its client's box couldn't be told
 pub line-untold : (g : Gives) (who : ℕ) (o x z : Seated) (s t : Option Shown) (line : List ℕ) (lines : List (List ℕ)) (reply : Reply) (why : Stop) → x ≡ turned_to who o → is_none s ≡ false
-    → IsAnswered g x z (played_by (read_request line)) (refused_by (read_request line)) reply → FailsFor why (box_outlet s) (box_outlet t) (telling_bytes reply.telling)
+    → IsAnswered g x z (played_by (read_request line)) (bytes_of_refusal (read_request line)) reply → FailsFor why (box_outlet s) (box_outlet t) (telling_bytes reply.telling)
     → GotTo g Whole who o.seen lines (told_in s) → GotTo g (how_of (Err why)) who z.seen (lines ++ line ∷ []) (told_in t)
 line-untold g who o x z s t line lines reply why turned there answered fails w =
     played-line g (how_of (Err why)) who o x z s t line lines turned there
-    (answered-untold (service g []) x z (box_outlet s) (box_outlet t) (During (Line line)) (played_by (read_request line)) (refused_by (read_request line)) reply why answered refl refl fails) w
+    (answered-untold (service g []) x z (box_outlet s) (box_outlet t) (During (Line line)) (played_by (read_request line)) (bytes_of_refusal (read_request line)) reply why answered refl refl fails) w
 
 -- a line was played, and its client's box was told
 pub line-told : (g : Gives) (who : ℕ) (o x z : Seated) (s t : Option Shown) (line : List ℕ) (lines : List (List ℕ)) (reply : Reply) → x ≡ turned_to who o → is_none s ≡ false
-    → IsAnswered g x z (played_by (read_request line)) (refused_by (read_request line)) reply → Appends (box_outlet s).told (box_outlet t).told (telling_bytes reply.telling)
+    → IsAnswered g x z (played_by (read_request line)) (bytes_of_refusal (read_request line)) reply → Appends (box_outlet s).told (box_outlet t).told (telling_bytes reply.telling)
     → GotTo g Whole who o.seen lines (told_in s) → GotTo g (how_of (Ok reply.leaving)) who z.seen (lines ++ line ∷ []) (told_in t)
 line-told g who o x z s t line lines reply turned there answered tells w =
     played-line g (how_of (Ok reply.leaving)) who o x z s t line lines turned there
-    (answered-told (service g []) x z (box_outlet s) (box_outlet t) (During (Line line)) (played_by (read_request line)) (refused_by (read_request line)) reply answered refl refl tells) w
+    (answered-told (service g []) x z (box_outlet s) (box_outlet t) (During (Line line)) (played_by (read_request line)) (bytes_of_refusal (read_request line)) reply answered refl refl tells) w
 
 -- a session that is broken is told otherwise than want of memory
 pub loss-memory : (why : Stop) (seat : Seated) → why ≡ stop.NoMemory → IsLoss why seat → ⊥

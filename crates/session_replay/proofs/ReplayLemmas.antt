@@ -14,8 +14,8 @@ use Rattle.session_events.specs.declared.event.Entry.{Entry}
 use Rattle.session_events.specs.Entries.{is_leave}
 use Rattle.session_events.specs.Meaning.{Gives, rules}
 use Rattle.session_replay.specs.Written.{lines_for}
-use Rattle.session_replay.specs.Clients.{Stands, Held, IsMoment, GrowsBy}
-use Rattle.session_replay.specs.Replays.{Replay, has_bad, is_over, leave_in_order, before_leavings, Reaches}
+use Rattle.session_replay.specs.Clients.{ClientStands, HeldClient, IsMoment, GrowsBy}
+use Rattle.session_replay.specs.Replays.{Replay, has_bad, is_over, leave_in_order, before_leavings, ReachesLines}
 use Rattle.session_replay.specs.Phases.{are_below}
 
 -- one growth of a client after another
@@ -27,7 +27,7 @@ grows-append g k a b c x y = record {
 }
 
 -- a moment is reached
-abbrev pub moment-reached : (r : Replay) (kinds : List Kind) (lines : List (List ℕ)) (front rest : List Entry) (held : ℕ → Held) (over : Bool) → length kinds ≡ length r.shown → r.history ≡ front ++ rest → IsMoment r.gives kinds lines front held → has_bad (length r.shown) lines ≡ false → is_over front ≡ over → Reaches r lines over
+abbrev pub moment-reached : (r : Replay) (kinds : List Kind) (lines : List (List ℕ)) (front rest : List Entry) (held : ℕ → HeldClient) (over : Bool) → length kinds ≡ length r.shown → r.history ≡ front ++ rest → IsMoment r.gives kinds lines front held → has_bad (length r.shown) lines ≡ false → is_over front ≡ over → ReachesLines r lines over
 moment-reached r kinds lines front rest held over count split m good is = record {
   good = good;
   front = front;
@@ -35,13 +35,13 @@ moment-reached r kinds lines front rest held over count split m good is = record
   split = split;
   clients = λ who inside.
       let c = m.clients who (subst (λ n. who < n) (sym count) inside) in
-      ((held who).place, json_lines c.shown.told, subst (λ n. Stands r.gives (held who).place who front (lines_for n who lines) (json_lines c.shown.told)) count c.stands);
+      ((held who).place, json_lines c.shown.told, subst (λ n. ClientStands r.gives (held who).place who front (lines_for n who lines) (json_lines c.shown.told)) count c.stands);
   over_is = is;
 }
 
 -- and goes on being reached, whatever entries and lines come behind
 pub reached-later : (g : Gives) (limit : ℕ) (old new lines : List (List ℕ)) (h more : List Entry) (shown after : List Shown) (over : Bool) → length after ≡ length shown
-    → Reaches (record { gives = g; limit = limit; lines = old; history = h; shown = shown }) lines over → Reaches (record { gives = g; limit = limit; lines = new; history = h ++ more; shown = after }) lines over
+    → ReachesLines (record { gives = g; limit = limit; lines = old; history = h; shown = shown }) lines over → ReachesLines (record { gives = g; limit = limit; lines = new; history = h ++ more; shown = after }) lines over
 reached-later g limit old new lines h more shown after over count r = record {
   good = subst (λ n. has_bad n lines ≡ false) (sym count) r.good;
   front = r.front;
@@ -49,18 +49,18 @@ reached-later g limit old new lines h more shown after over count r = record {
   split = ap (λ q. q ++ more) r.split ∙ append_assoc r.front r.rest more;
   clients = λ who inside.
       let c = r.clients who (subst (λ n. who < n) count inside) in
-      (c.0, c.1, subst (λ n. Stands g c.0 who r.front (lines_for n who lines) c.1) (sym count) c.2);
+      (c.0, c.1, subst (λ n. ClientStands g c.0 who r.front (lines_for n who lines) c.1) (sym count) c.2);
   over_is = r.over_is;
 }
 
 -- what is reached behind each number of lines, with one line more
-pub order-more : (r : Replay) (given : List (List ℕ)) (line : List ℕ) → ((i : ℕ) → i < length given → Reaches r (take i given) false) → Reaches r given false → (i : ℕ) → i < length (given ++ line ∷ []) → Reaches r (take i (given ++ line ∷ [])) false
+pub order-more : (r : Replay) (given : List (List ℕ)) (line : List ℕ) → ((i : ℕ) → i < length given → ReachesLines r (take i given) false) → ReachesLines r given false → (i : ℕ) → i < length (given ++ line ∷ []) → ReachesLines r (take i (given ++ line ∷ [])) false
 order-more r given line order last i inside =
     elim (cases_lt i (length given)) [
-      | inl before ↦ subst (λ q. Reaches r q false) (sym (take-append-le i given (line ∷ []) (omega (arith, before)))) (order i before)
+      | inl before ↦ subst (λ q. ReachesLines r q false) (sym (take-append-le i given (line ∷ []) (omega (arith, before)))) (order i before)
       | inr past ↦
           let at : length given ≡ i = omega (arith, past, inside, length-append given (line ∷ [])) in
-          subst (λ q. Reaches r q false) (sym (ap (λ n. take n (given ++ line ∷ [])) (sym at) ∙ take-append_seam given (line ∷ []))) last
+          subst (λ q. ReachesLines r q false) (sym (ap (λ n. take n (given ++ line ∷ [])) (sym at) ∙ take-append_seam given (line ∷ []))) last
     ]
 
 -- the entries of one client's growth are its own

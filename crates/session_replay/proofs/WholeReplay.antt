@@ -10,11 +10,11 @@ use Rattle.session_events.specs.declared.event.Entry.{Entry}
 use Rattle.session_events.specs.Entries.{entry_of}
 use Rattle.session_events.specs.Meaning.{rules}
 use Rattle.session_replay.specs.declared.ends.ReplayEnd.TheVariants.{Ended}
-use Rattle.session_replay.specs.declared.places.Place.{Place}
-use Rattle.session_replay.specs.declared.places.Place.TheVariants as place
-use Rattle.session_replay.specs.Clients.{GotTo, LeftAt, Stands}
-use Rattle.session_replay.specs.Replays.{Replay, lines_of, HasEnded, Reaches}
-use Rattle.session_replay.specs.WholeExample.{lets_go, typed, one_came, one_went, both_went, IsWhole}
+use Rattle.session_replay.specs.declared.places.ClientPlace.{ClientPlace}
+use Rattle.session_replay.specs.declared.places.ClientPlace.TheVariants as place
+use Rattle.session_replay.specs.Clients.{GotTo, LeftAt, ClientStands}
+use Rattle.session_replay.specs.Replays.{Replay, replay_lines_of, ClientHasEnded, ReachesLines}
+use Rattle.session_replay.specs.WholeExample.{lets_go, typed_lines, one_came, one_went_first, both_went, IsWholeReplay}
 
 abbrev all-lines : List (List ℕ)
 all-lines = codes "0 " ∷ codes "01 " ∷ [] ∷ codes "1 " ∷ []
@@ -33,17 +33,17 @@ here-first = record {
   fits = record { events = refl; stays = refl; bytes = refl };
 }
 
-here-still : GotTo lets_go Whole 0 one_went ([] ∷ []) []
+here-still : GotTo lets_go Whole 0 one_went_first ([] ∷ []) []
 here-still = record {
-  got = answers (rules lets_go) 0 one_went;
-  adds = record { more = one_went; grows = refl; answered = refl; events = refl };
+  got = answers (rules lets_go) 0 one_went_first;
+  adds = record { more = one_went_first; grows = refl; answered = refl; events = refl };
   fits = record { events = refl; stays = refl; bytes = refl };
 }
 
 -- the second one has gone by its first line, and its second one is passed over
-gone-second : (lines : List (List ℕ)) → LeftAt lets_go Over 1 one_went lines []
+gone-second : (lines : List (List ℕ)) → LeftAt lets_go Over 1 one_went_first lines []
 gone-second lines = record {
-  got = answers (rules lets_go) 1 one_went;
+  got = answers (rules lets_go) 1 one_went_first;
   answered = refl;
   events = refl;
   fits = record { leaves = refl; events = λ more. refl; bytes = λ more. refl };
@@ -51,14 +51,14 @@ gone-second lines = record {
 
 -- a client stands somewhere behind some of the lines
 abbrev Somewhere : List Entry → List (List ℕ) → ℕ → Type 0
-Somewhere front lines who = (at : Place) × (told : List ℕ) × Stands lets_go at who front (lines_of replay who lines) told
+Somewhere front lines who = (at : ClientPlace) × (told : List ℕ) × ClientStands lets_go at who front (replay_lines_of replay who lines) told
 
 two : (P : ℕ → Type 0) → P 0 → P 1 → (who : ℕ) → who < 2 → P who
 two P first second zero inside = first
 two P first second (suc zero) inside = second
 two P first second (suc (suc who)) inside = absurd (omega (arith, inside))
 
-at-start : Reaches replay [] false
+at-start : ReachesLines replay [] false
 at-start = record {
   good = refl;
   front = [];
@@ -68,7 +68,7 @@ at-start = record {
   over_is = refl;
 }
 
-behind-first : Reaches replay (codes "0 " ∷ []) false
+behind-first : ReachesLines replay (codes "0 " ∷ []) false
 behind-first = record {
   good = refl;
   front = one_came;
@@ -78,37 +78,37 @@ behind-first = record {
   over_is = refl;
 }
 
-behind-second : Reaches replay (codes "0 " ∷ codes "01 " ∷ []) false
+behind-second : ReachesLines replay (codes "0 " ∷ codes "01 " ∷ []) false
 behind-second = record {
   good = refl;
-  front = one_went;
+  front = one_went_first;
   rest = entry_of 0 Leave ∷ [];
   split = refl;
-  clients = two (Somewhere one_went (codes "0 " ∷ codes "01 " ∷ [])) (place.Here, [], (refl, omega arith, here-still)) (place.Gone, [], (omega arith, gone-second ([] ∷ [])));
+  clients = two (Somewhere one_went_first (codes "0 " ∷ codes "01 " ∷ [])) (place.Here, [], (refl, omega arith, here-still)) (place.Gone, [], (omega arith, gone-second ([] ∷ [])));
   over_is = refl;
 }
 
-behind-blank : Reaches replay (codes "0 " ∷ codes "01 " ∷ [] ∷ []) false
+behind-blank : ReachesLines replay (codes "0 " ∷ codes "01 " ∷ [] ∷ []) false
 behind-blank = record {
   good = refl;
-  front = one_went;
+  front = one_went_first;
   rest = entry_of 0 Leave ∷ [];
   split = refl;
-  clients = two (Somewhere one_went (codes "0 " ∷ codes "01 " ∷ [] ∷ [])) (place.Here, [], (refl, omega arith, here-still)) (place.Gone, [], (omega arith, gone-second ([] ∷ [])));
+  clients = two (Somewhere one_went_first (codes "0 " ∷ codes "01 " ∷ [] ∷ [])) (place.Here, [], (refl, omega arith, here-still)) (place.Gone, [], (omega arith, gone-second ([] ∷ [])));
   over_is = refl;
 }
 
-abbrev behind-all : Reaches replay all-lines false
+abbrev behind-all : ReachesLines replay all-lines false
 behind-all = record {
   good = refl;
-  front = one_went;
+  front = one_went_first;
   rest = entry_of 0 Leave ∷ [];
   split = refl;
-  clients = two (Somewhere one_went all-lines) (place.Here, [], (refl, omega arith, here-still)) (place.Gone, [], (omega arith, gone-second ([] ∷ [] ∷ [])));
+  clients = two (Somewhere one_went_first all-lines) (place.Here, [], (refl, omega arith, here-still)) (place.Gone, [], (omega arith, gone-second ([] ∷ [] ∷ [])));
   over_is = refl;
 }
 
-in-order : (i : ℕ) → i < 4 → Reaches replay (take i all-lines) false
+in-order : (i : ℕ) → i < 4 → ReachesLines replay (take i all-lines) false
 in-order zero inside = at-start
 in-order (suc zero) inside = behind-first
 in-order (suc (suc zero)) inside = behind-second
@@ -118,9 +118,9 @@ in-order (suc (suc (suc (suc i)))) inside = absurd (omega (arith, inside))
 strange : (who : ℕ) → 2 ≤ who → own (rules lets_go) who both_went ≡ []
 strange who past = rw (ne_eqb 0 who (λ e. absurd (omega (arith, past, e))), ne_eqb 1 who (λ e. absurd (omega (arith, past, e)))) refl
 
-pub whole-replay : IsWhole
+pub whole-replay : IsWholeReplay
 whole-replay = record {
-  bytes = typed;
+  bytes = typed_lines;
   takes = refl;
   few = omega arith;
   lines = all-lines;
@@ -131,7 +131,7 @@ whole-replay = record {
     first = inr (refl, ([], refl));
     order = in-order;
     strangers = strange;
-    ends = ((record { reaches = behind-all; in_order = refl }, refl, refl), two (HasEnded replay) (inr (refl, refl, refl)) (inl (refl, refl, refl)));
+    ends = ((record { reaches = behind-all; in_order = refl }, refl, refl), two (ClientHasEnded replay) (inr (refl, refl, refl)) (inl (refl, refl, refl)));
   };
   reports = inl (refl, refl, refl);
 }

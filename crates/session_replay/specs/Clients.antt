@@ -10,8 +10,8 @@ use Rattle.session_events.specs.declared.event.Entry.{Entry}
 use Rattle.session_events.specs.Legal.{Away, is_here, presence_from}
 use Rattle.session_events.specs.Meaning.{Gives, rules}
 use Rattle.session_lines.specs.Session.{protocol}
-use Rattle.session_replay.specs.declared.places.Place.{Place}
-use Rattle.session_replay.specs.declared.places.Place.TheVariants as place
+use Rattle.session_replay.specs.declared.places.ClientPlace.{ClientPlace}
+use Rattle.session_replay.specs.declared.places.ClientPlace.TheVariants as place
 use Rattle.session_replay.specs.Written.{lines_for}
 
 -- A client got so far with its opening and these lines, as `how` says: this is its part of the history, and this it was told.
@@ -29,32 +29,32 @@ pub record LeftAt (gives : Gives) (how : How) (who : ℕ) (history : List Entry)
 
 -- A client comes with its first line: one that hasn't come has no line and no entry, and was told nothing; one that is here
 -- was played all of its lines; one that has gone was let go by one of them, and the lines behind it are passed over.
-abbrev pub Stands : Gives → Place → ℕ → List Entry → List (List ℕ) → List ℕ → Type 0
-Stands gives place.Away who history lines told = (own (rules gives) who history ≡ []) × (lines ≡ []) × (told ≡ [])
-Stands gives place.Here who history lines told =
+abbrev pub ClientStands : Gives → ClientPlace → ℕ → List Entry → List (List ℕ) → List ℕ → Type 0
+ClientStands gives place.Away who history lines told = (own (rules gives) who history ≡ []) × (lines ≡ []) × (told ≡ [])
+ClientStands gives place.Here who history lines told =
     (is_here (presence_from who Away history) ≡ true) × (0 < length lines) × GotTo gives Whole who history lines told
-Stands gives place.Gone who history lines told = (0 < length lines) × LeftAt gives Over who history lines told
+ClientStands gives place.Gone who history lines told = (0 < length lines) × LeftAt gives Over who history lines told
 
 -- What is held for a client: where it is, its box, and the report of its box when that is gone.
-pub record Held : Type 0 where
-  pub place : Place
+pub record HeldClient : Type 0 where
+  pub place : ClientPlace
   pub box : Option Shown
   pub report : List ℕ
 
 -- what was shown is in the client's box, and nothing is reported yet; or it was when the client left, and is reported
-abbrev pub Keeps : Place → Held → Shown → Type 0
+abbrev pub Keeps : ClientPlace → HeldClient → Shown → Type 0
 Keeps place.Gone held shown = (held.box ≡ None) × (held.report ≡ report_of shown)
 Keeps _ held shown = (held.box ≡ Some shown) × (held.report ≡ [])
 
 -- A client of that kind stands there, and its box was told what it was told.
-pub record IsClient (gives : Gives) (kind : Kind) (who : ℕ) (history : List Entry) (lines : List (List ℕ)) (held : Held) : Type 0 where
+pub record IsClient (gives : Gives) (kind : Kind) (who : ℕ) (history : List Entry) (lines : List (List ℕ)) (held : HeldClient) : Type 0 where
   pub shown : Shown
   pub kind_is : shown.kind ≡ kind
   pub keeps : Keeps held.place held shown
-  pub stands : Stands gives held.place who history lines (json_lines shown.told)
+  pub stands : ClientStands gives held.place who history lines (json_lines shown.told)
 
 -- Behind some written lines, each client of these kinds stands behind its own of them, and there is no other client.
-pub record IsMoment (gives : Gives) (kinds : List Kind) (lines : List (List ℕ)) (history : List Entry) (held : ℕ → Held) : Type 0 where
+pub record IsMoment (gives : Gives) (kinds : List Kind) (lines : List (List ℕ)) (history : List Entry) (held : ℕ → HeldClient) : Type 0 where
   pub clients : (who : ℕ) → who < length kinds → IsClient gives (get_or kinds who Silent) who history (lines_for (length kinds) who lines) (held who)
   pub strangers : (who : ℕ) → length kinds ≤ who → own (rules gives) who history ≡ []
 
@@ -65,7 +65,7 @@ pub record GrowsBy (gives : Gives) (who : ℕ) (old new : List Entry) : Type 0 w
   pub alone : (other : ℕ) → other ≢ who → own (rules gives) other more ≡ []
 
 -- A client left, and nothing else happened.
-pub record Leaves (who : ℕ) (old new : List Entry) : Type 0 where
+pub record LeavesAlone (who : ℕ) (old new : List Entry) : Type 0 where
   pub entry : Entry
   pub stands : new ≡ old ++ entry ∷ []
   pub maker : entry.who ≡ who

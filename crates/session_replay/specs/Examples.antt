@@ -6,10 +6,10 @@ use Rattle.session_events.specs.declared.event.Entry.{Entry}
 use Rattle.session_events.specs.Entries.{entry_of}
 use Rattle.session_lines.specs.declared.playing.Stop.TheVariants.{HistoryFull, WriteFault}
 use Rattle.session_replay.specs.declared.ends.ReplayEnd.TheVariants.{Ended, BadClient}
-use Rattle.session_replay.specs.declared.places.Place.TheVariants as place
-use Rattle.session_replay.specs.Clients.{Stands}
+use Rattle.session_replay.specs.declared.places.ClientPlace.TheVariants as place
+use Rattle.session_replay.specs.Clients.{ClientStands}
 use Rattle.session_replay.specs.Replays.{has_bad, is_over, leave_in_order, before_leavings, unwritten, AreFirst, IsNeededFor}
-use Rattle.session_replay.specs.WholeExample.{lets_go, one_came, IsWhole}
+use Rattle.session_replay.specs.WholeExample.{lets_go, one_came, IsWholeReplay}
 
 -- two clients have come
 abbrev pub both_here : List Entry
@@ -36,7 +36,7 @@ pub record WorkedExamples : Type 0 where
   pub behind_a_leaving : leave_in_order (entry_of 0 Leave ∷ entry_of 1 (Refresh true) ∷ entry_of 1 Leave ∷ []) ≡ false
   pub before_the_end : before_leavings (entry_of 1 (Refresh true) ∷ entry_of 0 Leave ∷ entry_of 1 Leave ∷ []) ≡ entry_of 1 (Refresh true) ∷ []
   -- a client that has no line isn't here
-  pub came_early : Stands lets_go place.Here 0 one_came [] [] → ⊥
+  pub came_early : ClientStands lets_go place.Here 0 one_came [] [] → ⊥
   -- bad lines
   pub no_such_client : has_bad 2 (codes "0 a" ∷ codes "" ∷ codes "2 b" ∷ []) ≡ true
   pub all_good : has_bad 2 (codes "0 a" ∷ codes "" ∷ codes "1 " ∷ []) ≡ false
@@ -53,4 +53,4 @@ pub record WorkedExamples : Type 0 where
   pub bad_before : unwritten (Ok BadClient) ≡ Ok BadClient
   pub full_before : unwritten (Err HistoryFull) ≡ Err HistoryFull
   -- a whole replay
-  pub whole : IsWhole
+  pub whole : IsWholeReplay

@@ -7,10 +7,10 @@ use Rattle.session_turns.specs.Headline.{End, Left, Closed, Refused, Unwritten, 
 use Rattle.session_events.specs.declared.event.Entry.{Entry}
 use Rattle.session_events.specs.Legal.{Away, is_here, presence_from}
 use Rattle.session_events.specs.Meaning.{Gives, rules}
-use Rattle.session_replay.specs.declared.places.Place.{Place}
-use Rattle.session_replay.specs.declared.places.Place.TheVariants as place
+use Rattle.session_replay.specs.declared.places.ClientPlace.{ClientPlace}
+use Rattle.session_replay.specs.declared.places.ClientPlace.TheVariants as place
 use Rattle.session_replay.specs.Written.{lines_for}
-use Rattle.session_replay.specs.Clients.{GotTo, LeftAt, Held, Keeps}
+use Rattle.session_replay.specs.Clients.{GotTo, LeftAt, HeldClient, Keeps}
 
 -- how a client ends that leaves where it got so far
 abbrev pub ends_as : How → End
@@ -21,13 +21,13 @@ ends_as Unsent = Unwritten
 ends_as Lost = WasLost
 
 -- how far a client got with the lines that were played, by where it is behind them
-abbrev pub how_at : Place → How
+abbrev pub how_at : ClientPlace → How
 how_at place.Gone = Over
 how_at _ = Whole
 
 -- Where a client stands that got so far, while those who are here leave: one that hasn't come has no line, or its coming
 -- was refused.
-abbrev pub StandsLast : Gives → How → Place → ℕ → List Entry → List (List ℕ) → List ℕ → Type 0
+abbrev pub StandsLast : Gives → How → ClientPlace → ℕ → List Entry → List (List ℕ) → List ℕ → Type 0
 StandsLast gives how place.Away who history lines told =
     (own (rules gives) who history ≡ []) × (told ≡ []) × ((lines ≡ []) ⊎ ((how ≡ Short) × GotTo gives Short who history lines told))
 StandsLast gives how place.Here who history lines told =
@@ -35,7 +35,7 @@ StandsLast gives how place.Here who history lines told =
 StandsLast gives how place.Gone who history lines told = (0 < length lines) × LeftAt gives how who history lines told
 
 -- A client of that kind stands there, and its box was told what it was told.
-pub record IsParting (gives : Gives) (kind : Kind) (how : How) (who : ℕ) (history : List Entry) (lines : List (List ℕ)) (held : Held) : Type 0 where
+pub record IsParting (gives : Gives) (kind : Kind) (how : How) (who : ℕ) (history : List Entry) (lines : List (List ℕ)) (held : HeldClient) : Type 0 where
   pub shown : Shown
   pub kind_is : shown.kind ≡ kind
   pub keeps : Keeps held.place held shown
@@ -43,7 +43,7 @@ pub record IsParting (gives : Gives) (kind : Kind) (how : How) (who : ℕ) (hist
 
 -- Behind the written lines that were played, the clients got so far as `hows` says, and of those with smaller numbers than
 -- `next` none is here any more; there is no other client.
-pub record AreParting (gives : Gives) (kinds : List Kind) (hows : ℕ → How) (next : ℕ) (lines : List (List ℕ)) (history : List Entry) (held : ℕ → Held) : Type 0 where
+pub record AreParting (gives : Gives) (kinds : List Kind) (hows : ℕ → How) (next : ℕ) (lines : List (List ℕ)) (history : List Entry) (held : ℕ → HeldClient) : Type 0 where
   pub clients : (who : ℕ) → who < length kinds → IsParting gives (get_or kinds who Silent) (hows who) who history (lines_for (length kinds) who lines) (held who)
   pub parted : (who : ℕ) → who < next → (held who).place ≢ place.Here
   pub strangers : (who : ℕ) → length kinds ≤ who → own (rules gives) who history ≡ []

@@ -20,21 +20,21 @@ use Rattle.session_lines.specs.declared.playing.Stop.TheVariants.{HistoryFull, B
 use Rattle.session_lines.specs.Stops.{IsFull}
 use Rattle.session_replay.specs.declared.ends.ReplayEnd.{ReplayEnd}
 use Rattle.session_replay.specs.declared.ends.ReplayEnd.TheVariants.{Over, Ended, BadClient, ReadFault, Full}
-use Rattle.session_replay.specs.declared.places.Place.TheVariants as place
+use Rattle.session_replay.specs.declared.places.ClientPlace.TheVariants as place
 use Rattle.session_replay.specs.Written.{Bad, written, lines_for}
-use Rattle.session_replay.specs.Clients.{Held, IsMoment}
-use Rattle.session_replay.specs.Players.{IsHeldStill, IsCutOff}
+use Rattle.session_replay.specs.Clients.{HeldClient, IsMoment}
+use Rattle.session_replay.specs.Players.{IsHeldStill, IsPlayCutOff}
 use Rattle.session_replay.specs.Partings.{how_at, AreParting}
-use Rattle.session_replay.specs.Replays.{Replay, StandsAt, has_bad, is_over, leave_in_order, Reaches, AreFirst, IsNeededFor, IsReplayed}
+use Rattle.session_replay.specs.Replays.{Replay, StandsAt, has_bad, is_over, leave_in_order, ReachesLines, AreFirst, IsNeededFor, IsReplayed}
 
 -- So many clients are ready: no line was played.
-pub record AreReady (g : Gives) (count : ℕ) (h : List Entry) (held : ℕ → Held) : Type 0 where
+pub record AreReady (g : Gives) (count : ℕ) (h : List Entry) (held : ℕ → HeldClient) : Type 0 where
   pub kinds : List Kind
   pub many : length kinds ≡ count
   pub moment : IsMoment g kinds [] h held
 
 -- these lines are the first ones of what was taken, and no more was taken than they need
-pub record HasGiven (left rest : Inlet) (lines : List (List ℕ)) : Type 0 where
+pub record HasGivenLines (left rest : Inlet) (lines : List (List ℕ)) : Type 0 where
   pub bytes : List ℕ
   pub takes : Consumes left.left rest.left bytes
   pub few : length bytes ≤ MAX_INPUT
@@ -69,63 +69,63 @@ abbrev pub replay_of : Gives → ℕ → List (List ℕ) → List Entry → List
 replay_of g limit lines h shown = record { gives = g; limit = limit; lines = lines; history = h; shown = shown }
 
 -- each line but the last ones was played behind all before it, whatever the boxes of so many clients have shown
-abbrev pub AreInOrder : Gives → ℕ → ℕ → List (List ℕ) → List Entry → Type 0
-AreInOrder g limit count lines h = (shown : List Shown) → length shown ≡ count → (i : ℕ) → i < length lines → Reaches (replay_of g limit lines h shown) (take i lines) false
+abbrev pub ArePlayedInOrder : Gives → ℕ → ℕ → List (List ℕ) → List Entry → Type 0
+ArePlayedInOrder g limit count lines h = (shown : List Shown) → length shown ≡ count → (i : ℕ) → i < length lines → ReachesLines (replay_of g limit lines h shown) (take i lines) false
 
 -- These lines were played, none is bad, and the replay goes on.
-pub record HasPlayed (g : Gives) (limit : ℕ) (kinds : List Kind) (lines : List (List ℕ)) (h : List Entry) (held : ℕ → Held) : Type 0 where
+pub record HasPlayed (g : Gives) (limit : ℕ) (kinds : List Kind) (lines : List (List ℕ)) (h : List Entry) (held : ℕ → HeldClient) : Type 0 where
   pub moment : IsMoment g kinds lines h held
   pub good : has_bad (length kinds) lines ≡ false
   pub over_is : is_over h ≡ false
-  pub order : AreInOrder g limit (length kinds) lines h
+  pub order : ArePlayedInOrder g limit (length kinds) lines h
 
 -- These lines were played, none is bad, and the replay is over by the last one.
-pub record HasFinished (g : Gives) (limit : ℕ) (kinds : List Kind) (lines : List (List ℕ)) (h : List Entry) (held : ℕ → Held) : Type 0 where
+pub record HasFinished (g : Gives) (limit : ℕ) (kinds : List Kind) (lines : List (List ℕ)) (h : List Entry) (held : ℕ → HeldClient) : Type 0 where
   pub moment : IsMoment g kinds lines h held
   pub good : has_bad (length kinds) lines ≡ false
   pub over_is : is_over h ≡ true
-  pub order : AreInOrder g limit (length kinds) lines h
+  pub order : ArePlayedInOrder g limit (length kinds) lines h
 
 -- behind lines that were played, one more was: the replay goes on, or is over by it; or it is bad, or was cut off
-abbrev pub PlaysOn : Gives → ℕ → List Kind → List (List ℕ) → List ℕ → Result (Option ReplayEnd) Stop → List Entry → List Entry → (ℕ → Held) → (ℕ → Held) → Type 0
+abbrev pub PlaysOn : Gives → ℕ → List Kind → List (List ℕ) → List ℕ → Result (Option ReplayEnd) Stop → List Entry → List Entry → (ℕ → HeldClient) → (ℕ → HeldClient) → Type 0
 PlaysOn g limit kinds lines line (Ok None) old new before now = HasPlayed g limit kinds (lines ++ line ∷ []) new now
 PlaysOn g limit kinds lines line (Ok (Some Over)) old new before now = HasFinished g limit kinds (lines ++ line ∷ []) new now
 PlaysOn g limit kinds lines line (Ok (Some BadClient)) old new before now = (written (length kinds) line ≡ Bad) × HasPlayed g limit kinds lines new now
 PlaysOn g limit kinds lines line (Ok (Some _)) old new before now = ⊥
-PlaysOn g limit kinds lines line (Err why) old new before now = IsCutOff g why kinds lines line old new before now
+PlaysOn g limit kinds lines line (Err why) old new before now = IsPlayCutOff g why kinds lines line old new before now
 
 -- All lines that were read were played; of the input this is known.
-pub record AllPlayed (g : Gives) (limit : ℕ) (kinds : List Kind) (h : List Entry) (held : ℕ → Held) (IsRead : List (List ℕ) → Type 0) : Type 0 where
+pub record AllPlayed (g : Gives) (limit : ℕ) (kinds : List Kind) (h : List Entry) (held : ℕ → HeldClient) (IsRead : List (List ℕ) → Type 0) : Type 0 where
   pub lines : List (List ℕ)
   pub played : HasPlayed g limit kinds lines h held
   pub read : IsRead lines
 
 -- The replay is over by the last line.
-pub record IsFinished (g : Gives) (limit : ℕ) (kinds : List Kind) (h : List Entry) (held : ℕ → Held) (left rest : Inlet) : Type 0 where
+pub record IsFinished (g : Gives) (limit : ℕ) (kinds : List Kind) (h : List Entry) (held : ℕ → HeldClient) (left rest : Inlet) : Type 0 where
   pub lines : List (List ℕ)
   pub finished : HasFinished g limit kinds lines h held
-  pub read : HasGiven left rest lines
+  pub read : HasGivenLines left rest lines
 
 -- The last line is bad.
-pub record MetBad (g : Gives) (limit : ℕ) (kinds : List Kind) (h : List Entry) (held : ℕ → Held) (left rest : Inlet) : Type 0 where
+pub record MetBad (g : Gives) (limit : ℕ) (kinds : List Kind) (h : List Entry) (held : ℕ → HeldClient) (left rest : Inlet) : Type 0 where
   pub lines : List (List ℕ)
   pub last : List ℕ
   pub bad : written (length kinds) last ≡ Bad
   pub played : HasPlayed g limit kinds lines h held
-  pub read : HasGiven left rest (lines ++ last ∷ [])
+  pub read : HasGivenLines left rest (lines ++ last ∷ [])
 
 -- The last line was cut off.
-pub record WasCutOff (g : Gives) (limit : ℕ) (kinds : List Kind) (h : List Entry) (held : ℕ → Held) (left rest : Inlet) (why : Stop) : Type 0 where
+pub record WasCutOff (g : Gives) (limit : ℕ) (kinds : List Kind) (h : List Entry) (held : ℕ → HeldClient) (left rest : Inlet) (why : Stop) : Type 0 where
   pub lines : List (List ℕ)
   pub last : List ℕ
   pub old : List Entry
-  pub before : ℕ → Held
+  pub before : ℕ → HeldClient
   pub played : HasPlayed g limit kinds lines old before
-  pub cut : IsCutOff g why kinds lines last old h before held
-  pub read : HasGiven left rest (lines ++ last ∷ [])
+  pub cut : IsPlayCutOff g why kinds lines last old h before held
+  pub read : HasGivenLines left rest (lines ++ last ∷ [])
 
 -- where the playing of an input's lines ended; memory may have been wanting for the next line
-abbrev pub HasStopped : Gives → ℕ → List Kind → Result ReplayEnd Stop → List Entry → (ℕ → Held) → Inlet → Inlet → Type 0
+abbrev pub HasStopped : Gives → ℕ → List Kind → Result ReplayEnd Stop → List Entry → (ℕ → HeldClient) → Inlet → Inlet → Type 0
 HasStopped g limit kinds (Ok Over) h held left rest = IsFinished g limit kinds h held left rest
 HasStopped g limit kinds (Ok Ended) h held left rest = AllPlayed g limit kinds h held (HasAllLines left rest)
 HasStopped g limit kinds (Ok BadClient) h held left rest = MetBad g limit kinds h held left rest
@@ -134,7 +134,7 @@ HasStopped g limit kinds (Ok Full) h held left rest = AllPlayed g limit kinds h 
 HasStopped g limit kinds (Err why) h held left rest = ((why ≡ NoMemory) × AllPlayed g limit kinds h held (HasFirst left rest)) ⊎ WasCutOff g limit kinds h held left rest why
 
 -- how far the clients got where one of them was refused
-abbrev pub hows_at : ℕ → (ℕ → Held) → ℕ → How
+abbrev pub hows_at : ℕ → (ℕ → HeldClient) → ℕ → How
 hows_at who held other = if other == who then Short else how_at (held other).place
 
 -- Which of the ways of getting on a replay's clients end with.
@@ -148,7 +148,7 @@ abbrev pub are_below : ℕ → List Entry → Bool
 are_below n entries = list_all (λ entry. not (is_leave entry.event) || nat_lt entry.who n) entries
 
 -- While clients leave behind a moment: what stands behind it, and who has left.
-pub record AreLeaving (g : Gives) (kinds : List Kind) (hows : ℕ → How) (next : ℕ) (lines : List (List ℕ)) (before h : List Entry) (held : ℕ → Held) : Type 0 where
+pub record AreLeaving (g : Gives) (kinds : List Kind) (hows : ℕ → How) (next : ℕ) (lines : List (List ℕ)) (before h : List Entry) (held : ℕ → HeldClient) : Type 0 where
   pub rest : List Entry
   pub split : h ≡ before ++ rest
   pub in_order : leave_in_order rest ≡ true
@@ -166,7 +166,7 @@ IsLossFor NoMemory = Unit {0}
 IsLossFor _ = ⊥
 
 -- The clients may leave, one after another.
-pub record MayLeave (g : Gives) (count : ℕ) (h : List Entry) (held : ℕ → Held) : Type 0 where
+pub record MayLeave (g : Gives) (count : ℕ) (h : List Entry) (held : ℕ → HeldClient) : Type 0 where
   pub kinds : List Kind
   pub hows : ℕ → How
   pub lines : List (List ℕ)
@@ -174,25 +174,25 @@ pub record MayLeave (g : Gives) (count : ℕ) (h : List Entry) (held : ℕ → H
   pub parting : AreParting g kinds hows 0 lines h held
 
 -- Something was lost as clients left: of each a beginning stands, and nobody else has an entry.
-pub record IsLost (g : Gives) (kinds : List Kind) (lines : List (List ℕ)) (before h : List Entry) (why : Stop) : Type 0 where
+pub record IsLostLeaving (g : Gives) (kinds : List Kind) (lines : List (List ℕ)) (before h : List Entry) (why : Stop) : Type 0 where
   pub loss : IsLossFor why
   pub grows : Begins h before
   pub lost : AreLost g kinds lines h
   pub strangers : (who : ℕ) → length kinds ≤ who → own (rules g) who h ≡ []
 
 -- all clients left that were here, or something was lost
-abbrev pub DismissesAll : {A : Type 0} → Gives → List Kind → (ℕ → How) → List (List ℕ) → List Entry → Result A Stop → List Entry → (ℕ → Held) → Type 0
+abbrev pub DismissesAll : {A : Type 0} → Gives → List Kind → (ℕ → How) → List (List ℕ) → List Entry → Result A Stop → List Entry → (ℕ → HeldClient) → Type 0
 DismissesAll g kinds hows lines before (Ok _) h held = AreLeaving g kinds hows (length kinds) lines before h held
-DismissesAll g kinds hows lines before (Err why) h held = IsLost g kinds lines before h why
+DismissesAll g kinds hows lines before (Err why) h held = IsLostLeaving g kinds lines before h why
 
 -- the reports of boxes that have shown this are held, unless something was lost
-abbrev pub HoldReports : Result ReplayEnd Stop → List Shown → (ℕ → Held) → Type 0
+abbrev pub HoldReports : Result ReplayEnd Stop → List Shown → (ℕ → HeldClient) → Type 0
 HoldReports (Err (Broken at)) shown held = ⊤
 HoldReports (Err NoMemory) shown held = ⊤
 HoldReports _ shown held = (who : ℕ) → who < length shown → (held who).report ≡ report_of (get_or shown who (untold Silent))
 
 -- Lines of an input were replayed for clients with boxes of these kinds, whose reports are held.
-pub record WasPlayed (g : Gives) (limit : ℕ) (kinds : List Kind) (ended : Result ReplayEnd Stop) (h : List Entry) (held : ℕ → Held) (left rest : Inlet) : Type 0 where
+pub record WasPlayed (g : Gives) (limit : ℕ) (kinds : List Kind) (ended : Result ReplayEnd Stop) (h : List Entry) (held : ℕ → HeldClient) (left rest : Inlet) : Type 0 where
   pub bytes : List ℕ
   pub takes : Consumes left.left rest.left bytes
   pub few : length bytes ≤ MAX_INPUT

@@ -23,9 +23,9 @@ use Rattle.session_lines.specs.Session.{protocol}
 use Rattle.session_lines.specs.Stops.{NoneFailed}
 use Rattle.session_replay.specs.declared.ends.ReplayEnd.{ReplayEnd}
 use Rattle.session_replay.specs.declared.ends.ReplayEnd.TheVariants.{Over, Ended, BadClient, ReadFault, Full}
-use Rattle.session_replay.specs.declared.places.Place.{Place}
+use Rattle.session_replay.specs.declared.places.ClientPlace.{ClientPlace}
 use Rattle.session_replay.specs.Written.{Written, Blank, Of, Bad, written, lines_for}
-use Rattle.session_replay.specs.Clients.{Stands}
+use Rattle.session_replay.specs.Clients.{ClientStands}
 
 -- What a replay has come to.
 pub record Replay : Type 0 where
@@ -41,8 +41,8 @@ pub record Replay : Type 0 where
   pub shown : List Shown
 
 -- the lines that some written lines are for a client of a replay
-abbrev pub lines_of : Replay → ℕ → List (List ℕ) → List (List ℕ)
-lines_of replay who lines = lines_for (length replay.shown) who lines
+abbrev pub replay_lines_of : Replay → ℕ → List (List ℕ) → List (List ℕ)
+replay_lines_of replay who lines = lines_for (length replay.shown) who lines
 
 -- the bytes that a client was sent, which its box was told
 abbrev pub sent_to : Replay → ℕ → List ℕ
@@ -56,11 +56,11 @@ StandsAt end gives who history (line ∷ lines) told = StandsFor (protocol []) (
 
 -- so a client ended
 abbrev pub EndedAs : End → Replay → ℕ → Type 0
-EndedAs end replay who = StandsAt end replay.gives who replay.history (lines_of replay who replay.lines) (sent_to replay who)
+EndedAs end replay who = StandsAt end replay.gives who replay.history (replay_lines_of replay who replay.lines) (sent_to replay who)
 
 -- a client was let go by one of its lines, or left when the replay ended, or never came
-abbrev pub HasEnded : Replay → ℕ → Type 0
-HasEnded replay who = EndedAs Left replay who ⊎ EndedAs Closed replay who
+abbrev pub ClientHasEnded : Replay → ℕ → Type 0
+ClientHasEnded replay who = EndedAs Left replay who ⊎ EndedAs Closed replay who
 
 -- a written line is bad
 abbrev pub is_bad : Written → Bool
@@ -89,17 +89,17 @@ before_leavings (entry ∷ entries) = if is_leave entry.event then [] else entry
 
 -- Behind some of the lines, none of which is bad, a front of the history stood: each client stands behind its own of
 -- them, so that nothing of the lines behind was played yet. `over` says whether the replay was over there.
-pub record Reaches (replay : Replay) (lines : List (List ℕ)) (over : Bool) : Type 0 where
+pub record ReachesLines (replay : Replay) (lines : List (List ℕ)) (over : Bool) : Type 0 where
   pub good : has_bad (length replay.shown) lines ≡ false
   pub front : List Entry
   pub rest : List Entry
   pub split : replay.history ≡ front ++ rest
-  pub clients : (who : ℕ) → who < length replay.shown → (at : Place) × (told : List ℕ) × Stands replay.gives at who front (lines_of replay who lines) told
+  pub clients : (who : ℕ) → who < length replay.shown → (at : ClientPlace) × (told : List ℕ) × ClientStands replay.gives at who front (replay_lines_of replay who lines) told
   pub over_is : is_over front ≡ over
 
 -- Some of the lines were reached, and no others: behind them those who were here leave, in the order of their numbers.
 pub record StopsBehind (replay : Replay) (lines : List (List ℕ)) (over : Bool) : Type 0 where
-  pub reaches : Reaches replay lines over
+  pub reaches : ReachesLines replay lines over
   pub in_order : leave_in_order reaches.rest ≡ true
 
 -- the lines are the first of those that the bytes complete; a last part is one too only where the input has ended
@@ -137,7 +137,7 @@ pub record EndsRefused (replay : Replay) : Type 0 where
   pub stops : StopsBehind replay before false
   pub full : replay.limit ≤ length stops.reaches.front + length (before_leavings stops.reaches.rest)
   pub refused : EndedAs Refused replay who
-  pub others : (other : ℕ) → other < length replay.shown → other ≢ who → HasEnded replay other
+  pub others : (other : ℕ) → other < length replay.shown → other ≢ who → ClientHasEnded replay other
 
 -- where a replay ends: behind the line by which it is over, behind all lines of the input, behind a bad line, or behind
 -- all whole lines, since the input failed or gave all that may be taken
@@ -150,20 +150,20 @@ EndsBy Full replay left bytes = StopsBehind replay replay.lines false × (replay
 
 -- How a replay ends, and what stands for its clients then. Where memory was wanting or the session is broken, a beginning
 -- of what is due to each stands, and a beginning was sent.
-abbrev pub Ends : Result ReplayEnd Stop → Replay → Inlet → List ℕ → Type 0
-Ends (Ok end) replay left bytes = EndsBy end replay left bytes × ((who : ℕ) → who < length replay.shown → HasEnded replay who)
-Ends (Err HistoryFull) replay left bytes = EndsRefused replay × IsNeededFor (length replay.lines) left bytes
-Ends (Err (Broken at)) replay left bytes = (who : ℕ) → who < length replay.shown → EndedAs Lost replay who
-Ends (Err NoMemory) replay left bytes = (who : ℕ) → who < length replay.shown → EndedAs Lost replay who
-Ends (Err WriteFault) replay left bytes = ⊥
+abbrev pub ReplayEnds : Result ReplayEnd Stop → Replay → Inlet → List ℕ → Type 0
+ReplayEnds (Ok end) replay left bytes = EndsBy end replay left bytes × ((who : ℕ) → who < length replay.shown → ClientHasEnded replay who)
+ReplayEnds (Err HistoryFull) replay left bytes = EndsRefused replay × IsNeededFor (length replay.lines) left bytes
+ReplayEnds (Err (Broken at)) replay left bytes = (who : ℕ) → who < length replay.shown → EndedAs Lost replay who
+ReplayEnds (Err NoMemory) replay left bytes = (who : ℕ) → who < length replay.shown → EndedAs Lost replay who
+ReplayEnds (Err WriteFault) replay left bytes = ⊥
 
 -- Lines of an input were replayed: they are its first ones, each was played behind all before it, none behind a bad one,
 -- and none where the replay was over; and nobody else has an entry.
 pub record IsReplayed (replay : Replay) (ended : Result ReplayEnd Stop) (left : Inlet) (bytes : List ℕ) : Type 0 where
   pub first : AreFirst left bytes replay.lines
-  pub order : (i : ℕ) → i < length replay.lines → Reaches replay (take i replay.lines) false
+  pub order : (i : ℕ) → i < length replay.lines → ReachesLines replay (take i replay.lines) false
   pub strangers : (who : ℕ) → length replay.shown ≤ who → own (rules replay.gives) who replay.history ≡ []
-  pub ends : Ends ended replay left bytes
+  pub ends : ReplayEnds ended replay left bytes
 
 -- what is answered where the reports couldn't be written: that, where nothing else was met
 abbrev pub unwritten : Result ReplayEnd Stop → Result ReplayEnd Stop
@@ -172,8 +172,8 @@ unwritten (Ok Ended) = Err WriteFault
 unwritten ended = ended
 
 -- the reports were written, or a write failed behind a front of them
-abbrev pub Writes : Result ReplayEnd Stop → Result ReplayEnd Stop → Outlet → Outlet → List ℕ → Type 0
-Writes ended result before now reports =
+abbrev pub WritesReports : Result ReplayEnd Stop → Result ReplayEnd Stop → Outlet → Outlet → List ℕ → Type 0
+WritesReports ended result before now reports =
     ((result ≡ ended) × Appends before.told now.told reports × NoneFailed before now)
     ⊎ ((result ≡ unwritten ended) × AppendsFront before.told now.told reports × Rose before.faults now.faults)
 
@@ -181,7 +181,7 @@ Writes ended result before now reports =
 abbrev pub Reports : Result ReplayEnd Stop → Result ReplayEnd Stop → Outlet → Outlet → List ℕ → Type 0
 Reports (Err (Broken at)) result before now reports = (result ≡ Err (Broken at)) × (now ≡ before)
 Reports (Err NoMemory) result before now reports = (result ≡ Err NoMemory) × (now ≡ before)
-Reports ended result before now reports = Writes ended result before now reports
+Reports ended result before now reports = WritesReports ended result before now reports
 
 -- The headline for many clients: lines of the input were replayed for clients with boxes of these kinds, and the reports
 -- of all boxes are written, one after another, in the order of the clients' numbers.
@@ -198,8 +198,8 @@ pub record WasReplayed (gives : Gives) (limit : ℕ) (kinds : List Kind) (histor
 
 -- A read fault is told only where the source counted one, and else none was met; but behind one memory may be wanting, or
 -- the session break.
-abbrev pub FaultIs : Result ReplayEnd Stop → Inlet → Inlet → Type 0
-FaultIs (Ok ReadFault) left rest = Rose left.faults rest.faults
-FaultIs (Err (Broken at)) left rest = (rest.faults ≡ left.faults) ⊎ Rose left.faults rest.faults
-FaultIs (Err NoMemory) left rest = (rest.faults ≡ left.faults) ⊎ Rose left.faults rest.faults
-FaultIs _ left rest = rest.faults ≡ left.faults
+abbrev pub ReplayFaultIs : Result ReplayEnd Stop → Inlet → Inlet → Type 0
+ReplayFaultIs (Ok ReadFault) left rest = Rose left.faults rest.faults
+ReplayFaultIs (Err (Broken at)) left rest = (rest.faults ≡ left.faults) ⊎ Rose left.faults rest.faults
+ReplayFaultIs (Err NoMemory) left rest = (rest.faults ≡ left.faults) ⊎ Rose left.faults rest.faults
+ReplayFaultIs _ left rest = rest.faults ≡ left.faults

@@ -14,21 +14,21 @@ abbrev pub lets_go : Gives
 lets_go before entry = record { drawing = None; leaving = entry.who == 1 }
 
 -- a line of client 0, one of client 1, a blank one, and one of client 1 again, which is passed over
-abbrev pub typed : List ℕ
-typed = codes "0 \n01 \n\n1 "
+abbrev pub typed_lines : List ℕ
+typed_lines = codes "0 \n01 \n\n1 "
 
 -- what stands behind the first line, behind the second, and at the end
 abbrev pub one_came : List Entry
 one_came = entry_of 0 Join ∷ entry_of 0 (Refresh true) ∷ []
 
-abbrev pub one_went : List Entry
-one_went = one_came ++ entry_of 1 Join ∷ entry_of 1 (Refresh true) ∷ entry_of 1 Leave ∷ []
+abbrev pub one_went_first : List Entry
+one_went_first = one_came ++ entry_of 1 Join ∷ entry_of 1 (Refresh true) ∷ entry_of 1 Leave ∷ []
 
 abbrev pub both_went : List Entry
-both_went = one_went ++ entry_of 0 Leave ∷ []
+both_went = one_went_first ++ entry_of 0 Leave ∷ []
 
 -- this is a replay of those bytes, of which one take gives them all
-abbrev pub IsWhole : Type 0
-IsWhole = WasReplayed lets_go 100 (Json ∷ Silent ∷ []) both_went
-    (record { left = Some typed; most = 4096; faults = 0 }) (record { left = Some []; most = 4096; faults = 0 })
+abbrev pub IsWholeReplay : Type 0
+IsWholeReplay = WasReplayed lets_go 100 (Json ∷ Silent ∷ []) both_went
+    (record { left = Some typed_lines; most = 4096; faults = 0 }) (record { left = Some []; most = 4096; faults = 0 })
     (record { told = Some []; faults = 0 }) (record { told = Some []; faults = 0 }) (Ok Ended)

@@ -6,7 +6,7 @@ ghost use Rattle.session_replay.specs.Phases.{IsLossOf, IsNoLoss};
 ghost use Rattle.session_replay.specs.Replays.{unwritten, Reports};
 
 use crate::ends::ReplayEnd;
-use crate::players::Client;
+use crate::players::ReplayClient;
 use crate::reports::write_reports;
 use kak_ports::Sink;
 use session_lines::Stop;
@@ -35,7 +35,7 @@ fn ended_with(ended: Result<ReplayEnd, Stop>, written: Result<(), Stop>) -> Resu
 
 /// Writes the reports of clients one after another, unless something was lost. Tells how the replay ended.
 pub fn finish<K: Sink>(
-    clients: &[Client],
+    clients: &[ReplayClient],
     sink: &mut K,
     ended: Result<ReplayEnd, Stop>,
 ) -> Result<ReplayEnd, Stop>

@@ -18,7 +18,7 @@ pub mod written;
 
 pub use ends::ReplayEnd;
 pub use examples::{worked_examples, written_examples};
-pub use places::Place;
+pub use places::ClientPlace;
 pub use players::{NoPlayers, Players, Taken};
 pub use replaying::replay_session;
 pub use written::{Written, read_written};

@@ -6,11 +6,11 @@ ghost use Rattle.session_turns.specs.Growth.{Begins, How};
 ghost use Rattle.session_events.specs.declared.event.Entry.{Entry};
 ghost use Rattle.session_events.specs.Seats.{IsLegalSeat};
 ghost use Rattle.session_lines.specs.Stops.{Stops, StaysWhole};
-ghost use Rattle.session_replay.specs.declared.places.Place.TheVariants as place;
+ghost use Rattle.session_replay.specs.declared.places.ClientPlace.TheVariants as place;
 ghost use Rattle.session_replay.specs.Players.{held_of};
 ghost use Rattle.session_replay.specs.Phases.{IsEnding, AreLeaving, MayLeave, DismissesAll};
 
-use crate::places::Place;
+use crate::places::ClientPlace;
 use crate::players::Players;
 use session_events::Seats;
 use session_lines::Stop;
@@ -23,7 +23,7 @@ fn is_here<S: Seats>(players: &Players<S>, who: u32) -> bool
     ensures here { result ≡ true → (held_of ⟦<Box<dyn Ui> as Ui>⟧.shown players.now.board.seats.items players.now.clients.items who).place ≡ place.Here }
     ensures away { result ≡ false → (held_of ⟦<Box<dyn Ui> as Ui>⟧.shown players.now.board.seats.items players.now.clients.items who).place ≢ place.Here }
 {
-    matches!(players.place_of(who), Place::Here)
+    matches!(players.place_of(who), ClientPlace::Here)
 }
 
 /// Lets all clients go that are here, in the order of their numbers.

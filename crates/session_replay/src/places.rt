@@ -2,7 +2,7 @@
 
 /// Where a client of a replay is.
 #[derive(Clone, Copy, PartialEq, Eq, Debug)]
-pub enum Place {
+pub enum ClientPlace {
     /// It hasn't come yet.
     Away,
     /// It is here.

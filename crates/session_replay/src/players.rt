@@ -8,12 +8,12 @@ ghost use Rattle.session_events.specs.Meaning.{rules};
 ghost use Rattle.session_events.specs.Seats.{IsLegalSeat, IsIn, turned_to};
 ghost use Rattle.session_lines.specs.Serving.{how_of};
 ghost use Rattle.session_lines.specs.Stops.{Stops, StaysWhole};
-ghost use Rattle.session_replay.specs.declared.places.Place.TheVariants as place;
+ghost use Rattle.session_replay.specs.declared.places.ClientPlace.TheVariants as place;
 ghost use Rattle.session_replay.specs.Boxes.{kind_in, told_in};
-ghost use Rattle.session_replay.specs.Clients.{GotTo, LeftAt, Leaves, IsClient, IsMoment, GrowsBy};
+ghost use Rattle.session_replay.specs.Clients.{GotTo, LeftAt, LeavesAlone, IsClient, IsMoment, GrowsBy};
 ghost use Rattle.session_replay.specs.Players.{places, reports, held_of, IsHeldStill, OthersAreHeld, let_off, IsAt, IsHere, TakesLine, PassesLine, TakesWritten, SomeIsAt, NoneIsAt, AreSomewhere, kinds_of, told_by_all};
 
-use crate::places::Place;
+use crate::places::ClientPlace;
 use crate::playing::{join, let_go, open_for, play};
 use crate::written::{Written, read_written};
 use session_events::Seats;
@@ -34,9 +34,9 @@ pub enum Taken {
 
 /// One client of a replay.
 #[derive(Drop)]
-pub struct Client {
+pub struct ReplayClient {
     /// Where it is.
-    pub place: Place,
+    pub place: ClientPlace,
     /// The report of its box, once it has gone.
     pub report: Vec<u8>,
 }
@@ -47,7 +47,7 @@ pub struct Client {
 pub struct Players<S: Seats> {
     pub(crate) seats: S,
     pub(crate) board: Board,
-    pub(crate) clients: Vec<Client>,
+    pub(crate) clients: Vec<ReplayClient>,
 }
 
 /// Memory was wanting for the clients of a replay; their seats are given back.
@@ -58,7 +58,7 @@ pub struct NoPlayers<S: Seats> {
 }
 
 // Seats boxes at a new board, in order: no client has come.
-fn seat_all(alloc: Global, uis: Vec<Box<dyn Ui>>) -> Result<(Board, Vec<Client>), AllocError>
+fn seat_all(alloc: Global, uis: Vec<Box<dyn Ui>>) -> Result<(Board, Vec<ReplayClient>), AllocError>
     requires { length uis.items < 2 ^ 32 }
     ensures boxes { IfOk result (λ made. made.0.seats.items ≡ map Some uis.items) }
     ensures away { IfOk result (λ made. places made.1.items ≡ map (λ ui. place.Away) uis.items) }
@@ -66,8 +66,8 @@ fn seat_all(alloc: Global, uis: Vec<Box<dyn Ui>>) -> Result<(Board, Vec<Client>)
 {
     let mut clients = Vec::new(alloc);
     for _ui in &uis {
-        clients.push(Client {
-            place: Place::Away,
+        clients.push(ReplayClient {
+            place: ClientPlace::Away,
             report: Vec::new(alloc),
         })?;
     }
@@ -85,7 +85,7 @@ impl<S: Seats> Players<S> {
     }
 
     // Where a client is.
-    pub(crate) fn place_of(&self, who: u32) -> Place
+    pub(crate) fn place_of(&self, who: u32) -> ClientPlace
         requires { who < length self.now.clients.items }
         ensures { result ≡ (held_of ⟦<Box<dyn Ui> as Ui>⟧.shown self.now.board.seats.items self.now.clients.items who).place }
     {
@@ -106,14 +106,14 @@ impl<S: Seats> Players<S> {
         ensures stops { Stops result (S.seated self.new.seats) }
         ensures grows { GrowsBy S.gives who (S.seated self.old.seats).seen (S.seated self.new.seats).seen }
         ensures others { OthersAreHeld who (held_of ⟦<Box<dyn Ui> as Ui>⟧.shown self.old.board.seats.items self.old.clients.items) (held_of ⟦<Box<dyn Ui> as Ui>⟧.shown self.new.board.seats.items self.new.clients.items) }
-        ensures leaves { OnOk result (Leaves who (S.seated self.old.seats).seen (S.seated self.new.seats).seen) }
+        ensures leaves { OnOk result (LeavesAlone who (S.seated self.old.seats).seen (S.seated self.new.seats).seen) }
         ensures lost { (how : How) → (lines : List (List ℕ)) → (told : List ℕ) → GotTo S.gives how who (S.seated self.old.seats).seen lines told → IfErr result (λ why. (how_of (Err why) ≡ Lost) × (GotTo S.gives how who (S.seated self.new.seats).seen lines told ⊎ LeftAt S.gives how who (S.seated self.new.seats).seen lines told)) }
         ensures off { OnOk result (held_of ⟦<Box<dyn Ui> as Ui>⟧.shown self.new.board.seats.items self.new.clients.items who ≡ let_off (held_of ⟦<Box<dyn Ui> as Ui>⟧.shown self.old.board.seats.items self.old.clients.items who).box) }
         ensures stays { OnErr result (IsHeldStill (held_of ⟦<Box<dyn Ui> as Ui>⟧.shown self.old.board.seats.items self.old.clients.items) (held_of ⟦<Box<dyn Ui> as Ui>⟧.shown self.new.board.seats.items self.new.clients.items)) }
     {
         let report = let_go(alloc, &mut self.seats, &mut self.board, who)?;
-        self.clients[who as usize] = Client {
-            place: Place::Gone,
+        self.clients[who as usize] = ReplayClient {
+            place: ClientPlace::Gone,
             report,
         };
         Ok(())
@@ -144,7 +144,7 @@ impl<S: Seats> Players<S> {
         ensures kind { kind_in (held_of ⟦<Box<dyn Ui> as Ui>⟧.shown self.new.board.seats.items self.new.clients.items who).box ≡ kind_in (held_of ⟦<Box<dyn Ui> as Ui>⟧.shown self.old.board.seats.items self.old.clients.items who).box }
     {
         join(alloc, &mut self.seats, who)?;
-        self.clients[who as usize].place = Place::Here;
+        self.clients[who as usize].place = ClientPlace::Here;
         open_for(alloc, &mut self.seats, &mut self.board, who)
     }
 
@@ -215,9 +215,9 @@ impl<S: Seats> Players<S> {
         ensures takes { (kind : Kind) → (lines : List (List ℕ)) → IsClient S.gives kind who (S.seated self.old.seats).seen lines (held_of ⟦<Box<dyn Ui> as Ui>⟧.shown self.old.board.seats.items self.old.clients.items who) → TakesLine S.gives kind who result (S.seated self.new.seats).seen (lines ++ line.now ∷ []) (held_of ⟦<Box<dyn Ui> as Ui>⟧.shown self.new.board.seats.items self.new.clients.items who) ⊎ PassesLine S.gives kind who result (S.seated self.old.seats).seen (S.seated self.new.seats).seen (lines ++ line.now ∷ []) (held_of ⟦<Box<dyn Ui> as Ui>⟧.shown self.new.board.seats.items self.new.clients.items who) }
     {
         match self.place_of(who) {
-            Place::Gone => Ok(false),
-            Place::Away => self.take_first(alloc, who, line),
-            Place::Here => self.take_next(alloc, who, line),
+            ClientPlace::Gone => Ok(false),
+            ClientPlace::Away => self.take_first(alloc, who, line),
+            ClientPlace::Here => self.take_next(alloc, who, line),
         }
     }
 
@@ -253,7 +253,7 @@ impl<S: Seats> Players<S> {
         ensures no { result ≡ false → NoneIsAt place.Here (length self.now.clients.items) (held_of ⟦<Box<dyn Ui> as Ui>⟧.shown self.now.board.seats.items self.now.clients.items) }
     {
         for who in 0..self.count() {
-            if self.place_of(who) == Place::Here {
+            if self.place_of(who) == ClientPlace::Here {
                 return true;
             }
         }

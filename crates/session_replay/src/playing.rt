@@ -9,12 +9,12 @@ ghost use Rattle.session_events.specs.declared.event.Entry.{Entry};
 ghost use Rattle.session_events.specs.declared.event.Event.TheVariants.{Join};
 ghost use Rattle.session_events.specs.declared.event.Output.{Output};
 ghost use Rattle.session_events.specs.Meaning.{rules};
-ghost use Rattle.session_events.specs.Seats.{Seated, IsLegalSeat, IsIn, IsWhole, Refuses, turned_to};
+ghost use Rattle.session_events.specs.Seats.{Seated, IsLegalSeat, IsIn, StaysUnbroken, Refuses, turned_to};
 ghost use Rattle.session_lines.specs.declared.playing.Stop.TheVariants.{NoMemory};
 ghost use Rattle.session_lines.specs.Serving.{how_of};
 ghost use Rattle.session_lines.specs.Stops.{Stops, StopsFor, StaysWhole, StaysWholeFor, IsLoss};
 ghost use Rattle.session_replay.specs.Boxes.{kind_in, told_in};
-ghost use Rattle.session_replay.specs.Clients.{GotTo, LeftAt, GrowsBy, Leaves};
+ghost use Rattle.session_replay.specs.Clients.{GotTo, LeftAt, GrowsBy, LeavesAlone};
 
 use crate::telling::tell_box;
 use session_events::{Event, Seats, StepFault};
@@ -25,7 +25,7 @@ use ui_board::{Board, Ui};
 // Why a coming is refused. A client comes once, and there are no more clients than may be here.
 fn stop_of(fault: StepFault) -> Stop
     ensures stops { (crowded : List Entry → Bool) → (seat : Seated) → Refuses crowded fault seat Join → StopsFor result seat }
-    ensures whole { (before : Option ℕ) → (seat : Seated) → IsWhole {A = Output} (Err fault) seat → StaysWholeFor result before seat.mark }
+    ensures whole { (before : Option ℕ) → (seat : Seated) → StaysUnbroken {A = Output} (Err fault) seat → StaysWholeFor result before seat.mark }
 {
     match fault {
         StepFault::HistoryFull => Stop::HistoryFull,
@@ -131,7 +131,7 @@ pub fn let_go<S: Seats>(
     ensures limit { (S.seated seats.new).limit ≡ (S.seated seats.old).limit }
     ensures legal { IsLegalSeat (S.seated seats.new) }
     ensures grows { GrowsBy S.gives who (S.seated seats.old).seen (S.seated seats.new).seen }
-    ensures leaves { OnOk result (Leaves who (S.seated seats.old).seen (S.seated seats.new).seen) }
+    ensures leaves { OnOk result (LeavesAlone who (S.seated seats.old).seen (S.seated seats.new).seen) }
     ensures memory { (how : How) → (lines : List (List ℕ)) → (told : List ℕ) → GotTo S.gives how who (S.seated seats.old).seen lines told → IfErr result (λ why. why ≡ NoMemory → LeftAt S.gives how who (S.seated seats.new).seen lines told) }
     ensures broken { (how : How) → (lines : List (List ℕ)) → (told : List ℕ) → GotTo S.gives how who (S.seated seats.old).seen lines told → IfErr result (λ why. IsLoss why (S.seated seats.new) → GotTo S.gives how who (S.seated seats.new).seen lines told) }
     ensures stops { IfErr result (λ why. (why ≡ NoMemory) ⊎ IsLoss why (S.seated seats.new)) }

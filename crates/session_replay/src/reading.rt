@@ -7,12 +7,12 @@ ghost use Rattle.session_lines.specs.Stops.{Stops, StaysWhole};
 ghost use Rattle.session_replay.specs.Clients.{IsMoment};
 ghost use Rattle.session_replay.specs.Players.{held_of, AreSomewhere};
 ghost use Rattle.session_replay.specs.Phases.{AreReady, HasPlayed, PlaysOn, HasStopped};
-ghost use Rattle.session_replay.specs.Replays.{FaultIs};
+ghost use Rattle.session_replay.specs.Replays.{ReplayFaultIs};
 
 use crate::ends::ReplayEnd;
 use crate::players::{Players, Taken};
 use kak_ports::Source;
-use line_reading::{LineReader, Next};
+use line_reading::{LineReader, NextLine};
 use session_events::Seats;
 use session_lines::Stop;
 use std::alloc::Global;
@@ -65,25 +65,25 @@ pub fn play_lines<S: Seats, I: Source>(
     ensures count { length players.new.clients.items ≡ length players.old.clients.items }
     ensures stops { Stops result (S.seated players.new.seats) }
     ensures played { (kinds : List Kind) → length kinds ≡ length players.old.clients.items → IsMoment S.gives kinds [] (S.seated players.old.seats).seen (held_of ⟦<Box<dyn Ui> as Ui>⟧.shown players.old.board.seats.items players.old.clients.items) → HasStopped S.gives (S.seated players.old.seats).limit kinds result (S.seated players.new.seats).seen (held_of ⟦<Box<dyn Ui> as Ui>⟧.shown players.new.board.seats.items players.new.clients.items) (I.inlet source.old) (I.inlet source.new) }
-    ensures fault { FaultIs result (I.inlet source.old) (I.inlet source.new) }
+    ensures fault { ReplayFaultIs result (I.inlet source.old) (I.inlet source.new) }
 {
     let mut reader = LineReader::new(alloc);
     'lines: loop {
         match reader.next(source)? {
-            Next::Line => {
+            NextLine::Line => {
                 if let Some(end) = play_written(alloc, players, reader.line())? {
                     return Ok(end);
                 }
             }
-            Next::Last => {
+            NextLine::Last => {
                 if let Some(end) = play_written(alloc, players, reader.line())? {
                     return Ok(end);
                 }
                 return Ok(ReplayEnd::Ended);
             }
-            Next::Ended => return Ok(ReplayEnd::Ended),
-            Next::ReadFault => return Ok(ReplayEnd::ReadFault),
-            Next::Full => return Ok(ReplayEnd::Full),
+            NextLine::Ended => return Ok(ReplayEnd::Ended),
+            NextLine::ReadFault => return Ok(ReplayEnd::ReadFault),
+            NextLine::Full => return Ok(ReplayEnd::Full),
         }
     }
 }

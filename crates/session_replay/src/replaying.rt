@@ -7,7 +7,7 @@ ghost use Rattle.session_lines.specs.Stops.{StaysWhole};
 ghost use Rattle.session_replay.specs.Clients.{IsMoment};
 ghost use Rattle.session_replay.specs.Players.{held_of, kinds_of, told_by_all};
 ghost use Rattle.session_replay.specs.Phases.{AreReady, WasPlayed, Halts};
-ghost use Rattle.session_replay.specs.Replays.{WasReplayed, FaultIs};
+ghost use Rattle.session_replay.specs.Replays.{WasReplayed, ReplayFaultIs};
 
 use crate::ends::ReplayEnd;
 use crate::finishing::{finish, is_lost};
@@ -37,7 +37,7 @@ fn play_and_leave<S: Seats, I: Source>(
     ensures count { length players.new.clients.items ≡ length players.old.clients.items }
     ensures halts { Halts result (S.seated players.new.seats) }
     ensures played { (kinds : List Kind) → length kinds ≡ length players.old.clients.items → IsMoment S.gives kinds [] (S.seated players.old.seats).seen (held_of ⟦<Box<dyn Ui> as Ui>⟧.shown players.old.board.seats.items players.old.clients.items) → WasPlayed S.gives (S.seated players.old.seats).limit kinds result (S.seated players.new.seats).seen (held_of ⟦<Box<dyn Ui> as Ui>⟧.shown players.new.board.seats.items players.new.clients.items) (I.inlet source.old) (I.inlet source.new) }
-    ensures fault { FaultIs result (I.inlet source.old) (I.inlet source.new) }
+    ensures fault { ReplayFaultIs result (I.inlet source.old) (I.inlet source.new) }
 {
     let ended = play_lines(alloc, players, source);
     if is_lost(ended) {
@@ -62,7 +62,7 @@ pub fn replay_session<S: Seats, I: Source, K: Sink>(
     requires legal { IsLegalSeat (S.seated seats) }
     requires untold { told_by_all ⟦<Box<dyn Ui> as Ui>⟧.shown uis.items ≡ [] }
     ensures replayed { WasReplayed S.gives (S.seated seats).limit (kinds_of ⟦<Box<dyn Ui> as Ui>⟧.shown uis.items) (S.seated result.1).seen (I.inlet source.old) (I.inlet source.new) (K.outlet sink.old) (K.outlet sink.new) result.0 }
-    ensures fault { FaultIs result.0 (I.inlet source.old) (I.inlet source.new) }
+    ensures fault { ReplayFaultIs result.0 (I.inlet source.old) (I.inlet source.new) }
     ensures kept { S.kept result.1 ≡ S.kept seats }
     ensures whole { StaysWhole result.0 (S.seated seats).mark (S.seated result.1).mark }
     ensures limit { (S.seated result.1).limit ≡ (S.seated seats).limit }

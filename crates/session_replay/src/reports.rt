@@ -4,7 +4,7 @@ ghost use Rattle.std.specs.Prelude.{◌≡◌, [], IsOk};
 ghost use Rattle.std.specs.List.{flat_map};
 ghost use Rattle.session_lines.specs.Sending.{Sends, Counts};
 
-use crate::players::Client;
+use crate::players::ReplayClient;
 use kak_ports::{Put, Sink};
 use session_lines::Stop;
 
@@ -25,7 +25,7 @@ fn write_report<K: Sink>(sink: &mut K, report: &[u8]) -> Result<(), Stop>
 }
 
 /// Writes the reports of clients one after another. Nothing is put for one that is empty.
-pub fn write_reports<K: Sink>(sink: &mut K, clients: &[Client]) -> Result<(), Stop>
+pub fn write_reports<K: Sink>(sink: &mut K, clients: &[ReplayClient]) -> Result<(), Stop>
     ensures sends { Sends result (K.outlet sink.old) (K.outlet sink.new) (flat_map (λ client. client.report.items) clients.now) }
     ensures counts { Counts result (K.outlet sink.old) (K.outlet sink.new) }
     ensures nothing { flat_map (λ client. client.report.items) clients.now ≡ [] → K.outlet sink.new ≡ K.outlet sink.old }

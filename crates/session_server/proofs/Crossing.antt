@@ -14,7 +14,7 @@ use Rattle.atomic_table.specs.contracts.send_lease.SendLease as SendLease
 use Rattle.atomic_table.proofs.Rights.{right_send}
 use Rattle.atomic_table.proofs.Sent.{seat_keyless, owns_keyless, shares_keyless}
 use Rattle.buffer_store.specs.contracts.buffer.Buffer as Store
-use Rattle.kak_world.specs.contracts.buffer.Buffer as Buffer
+use Rattle.kak_world.specs.contracts.buffer.WorldBuffer as Buffer
 use Rattle.kak_world.specs.contracts.clients.Clients as Clients
 use Rattle.kak_world.specs.contracts.world.World as World
 use Rattle.session_events.specs.contracts.event.Entry as Entry

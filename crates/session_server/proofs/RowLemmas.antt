@@ -19,9 +19,9 @@ use Rattle.link_lines.specs.Drawings.{DrawsOnlyMissed}
 use Rattle.link_lines.specs.Endings.{WasServedOver, EndsInLeaving, HasLeftAt, HasNoRoom, EndsFor, NeverCame}
 use Rattle.link_lines.proofs.LaterLemmas.{over-later}
 use Rattle.link_lines.proofs.DrawingLemmas.{others-draw}
-use Rattle.kak_engine.specs.Steps.{given_by, crowded_by, is_full, after_entry, run_from}
+use Rattle.kak_engine.specs.Steps.{given_by, crowded_by, is_session_full, after_entry, run_from}
 use Rattle.engine_desk.specs.Sharing.{Frame}
-use Rattle.session_server.specs.Rows.{opening_keys, seat_by, was_crowded_from, was_crowded, LeavesLast, HasLeftBy, Row, Serves}
+use Rattle.session_server.specs.Rows.{opening_keys, seat_by, was_crowded_from, was_crowded, LeavesLast, HasLeftBy, ServedRow, ServesLink}
 
 -- a mark that a client was told is the one that its pass has met
 ends-broken : (at : ℕ) (told mark : Option ℕ) → Met told mark → told ≡ Some at → mark ≡ Some at
@@ -44,18 +44,18 @@ or-right true b e = refl
 or-right false b e = e
 
 -- a session that is full was full
-full-once : (flat : Flat) (h : List Entry) → is_full (run_from flat h) ≡ true → was_crowded_from flat h ≡ true
+full-once : (flat : Flat) (h : List Entry) → is_session_full (run_from flat h) ≡ true → was_crowded_from flat h ≡ true
 full-once flat [] e = e
-full-once flat (x ∷ h) e = or-right (is_full flat) (was_crowded_from (after_entry x flat) h) (full-once (after_entry x flat) h e)
+full-once flat (x ∷ h) e = or-right (is_session_full flat) (was_crowded_from (after_entry x flat) h) (full-once (after_entry x flat) h e)
 
-full-first : (flat : Flat) (more : List Entry) → is_full flat ≡ true → was_crowded_from flat more ≡ true
+full-first : (flat : Flat) (more : List Entry) → is_session_full flat ≡ true → was_crowded_from flat more ≡ true
 full-first flat [] e = e
 full-first flat (x ∷ more) e = ap (λ (b : Bool). b || was_crowded_from (after_entry x flat) more) e
 
 -- and one that was full was so
 full-later : (flat : Flat) (h more : List Entry) → was_crowded_from flat h ≡ true → was_crowded_from flat (h ++ more) ≡ true
 full-later flat [] more e = full-first flat more e
-full-later flat (x ∷ h) more e = by (is_full flat) e (full-later (after_entry x flat) h more)
+full-later flat (x ∷ h) more e = by (is_session_full flat) e (full-later (after_entry x flat) h more)
   where
     by : (b : Bool) → (b || was_crowded_from (after_entry x flat) h) ≡ true → (was_crowded_from (after_entry x flat) h ≡ true → was_crowded_from (after_entry x flat) (h ++ more) ≡ true) → (b || was_crowded_from (after_entry x flat) (h ++ more)) ≡ true
     by true e next = refl
@@ -108,7 +108,7 @@ left-by NoMemory who h l = leaves-or-not who h l
 -- the row of a link that was served and closed
 pub row-served : (limit : ℕ) (file : Option (List ℕ)) (pass given : PassView Entry Frame) (e : Ended) (came now closed : Wire) → IsFresh came → IsSamePass pass given → closed ≡ now → TellsNoMore came now
     → WasServedOver (service given_by (opening_keys file)) pass.number given.seen came now e → HasLeftAt given_by e pass.number given.seen → DrawsOnlyMissed pass.number given.seen → EndsFor given_by crowded_by e (seat_by limit pass.number given.seen given.mark) came now
-    → Serves limit file pass e given closed
+    → ServesLink limit file pass e given closed
 row-served limit file pass given e came now closed fresh same is tells served left drawn cause = record {
   same = same;
   row = record {
@@ -157,7 +157,7 @@ left-later Full who h more none l = own-stays who h more none ∙ l
 left-later (Broken at) who h more none l = l
 left-later NoMemory who h more none l = last-or-not who h more none l
 
-pub row-later : (limit : ℕ) (file : Option (List ℕ)) (who : ℕ) (h more : List Entry) (mark later : Option ℕ) (e : Ended) (closed : Wire) → own (rules given_by) who more ≡ [] → Met mark later → Row limit file who h mark e closed → Row limit file who (h ++ more) later e closed
+pub row-later : (limit : ℕ) (file : Option (List ℕ)) (who : ℕ) (h more : List Entry) (mark later : Option ℕ) (e : Ended) (closed : Wire) → own (rules given_by) who more ≡ [] → Met mark later → ServedRow limit file who h mark e closed → ServedRow limit file who (h ++ more) later e closed
 row-later limit file who h more mark later e closed none met r = record {
   came = r.came;
   fresh = r.fresh;

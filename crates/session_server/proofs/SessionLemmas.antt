@@ -4,8 +4,8 @@ use Rattle.std.proofs.lemmas.List.Elements.{All-nil, All-cons, All-head, All-tai
 use Rattle.client_links.specs.Wires.{Wire, IsFresh}
 use Rattle.client_links.specs.Doors.{counted_on}
 use Rattle.jobs.specs.Meets.{Meet}
-use Rattle.session_desk.specs.Histories.{own as own_entries, StartsWith, Given, HasGiven, HasMet, Met, first_mark}
-use Rattle.session_desk.specs.Tokens.{Home, Place, IsOf, PassView, KeeperView, Closes}
+use Rattle.session_desk.specs.Histories.{entries_by as own_entries, StartsWith, GivenBack, HasGiven, HasMet, Met, first_mark}
+use Rattle.session_desk.specs.Tokens.{Home, DeskPlace, IsOf, PassView, KeeperView, Closes}
 use Rattle.session_desk.proofs.HistoryLemmas.{none_between, own_beyond, starts_through}
 use Rattle.session_turns.specs.Histories.{own}
 use Rattle.session_events.specs.declared.event.Event.{Event}
@@ -14,12 +14,12 @@ use Rattle.session_events.specs.Meaning.{Gives, rules}
 use Rattle.link_lines.specs.declared.ended.Ended.{Ended}
 use Rattle.kak_engine.specs.Steps.{given_by}
 use Rattle.engine_desk.specs.Sharing.{Frame, Shared, frame_of}
-use Rattle.session_server.specs.Rows.{Row, IsReady, Serves}
+use Rattle.session_server.specs.Rows.{ServedRow, IsLinkReady, ServesLink}
 use Rattle.session_server.proofs.RowLemmas.{row-later}
 use Rattle.session_server.specs.declared.session.Served.{Served}
 use Rattle.session_server.specs.declared.session.Served.TheVariants.{Ended as AllLeft, AcceptFault, SpawnFault, Broken, LinksFull, NoMemory}
-use Rattle.session_server.specs.Sessions.{RowsFrom, Stands, CausedBy}
-use Rattle.session_server.specs.Hosting.{HostView, IsHosting, next_pass, JobView, Admits, IsAdmitted, Admitted, StopsFor, noted, end_of, passes_back, KeepsMark}
+use Rattle.session_server.specs.Sessions.{RowsFrom, SessionStands, SessionCausedBy}
+use Rattle.session_server.specs.Hosting.{HostView, IsHosting, keeper_pass, JobView, Admits, IsAdmitted, Admitted, StopsHostingFor, noted, serving_end, passes_back, KeepsMark}
 
 -- the file that the next client opens: the one that was named, until somebody was let in
 abbrev pub file_left : {J : Type 0} → Option (List ℕ) → List J → Option (List ℕ)
@@ -60,9 +60,9 @@ never-own gives who (e ∷ entries) h = by (e.who == who) (never-own gives who e
     by false f g = f g
 
 -- a link that came may be served under the next pass
-pub ready-next : (home shared : Home Frame) (keeper : KeeperView Entry Frame) (admitted : ℕ) (pass : PassView Entry Frame) (link : Wire) → IsHosting home keeper admitted → pass ≡ next_pass keeper → shared ≡ home → IsFresh link → IsReady shared pass link
+pub ready-next : (home shared : Home Frame) (keeper : KeeperView Entry Frame) (admitted : ℕ) (pass : PassView Entry Frame) (link : Wire) → IsHosting home keeper admitted → pass ≡ keeper_pass keeper → shared ≡ home → IsFresh link → IsLinkReady shared pass link
 ready-next home shared keeper admitted pass link hosting is same fresh =
-    subst (λ (p : PassView Entry Frame). IsReady shared p link) (sym is) (record {
+    subst (λ (p : PassView Entry Frame). IsLinkReady shared p link) (sym is) (record {
       own = subst (λ (h : Home Frame). IsOf keeper.place h) (sym same) hosting.own;
       new = foreign given_by keeper.made keeper.seen (own_beyond whose keeper.made keeper.made keeper.seen hosting.numbers (omega arith));
       fresh = fresh;
@@ -81,7 +81,7 @@ length-map : {X Y : Type 0} (f : X → Y) (xs : List X) → length (map f xs) �
 length-map f [] = refl
 length-map f (x ∷ xs) = ap (λ n. suc n) (length-map f xs)
 
-module _ {J : Type 0} (view : J → JobView) (home : Home Frame) (place : Place Frame) where
+module _ {J : Type 0} (view : J → JobView) (home : Home Frame) (place : DeskPlace Frame) where
   -- one more was let in
   pub admitted-one : (who : ℕ) (file : Option (List ℕ)) (jobs : List J) (job : J) → Admitted view home place who file jobs → IsAdmitted home place (who + length jobs) (file_left file jobs) (view job) → Admitted view home place who file (jobs ++ job ∷ [])
   admitted-one who file [] job all one = (record { home_is = one.home_is; place_is = one.place_is; number_is = one.number_is ∙ omega arith; file_is = one.file_is }, tt)
@@ -95,7 +95,7 @@ module _ {J : Type 0} (view : J → JobView) (home : Home Frame) (place : Place 
       as-next jobs one = record { home_is = one.home_is; place_is = one.place_is; number_is = one.number_is ∙ omega arith; file_is = one.file_is ∙ sym (left-none jobs) }
 
 -- the job of a client that was let in has the next number, and the file that is left
-pub as-admitted : {J : Type 0} (home : Home Frame) (place : Place Frame) (file : Option (List ℕ)) (jobs : List J) (old new : HostView) (job : JobView) → Admits old new job → old.home ≡ home → old.keeper.place ≡ place → old.keeper.made ≡ length jobs → old.file ≡ file_left file jobs → IsAdmitted home place (0 + length jobs) (file_left file jobs) job
+pub as-admitted : {J : Type 0} (home : Home Frame) (place : DeskPlace Frame) (file : Option (List ℕ)) (jobs : List J) (old new : HostView) (job : JobView) → Admits old new job → old.home ≡ home → old.keeper.place ≡ place → old.keeper.made ≡ length jobs → old.file ≡ file_left file jobs → IsAdmitted home place (0 + length jobs) (file_left file jobs) job
 as-admitted home place file jobs old new job a at here made left = record {
   home_is = ap (λ (j : JobView). j.home) a.job_is ∙ at;
   place_is = ap (λ (j : JobView). j.pass.place) a.job_is ∙ here;
@@ -122,10 +122,10 @@ below-last n (x ∷ xs) all none = by (whose x == n) refl none (below-last n xs 
         let low : whose x < n + 1 = All-head (λ e. whose e < n + 1) x xs all in
         All-cons (λ e. whose e < n) x xs (omega arith) (rest g)
 
-module _ {J S : Type 0} (view : J → JobView) (closed : S → Wire) (home : Home Frame) (place : Place Frame) where
+module _ {J S : Type 0} (view : J → JobView) (closed : S → Wire) (home : Home Frame) (place : DeskPlace Frame) where
   -- what a job gives
   abbrev pub GivesOf : J → Ended × PassView Entry Frame × S → Type 0
-  GivesOf job given = Serves (view job).home.frame.limit (view job).file (view job).pass given.0 given.1 (closed given.2)
+  GivesOf job given = ServesLink (view job).home.frame.limit (view job).file (view job).pass given.0 given.1 (closed given.2)
 
   -- all passes that come back are of the desk
   pub places-back : (who : ℕ) (file : Option (List ℕ)) (jobs : List J) (results : List (Ended × PassView Entry Frame × S)) → Meet GivesOf jobs results → Admitted view home place who file jobs → All (λ r. r.1.place ≡ place) results
@@ -135,19 +135,19 @@ module _ {J S : Type 0} (view : J → JobView) (closed : S → Wire) (home : Hom
   places-back who file (j ∷ jobs) [] met all = absurd met
 
   -- the row of a link, by the closed history
-  row-of : (history : List Entry) (mark : Option ℕ) (who : ℕ) (file : Option (List ℕ)) (job : J) (r : Ended × PassView Entry Frame × S) → GivesOf job r → IsAdmitted home place who file (view job) → HasGiven whose history (noted r) → HasMet mark (noted r) → Row home.frame.limit file who history mark r.0 (closed r.2)
+  row-of : (history : List Entry) (mark : Option ℕ) (who : ℕ) (file : Option (List ℕ)) (job : J) (r : Ended × PassView Entry Frame × S) → GivesOf job r → IsAdmitted home place who file (view job) → HasGiven whose history (noted r) → HasMet mark (noted r) → ServedRow home.frame.limit file who history mark r.0 (closed r.2)
   row-of history mark who file job r gives one given met =
       let pass = (view job).pass in let rest = given.begins.0 in
       let none : own_entries whose r.1.number rest ≡ [] = none_between whose r.1.number history r.1.seen given.begins given.own_entries in
       let others : own (rules given_by) pass.number rest ≡ [] = foreign given_by pass.number rest (subst (λ n. own_entries whose n rest ≡ []) gives.same.number none) in
       let later = row-later (view job).home.frame.limit (view job).file pass.number r.1.seen rest r.1.mark mark r.0 (closed r.2) others met gives.row in
-      let by_history = subst (λ (h : List Entry). Row (view job).home.frame.limit (view job).file pass.number h mark r.0 (closed r.2)) (sym given.begins.1) later in
-      let by_number = subst (λ n. Row (view job).home.frame.limit (view job).file n history mark r.0 (closed r.2)) one.number_is by_history in
-      let by_file = subst (λ (f : Option (List ℕ)). Row (view job).home.frame.limit f who history mark r.0 (closed r.2)) one.file_is by_number in
-      subst (λ (h : Home Frame). Row h.frame.limit file who history mark r.0 (closed r.2)) one.home_is by_file
+      let by_history = subst (λ (h : List Entry). ServedRow (view job).home.frame.limit (view job).file pass.number h mark r.0 (closed r.2)) (sym given.begins.1) later in
+      let by_number = subst (λ n. ServedRow (view job).home.frame.limit (view job).file n history mark r.0 (closed r.2)) one.number_is by_history in
+      let by_file = subst (λ (f : Option (List ℕ)). ServedRow (view job).home.frame.limit f who history mark r.0 (closed r.2)) one.file_is by_number in
+      subst (λ (h : Home Frame). ServedRow h.frame.limit file who history mark r.0 (closed r.2)) one.home_is by_file
 
   rows-of : (history : List Entry) (mark : Option ℕ) (who : ℕ) (file : Option (List ℕ)) (jobs : List J) (results : List (Ended × PassView Entry Frame × S)) → Meet GivesOf jobs results → Admitted view home place who file jobs → All (HasGiven whose history) (map noted results) → All (HasMet mark) (map noted results)
-      → RowsFrom closed home.frame.limit history mark who file (map end_of results)
+      → RowsFrom closed home.frame.limit history mark who file (map serving_end results)
   rows-of history mark who file [] [] met all given marks = tt
   rows-of history mark who file (j ∷ jobs) (r ∷ results) met all given marks = (
     row-of history mark who file j r met.0 all.0 (All-head (HasGiven whose history) (noted r) (map noted results) given) (All-head (HasMet mark) (noted r) (map noted results) marks),
@@ -157,11 +157,11 @@ module _ {J S : Type 0} (view : J → JobView) (closed : S → Wire) (home : Hom
   rows-of history mark who file (j ∷ jobs) [] met all given marks = absurd met
 
 -- a pass that came back unused is the next one
-abbrev pub IsUnused : Place Frame → ℕ → PassView Entry Frame → Type 0
+abbrev pub IsUnused : DeskPlace Frame → ℕ → PassView Entry Frame → Type 0
 IsUnused place count pass = (pass.place ≡ place) × (pass.number ≡ count) × (own_entries whose pass.number pass.seen ≡ [])
 
 -- nobody is in a history but those whose links were served
-numbers-below : (place : Place Frame) (history : List Entry) (made count : ℕ) (back : Option (PassView Entry Frame)) → made ≡ count + length (passes_back back) → IfSome back (IsUnused place count) → All (HasGiven whose history) (passes_back back) → All (λ e. whose e < made) history → All (λ e. whose e < count) history
+numbers-below : (place : DeskPlace Frame) (history : List Entry) (made count : ℕ) (back : Option (PassView Entry Frame)) → made ≡ count + length (passes_back back) → IfSome back (IsUnused place count) → All (HasGiven whose history) (passes_back back) → All (λ e. whose e < made) history → All (λ e. whose e < count) history
 numbers-below place history made count None e unused given all = let same : made ≡ count = omega arith in subst (λ n. All (λ e. whose e < n) history) same all
 numbers-below place history made count (Some pass) e unused given all =
     let one = All-head (HasGiven whose history) (pass.number, pass.seen, pass.mark) [] given in
@@ -169,31 +169,31 @@ numbers-below place history made count (Some pass) e unused given all =
     let same : made ≡ count + 1 = omega arith in
     below-last count history (subst (λ n. All (λ e. whose e < n) history) same all) none
 
-module _ {J S : Type 0} (view : J → JobView) (closed : S → Wire) (home : Home Frame) (place : Place Frame) where
+module _ {J S : Type 0} (view : J → JobView) (closed : S → Wire) (home : Home Frame) (place : DeskPlace Frame) where
   -- what stands of a session whose passes are all back
   pub session-stands : (file : Option (List ℕ)) (jobs : List J) (results : List (Ended × PassView Entry Frame × S)) (back : Option (PassView Entry Frame)) (keeper : KeeperView Entry Frame) (ends : List (Ended × S)) (shared : Shared) (frame : Frame)
       → frame_of shared ≡ frame → home.frame ≡ frame → Meet (GivesOf view closed home place) jobs results → Admitted view home place 0 file jobs
       → keeper.given ≡ map noted results ++ passes_back back → keeper.made ≡ length jobs + length (passes_back back) → IfSome back (IsUnused place (length jobs))
-      → Closes whose keeper shared.engine.history shared.engine.mark → ends ≡ map end_of results → Stands closed frame file ends shared
+      → Closes whose keeper shared.engine.history shared.engine.mark → ends ≡ map serving_end results → SessionStands closed frame file ends shared
   session-stands file jobs results back keeper ends shared frame frames at met all given made unused closes are =
       let history = shared.engine.history in
-      let all_given = subst (λ (gs : List (Given Entry)). All (HasGiven whose history) gs) given closes.given in
-      let marks = subst (λ (gs : List (Given Entry)). All (HasMet shared.engine.mark) gs) given closes.marks in
+      let all_given = subst (λ (gs : List (GivenBack Entry)). All (HasGiven whose history) gs) given closes.given in
+      let marks = subst (λ (gs : List (GivenBack Entry)). All (HasMet shared.engine.mark) gs) given closes.marks in
       let rows = rows-of view closed home place history shared.engine.mark 0 file jobs results met all (all-front (HasGiven whose history) (map noted results) (passes_back back) all_given) (all-front (HasMet shared.engine.mark) (map noted results) (passes_back back) marks) in
       let low = numbers-below place history keeper.made (length jobs) back made unused (all-behind (HasGiven whose history) (map noted results) (passes_back back) all_given) closes.numbers in
-      let count : length ends ≡ length jobs = ap length are ∙ length-map end_of results ∙ length-met (GivesOf view closed home place) jobs results met in
+      let count : length ends ≡ length jobs = ap length are ∙ length-map serving_end results ∙ length-met (GivesOf view closed home place) jobs results met in
       record {
         frame_is = frames;
-        rows = subst (λ (es : List (Ended × S)). RowsFrom closed frame.limit history shared.engine.mark 0 file es) (sym are) (subst (λ (f : Frame). RowsFrom closed f.limit history shared.engine.mark 0 file (map end_of results)) at rows);
+        rows = subst (λ (es : List (Ended × S)). RowsFrom closed frame.limit history shared.engine.mark 0 file es) (sym are) (subst (λ (f : Frame). RowsFrom closed f.limit history shared.engine.mark 0 file (map serving_end results)) at rows);
         numbers = subst (λ n. All (λ e. whose e < n) history) (sym count) low;
       }
 
   -- as many links ended as were served
-  pub ends-count : (jobs : List J) (results : List (Ended × PassView Entry Frame × S)) (ends : List (Ended × S)) → Meet (GivesOf view closed home place) jobs results → ends ≡ map end_of results → length ends ≡ length jobs
-  ends-count jobs results ends met are = ap length are ∙ length-map end_of results ∙ length-met (GivesOf view closed home place) jobs results met
+  pub ends-count : (jobs : List J) (results : List (Ended × PassView Entry Frame × S)) (ends : List (Ended × S)) → Meet (GivesOf view closed home place) jobs results → ends ≡ map serving_end results → length ends ≡ length jobs
+  ends-count jobs results ends met are = ap length are ∙ length-map serving_end results ∙ length-met (GivesOf view closed home place) jobs results met
 
   -- no pass is out any more
-  pub none-out : (jobs : List J) (results : List (Ended × PassView Entry Frame × S)) (rest given : List (Given Entry)) (made out : ℕ) → Meet (GivesOf view closed home place) jobs results → given ≡ map noted results ++ rest → made ≡ length jobs + length rest → 0 < out → out + length given ≡ made → ⊥
+  pub none-out : (jobs : List J) (results : List (Ended × PassView Entry Frame × S)) (rest given : List (GivenBack Entry)) (made out : ℕ) → Meet (GivesOf view closed home place) jobs results → given ≡ map noted results ++ rest → made ≡ length jobs + length rest → 0 < out → out + length given ≡ made → ⊥
   none-out jobs results rest given made out met e m some is =
       let count : length given ≡ length results + length rest = ap length e ∙ length-append (map noted results) rest ∙ ap (λ n. n + length rest) (length-map noted results) in
       let same : length results ≡ length jobs = length-met (GivesOf view closed home place) jobs results met in
@@ -235,8 +235,8 @@ mark-kept at a b c d is first second met =
     kept None y at is k = cc
 
 -- why a session ended, by the engine that is left
-pub caused-by : (why : Served) (shared : Shared) (first second third : List Entry) (a b c : Option ℕ) (jobs count : ℕ) → StopsFor why first a jobs → StartsWith second first → StartsWith third second → StartsWith shared.engine.history third → KeepsMark a b → KeepsMark b c → Met c shared.engine.mark → count ≡ jobs
-    → CausedBy why count shared
+pub caused-by : (why : Served) (shared : Shared) (first second third : List Entry) (a b c : Option ℕ) (jobs count : ℕ) → StopsHostingFor why first a jobs → StartsWith second first → StartsWith third second → StartsWith shared.engine.history third → KeepsMark a b → KeepsMark b c → Met c shared.engine.mark → count ≡ jobs
+    → SessionCausedBy why count shared
 caused-by AllLeft shared first second third a b c jobs count stops one two three m k met same =
     record { front = first; begins = starts_through shared.engine.history second first (starts_through shared.engine.history third second three two) one; went = stops }
 caused-by (Broken at) shared first second third a b c jobs count stops one two three m k met same = mark-kept at a b c shared.engine.mark stops m k met

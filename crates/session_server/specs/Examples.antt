@@ -7,7 +7,7 @@ use Rattle.session_server.specs.declared.session.Served.TheVariants.{Ended, Acce
 use Rattle.session_server.specs.declared.run.ServerStatus.TheVariants as status
 use Rattle.session_server.specs.Sessions.{AllWent, WasDeserted, lost, AcceptsFor, SpawnsFor}
 use Rattle.session_server.specs.Hosting.{LooksIn}
-use Rattle.session_server.specs.Running.{code_of, status_of}
+use Rattle.session_server.specs.Running.{server_code, status_of}
 
 abbrev pub came : List Entry
 came = entry_of 0 Join ∷ entry_of 0 (Refresh true) ∷ []
@@ -44,8 +44,8 @@ pub record Examples : Type 0 where
   pub spawning : SpawnsFor SpawnFault 0 1
   pub spawned : SpawnsFor LinksFull 0 1 → ⊥
   -- the statuses
-  pub ended : code_of (status_of Ended) ≡ 0
-  pub broke : code_of (status_of (Broken 3)) ≡ 5
-  pub full : code_of (status_of LinksFull) ≡ 6
-  pub usage : code_of status.Usage ≡ 1
-  pub unbound : code_of status.BindFault ≡ 7
+  pub ended : server_code (status_of Ended) ≡ 0
+  pub broke : server_code (status_of (Broken 3)) ≡ 5
+  pub full : server_code (status_of LinksFull) ≡ 6
+  pub usage : server_code status.Usage ≡ 1
+  pub unbound : server_code status.BindFault ≡ 7

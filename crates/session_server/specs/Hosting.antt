@@ -1,8 +1,8 @@
 -- How the clients of a session are let in, and how their passes come back.
 use Rattle.std.specs.Prelude.{◌≡◌, ℕ, ◌+◌, ◌<◌, ◌≤◌, List, [], ◌∷◌, length, All, ⊤, Option, None, Some, Ok, Err}
 use Rattle.std.specs.declared.result.Result.{Result}
-use Rattle.session_desk.specs.Histories.{Given}
-use Rattle.session_desk.specs.Tokens.{Home, Place, IsOf, PassView, KeeperView}
+use Rattle.session_desk.specs.Histories.{GivenBack}
+use Rattle.session_desk.specs.Tokens.{Home, DeskPlace, IsOf, PassView, KeeperView}
 use Rattle.session_events.specs.declared.event.Entry.{Entry}
 use Rattle.link_lines.specs.declared.ended.Ended.{Ended}
 use Rattle.engine_desk.specs.Counting.{joined_among, comings}
@@ -49,8 +49,8 @@ abbrev pub job_view : Home Frame → PassView Entry Frame → Option (List ℕ) 
 job_view home pass file = record { home = home; pass = pass; file = file }
 
 -- the pass that a keeper gives next
-abbrev pub next_pass : KeeperView Entry Frame → PassView Entry Frame
-next_pass keeper = record { place = keeper.place; number = keeper.made; seen = keeper.seen; mark = keeper.mark }
+abbrev pub keeper_pass : KeeperView Entry Frame → PassView Entry Frame
+keeper_pass keeper = record { place = keeper.place; number = keeper.made; seen = keeper.seen; mark = keeper.mark }
 
 -- A client was let in: the job has the next pass, and the file, which no later client opens.
 pub record Admits (old new : HostView) (job : JobView) : Type 0 where
@@ -58,13 +58,13 @@ pub record Admits (old new : HostView) (job : JobView) : Type 0 where
   pub room : old.keeper.made < MAX_LINKS
   pub keeper : new.keeper ≡ record old.keeper { made = old.keeper.made + 1 }
   pub file : new.file ≡ None
-  pub job_is : job ≡ job_view old.home (next_pass old.keeper) old.file
+  pub job_is : job ≡ job_view old.home (keeper_pass old.keeper) old.file
 
 -- why a client wasn't let in: as many are let in as may be, or memory was wanting
-abbrev pub IsRefused : HostView → Served → Type 0
-IsRefused host LinksFull = host.keeper.made ≡ MAX_LINKS
-IsRefused host NoMemory = ⊤
-IsRefused host _ = ⊥
+abbrev pub IsLinkRefused : HostView → Served → Type 0
+IsLinkRefused host LinksFull = host.keeper.made ≡ MAX_LINKS
+IsLinkRefused host NoMemory = ⊤
+IsLinkRefused host _ = ⊥
 
 -- a job was handed back, for a fault or for want of memory
 abbrev pub IsHandedBack : Served → Type 0
@@ -73,34 +73,34 @@ IsHandedBack NoMemory = ⊤
 IsHandedBack _ = ⊥
 
 -- The job of a client that was let in under this number, with this file to open.
-pub record IsAdmitted (home : Home Frame) (place : Place Frame) (who : ℕ) (file : Option (List ℕ)) (job : JobView) : Type 0 where
+pub record IsAdmitted (home : Home Frame) (place : DeskPlace Frame) (who : ℕ) (file : Option (List ℕ)) (job : JobView) : Type 0 where
   pub home_is : job.home ≡ home
   pub place_is : job.pass.place ≡ place
   pub number_is : job.pass.number ≡ who
   pub file_is : job.file ≡ file
 
 -- the jobs of clients that were let in under the numbers from this one on, the first of which opens the file, if one is named
-abbrev pub Admitted : {J : Type 0} → (J → JobView) → Home Frame → Place Frame → ℕ → Option (List ℕ) → List J → Type 0
+abbrev pub Admitted : {J : Type 0} → (J → JobView) → Home Frame → DeskPlace Frame → ℕ → Option (List ℕ) → List J → Type 0
 Admitted view home place who file [] = ⊤
 Admitted view home place who file (job ∷ jobs) = IsAdmitted home place who file (view job) × Admitted view home place (who + 1) None jobs
 
 -- why no further link is received, where so many are served
-abbrev pub StopsFor : Served → List Entry → Option ℕ → ℕ → Type 0
-StopsFor AllLeft seen mark count = AllWent seen
-StopsFor (Broken at) seen mark count = mark ≡ Some at
-StopsFor LinksFull seen mark count = count ≡ MAX_LINKS
-StopsFor _ seen mark count = ⊤
+abbrev pub StopsHostingFor : Served → List Entry → Option ℕ → ℕ → Type 0
+StopsHostingFor AllLeft seen mark count = AllWent seen
+StopsHostingFor (Broken at) seen mark count = mark ≡ Some at
+StopsHostingFor LinksFull seen mark count = count ≡ MAX_LINKS
+StopsHostingFor _ seen mark count = ⊤
 
 -- the pass of a link that was served, as a keeper notes it
-abbrev pub noted : {S : Type 0} → Ended × PassView Entry Frame × S → Given Entry
+abbrev pub noted : {S : Type 0} → Ended × PassView Entry Frame × S → GivenBack Entry
 noted result = (result.1.number, result.1.seen, result.1.mark)
 
 -- how the serving of a link ended, and what is left of it
-abbrev pub end_of : {S : Type 0} → Ended × PassView Entry Frame × S → Ended × S
-end_of result = (result.0, result.2)
+abbrev pub serving_end : {S : Type 0} → Ended × PassView Entry Frame × S → Ended × S
+serving_end result = (result.0, result.2)
 
 -- the pass of a link that isn't served, as a keeper notes it, if there is one
-abbrev pub passes_back : Option (PassView Entry Frame) → List (Given Entry)
+abbrev pub passes_back : Option (PassView Entry Frame) → List (GivenBack Entry)
 passes_back (Some pass) = (pass.number, pass.seen, pass.mark) ∷ []
 passes_back None = []
 

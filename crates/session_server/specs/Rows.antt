@@ -18,7 +18,7 @@ use Rattle.link_lines.specs.declared.ended.Ended.{Ended}
 use Rattle.link_lines.specs.declared.ended.Ended.TheVariants.{Left, Closed, LinkRead, LinkWrite, InputFull, HistoryFull, Full, Broken, NoMemory}
 use Rattle.link_lines.specs.Drawings.{DrawsOnlyMissed}
 use Rattle.link_lines.specs.Endings.{WasServedOver, EndsFor, NeverCame}
-use Rattle.kak_engine.specs.Steps.{given_by, crowded_by, is_full, after_entry}
+use Rattle.kak_engine.specs.Steps.{given_by, crowded_by, is_session_full, after_entry}
 use Rattle.engine_desk.specs.Sharing.{Frame}
 
 -- the keys that are struck before the first drawing: those that open the file, where one is named
@@ -32,8 +32,8 @@ seat_by limit who seen mark = record { number = who; limit = limit; mark = mark;
 
 -- whether no further client may come, behind some beginning of these entries, in the world that the entries before lead to
 abbrev pub was_crowded_from : Flat → List Entry → Bool
-was_crowded_from flat [] = is_full flat
-was_crowded_from flat (entry ∷ entries) = is_full flat || was_crowded_from (after_entry entry flat) entries
+was_crowded_from flat [] = is_session_full flat
+was_crowded_from flat (entry ∷ entries) = is_session_full flat || was_crowded_from (after_entry entry flat) entries
 
 -- whether the session was ever full: no further client could come behind some beginning of its history
 abbrev pub was_crowded : List Entry → Bool
@@ -55,7 +55,7 @@ HasLeftBy _ who history = LeavesLast who history
 -- The row of a link that was served under a number, with the file that its client opened first, if one was named: how its
 -- serving ended, why, and what stands then in the history and went over the link, by what is left of it now that it is
 -- closed. Where the session is said to be full, it was so behind some beginning of the history; others may have gone since.
-pub record Row (limit : ℕ) (file : Option (List ℕ)) (who : ℕ) (history : List Entry) (mark : Option ℕ) (ended : Ended) (closed : Wire) : Type 0 where
+pub record ServedRow (limit : ℕ) (file : Option (List ℕ)) (who : ℕ) (history : List Entry) (mark : Option ℕ) (ended : Ended) (closed : Wire) : Type 0 where
   -- the link as it came
   pub came : Wire
   pub fresh : IsFresh came
@@ -66,14 +66,14 @@ pub record Row (limit : ℕ) (file : Option (List ℕ)) (who : ℕ) (history : L
   pub cause : EndsFor given_by was_crowded ended (seat_by limit who history mark) came closed
 
 -- A link may be served at a desk under a pass: the pass is of this desk and has no entry, and the link has just come.
-pub record IsReady (home : Home Frame) (pass : PassView Entry Frame) (link : Wire) : Type 0 where
+pub record IsLinkReady (home : Home Frame) (pass : PassView Entry Frame) (link : Wire) : Type 0 where
   pub own : IsOf pass.place home
   pub new : NeverCame given_by pass.number pass.seen
   pub fresh : IsFresh link
 
 -- A link was served under a pass, which is given back, and was closed. Where the session is said to be full, it is, by the
 -- history that the pass has seen.
-pub record Serves (limit : ℕ) (file : Option (List ℕ)) (pass : PassView Entry Frame) (ended : Ended) (given : PassView Entry Frame) (closed : Wire) : Type 0 where
+pub record ServesLink (limit : ℕ) (file : Option (List ℕ)) (pass : PassView Entry Frame) (ended : Ended) (given : PassView Entry Frame) (closed : Wire) : Type 0 where
   pub same : IsSamePass pass given
-  pub row : Row limit file pass.number given.seen given.mark ended closed
+  pub row : ServedRow limit file pass.number given.seen given.mark ended closed
   pub full : ended ≡ Full → crowded_by given.seen ≡ true

@@ -13,18 +13,18 @@ use Rattle.session_server.specs.declared.run.ServerStatus.{ServerStatus}
 use Rattle.session_server.specs.declared.run.ServerStatus.TheVariants.{Ended as AllLeft, Usage, AcceptFault, SpawnFault, NoMemory, Broken, LinksFull, BindFault}
 use Rattle.session_events.specs.declared.limits.TheConstants.{MAX_ENTRIES}
 use Rattle.session_server.specs.declared.host.TheConstants.{MAX_LINKS}
-use Rattle.session_server.specs.Sessions.{IfServed, lost, Stands, CausedBy, AcceptsFor, SpawnsFor}
+use Rattle.session_server.specs.Sessions.{IfServed, lost, SessionStands, SessionCausedBy, AcceptsFor, SpawnsFor}
 
 -- the status with which the process ends
-abbrev pub code_of : ServerStatus → ℕ
-code_of AllLeft = 0
-code_of Usage = 1
-code_of AcceptFault = 2
-code_of SpawnFault = 3
-code_of NoMemory = 4
-code_of Broken = 5
-code_of LinksFull = 6
-code_of BindFault = 7
+abbrev pub server_code : ServerStatus → ℕ
+server_code AllLeft = 0
+server_code Usage = 1
+server_code AcceptFault = 2
+server_code SpawnFault = 3
+server_code NoMemory = 4
+server_code Broken = 5
+server_code LinksFull = 6
+server_code BindFault = 7
 
 -- the status of a run, by why the serving of its session ended
 abbrev pub status_of : Served → ServerStatus
@@ -53,8 +53,8 @@ pub record WasRun {S : Type 0} (closed : S → Wire) (frame : Frame) (file : Opt
   pub why : Served
   pub status_is : status ≡ status_of why
   pub given : IfServed why (IsSome engine)
-  pub stands : IfSome engine (Stands closed frame file ends)
-  pub cause : IfSome engine (CausedBy why (length ends))
+  pub stands : IfSome engine (SessionStands closed frame file ends)
+  pub cause : IfSome engine (SessionCausedBy why (length ends))
   pub most : length ends ≤ MAX_LINKS
   pub came : IfServed why (new.came ≡ counted_on old.came (length ends + lost why))
   pub accept_faults : AcceptsFor why old.faults new.faults

@@ -7,7 +7,7 @@ use Rattle.session_events.specs.declared.event.Entry.{Entry}
 use Rattle.link_lines.specs.declared.ended.Ended.{Ended}
 use Rattle.engine_desk.specs.Counting.{joined_among, comings}
 use Rattle.engine_desk.specs.Sharing.{Frame, Shared, frame_of}
-use Rattle.session_server.specs.Rows.{Row}
+use Rattle.session_server.specs.Rows.{ServedRow}
 use Rattle.session_server.specs.declared.session.Served.{Served}
 use Rattle.session_server.specs.declared.session.Served.TheVariants.{Ended as AllLeft, AcceptFault, SpawnFault, Broken, LinksFull, NoMemory}
 use Rattle.session_server.specs.declared.host.TheConstants.{MAX_LINKS}
@@ -16,11 +16,11 @@ use Rattle.session_server.specs.declared.host.TheConstants.{MAX_LINKS}
 abbrev pub RowsFrom : {S : Type 0} → (S → Wire) → ℕ → List Entry → Option ℕ → ℕ → Option (List ℕ) → List (Ended × S) → Type 0
 RowsFrom closed limit history mark who file [] = ⊤
 RowsFrom closed limit history mark who file (end ∷ ends) =
-    Row limit file who history mark end.0 (closed end.1) × RowsFrom closed limit history mark (who + 1) None ends
+    ServedRow limit file who history mark end.0 (closed end.1) × RowsFrom closed limit history mark (who + 1) None ends
 
 -- What stands of a session, by the engine that is left: it is the one that was served, each link has its row there, in the
 -- order of their numbers, and nobody else is in its history.
-pub record Stands {S : Type 0} (closed : S → Wire) (frame : Frame) (file : Option (List ℕ)) (ends : List (Ended × S)) (shared : Shared) : Type 0 where
+pub record SessionStands {S : Type 0} (closed : S → Wire) (frame : Frame) (file : Option (List ℕ)) (ends : List (Ended × S)) (shared : Shared) : Type 0 where
   pub frame_is : frame_of shared ≡ frame
   pub rows : RowsFrom closed frame.limit shared.engine.history shared.engine.mark 0 file ends
   pub numbers : All (λ entry. entry.who < length ends) shared.engine.history
@@ -37,11 +37,11 @@ pub record WasDeserted (history : List Entry) : Type 0 where
   pub went : AllWent front
 
 -- why a session ended that served so many links
-abbrev pub CausedBy : Served → ℕ → Shared → Type 0
-CausedBy AllLeft count shared = WasDeserted shared.engine.history
-CausedBy (Broken at) count shared = shared.engine.mark ≡ Some at
-CausedBy LinksFull count shared = count ≡ MAX_LINKS
-CausedBy _ count shared = ⊤
+abbrev pub SessionCausedBy : Served → ℕ → Shared → Type 0
+SessionCausedBy AllLeft count shared = WasDeserted shared.engine.history
+SessionCausedBy (Broken at) count shared = shared.engine.mark ≡ Some at
+SessionCausedBy LinksFull count shared = count ≡ MAX_LINKS
+SessionCausedBy _ count shared = ⊤
 
 -- with every answer but want of memory
 abbrev pub IfServed : Served → Type 0 → Type 0

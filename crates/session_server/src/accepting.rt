@@ -3,9 +3,9 @@
 ghost use Rattle.std.specs.Arc.{arc_value};
 ghost use Rattle.std.specs.Prelude.{◌≡◌, ◌+◌, ◌≤◌, ◌++◌, [], ◌∷◌, length, OnOk, IfErr, IfSome, option_map, string_bytes, Some, None};
 ghost use Rattle.client_links.specs.Doors.{counted_on};
-ghost use Rattle.session_desk.specs.Histories.{own};
-ghost use Rattle.session_server.specs.Rows.{IsReady};
-ghost use Rattle.session_server.specs.Hosting.{Admitted, job_view, passes_back, IsHandedBack, StopsFor};
+ghost use Rattle.session_desk.specs.Histories.{entries_by};
+ghost use Rattle.session_server.specs.Rows.{IsLinkReady};
+ghost use Rattle.session_server.specs.Hosting.{Admitted, job_view, passes_back, IsHandedBack, StopsHostingFor};
 ghost use Rattle.session_server.specs.Sessions.{IfServed, lost, AcceptsFor, SpawnsFor};
 
 use crate::host::Host;
@@ -43,7 +43,7 @@ fn start<
     G: Gate,
     P: Spawner<LinkJob<L, F, M, G>>,
 >(spawner: &mut P, job: LinkJob<L, F, M, G>) -> Result<(), Stopped<F, M>>
-    requires ready { IsReady (arc_value job.desk) job.pass (L.wire job.link) }
+    requires ready { IsLinkReady (arc_value job.desk) job.pass (L.wire job.link) }
     requires fit { P.fit spawner.old }
     ensures fit { P.fit spawner.new }
     ensures ok { OnOk result ((P.started spawner.new ≡ P.started spawner.old ++ job ∷ []) × (P.faults spawner.new ≡ P.faults spawner.old)) }
@@ -81,9 +81,9 @@ pub(crate) fn accept_all<
     ensures given { host.new.keeper.given ≡ host.old.keeper.given }
     ensures jobs { Admitted (λ job. job_view (arc_value job.desk) job.pass (option_map (λ name. string_bytes name) job.file)) host.old.home host.old.keeper.place 0 host.old.file (P.started spawner.new) }
     ensures made { host.new.keeper.made ≡ length (P.started spawner.new) + length (passes_back result.back) }
-    ensures back { IfSome result.back (λ pass. (pass.place ≡ host.old.keeper.place) × (pass.number ≡ length (P.started spawner.new)) × (own (λ entry. entry.who) pass.number pass.seen ≡ [])) }
+    ensures back { IfSome result.back (λ pass. (pass.place ≡ host.old.keeper.place) × (pass.number ≡ length (P.started spawner.new)) × (entries_by (λ entry. entry.who) pass.number pass.seen ≡ [])) }
     ensures most { length (P.started spawner.new) ≤ 1000000 }
-    ensures why { StopsFor result.why host.new.keeper.seen host.new.keeper.mark (length (P.started spawner.new)) }
+    ensures why { StopsHostingFor result.why host.new.keeper.seen host.new.keeper.mark (length (P.started spawner.new)) }
     ensures listens { (A.door acceptor.new).listens ≡ (A.door acceptor.old).listens }
     ensures came { IfServed result.why ((A.door acceptor.new).came ≡ counted_on (A.door acceptor.old).came (length (P.started spawner.new) + lost result.why)) }
     ensures accept_faults { AcceptsFor result.why (A.door acceptor.old).faults (A.door acceptor.new).faults }

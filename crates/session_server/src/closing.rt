@@ -3,7 +3,7 @@
 ghost use Rattle.std.specs.Prelude.{◌≡◌, ◌++◌, map, All, OnOk, IfOk, IfSome};
 ghost use Rattle.session_desk.specs.Histories.{StartsWith};
 ghost use Rattle.session_desk.specs.Tokens.{IsOf};
-ghost use Rattle.session_server.specs.Hosting.{noted, end_of, passes_back, KeepsMark};
+ghost use Rattle.session_server.specs.Hosting.{noted, serving_end, passes_back, KeepsMark};
 
 use engine_desk::SharedEngine;
 use kak_files::Files;
@@ -26,7 +26,7 @@ pub(crate) fn take_back<F: Files + Drop, M: PatternMaker + Drop, S: Drop>(
     ensures begins { OnOk result (StartsWith keeper.new.seen keeper.old.seen) }
     ensures mark { OnOk result (KeepsMark keeper.old.mark keeper.new.mark) }
     ensures given { OnOk result (keeper.new.given ≡ keeper.old.given ++ map noted results.items) }
-    ensures ends { IfOk result (λ ends. ends.items ≡ map end_of results.items) }
+    ensures ends { IfOk result (λ ends. ends.items ≡ map serving_end results.items) }
 {
     let mut ends = Vec::new(alloc);
     for (ended, pass, closed) in results {

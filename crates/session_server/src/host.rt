@@ -4,9 +4,9 @@ ghost use Rattle.std.specs.Arc.{arc_value};
 ghost use Rattle.std.specs.Prelude.{◌≡◌, IfOk, IfErr, OnErr, option_map, string_bytes, [], None};
 ghost use Rattle.client_links.specs.Wires.{IsFresh};
 ghost use Rattle.session_desk.specs.Tokens.{IsOf, IsSameKeeper};
-ghost use Rattle.session_server.specs.Rows.{IsReady};
+ghost use Rattle.session_server.specs.Rows.{IsLinkReady};
 ghost use Rattle.engine_desk.specs.Sharing.{frame_of};
-ghost use Rattle.session_server.specs.Hosting.{IsNewHost, LooksIn, Admits, IsRefused, job_view};
+ghost use Rattle.session_server.specs.Hosting.{IsNewHost, LooksIn, Admits, IsLinkRefused, job_view};
 
 use crate::job::LinkJob;
 use crate::session::Served;
@@ -93,9 +93,9 @@ impl<F: Files + Drop, M: PatternMaker + Drop, G: Gate> Host<F, M, G> {
     where
         G: Clone,
         requires { IsFresh (L.wire link) }
-        ensures ready { IfOk result (λ job. IsReady (arc_value job.desk) job.pass (L.wire job.link)) }
+        ensures ready { IfOk result (λ job. IsLinkReady (arc_value job.desk) job.pass (L.wire job.link)) }
         ensures ok { IfOk result (λ job. Admits self.old self.new (job_view (arc_value job.desk) job.pass (option_map (λ name. string_bytes name) job.file))) }
-        ensures why { IfErr result (IsRefused self.old) }
+        ensures why { IfErr result (IsLinkRefused self.old) }
         ensures err { OnErr result (self.new ≡ self.old) }
     {
         if self.admitted >= MAX_LINKS {

@@ -27,14 +27,14 @@ pub struct LinkJob<L: Link, F: Files + Drop, M: PatternMaker + Drop, G: Gate> {
 impl<L: Link, F: Files + Drop, M: PatternMaker + Drop, G: Gate> Job for LinkJob<L, F, M, G> {
     ghost use Rattle.std.specs.Arc.{arc_value};
     ghost use Rattle.std.specs.Prelude.{option_map, string_bytes};
-    ghost use Rattle.session_server.specs.Rows.{IsReady, Serves};
+    ghost use Rattle.session_server.specs.Rows.{IsLinkReady, ServesLink};
 
     /// How the link was served, the pass, and what is left of the link.
     type Gives = (Ended, Pass<SharedEngine<F, M>>, L::Spent);
 
-    ghost ready = { λ j. IsReady (arc_value j.desk) j.pass (L.wire j.link) };
+    ghost ready = { λ j. IsLinkReady (arc_value j.desk) j.pass (L.wire j.link) };
 
-    ghost gives = { λ j given. Serves (arc_value j.desk).frame.limit (option_map (λ name. string_bytes name) j.file) j.pass given.0 given.1 (L.spent given.2) };
+    ghost gives = { λ j given. ServesLink (arc_value j.desk).frame.limit (option_map (λ name. string_bytes name) j.file) j.pass given.0 given.1 (L.spent given.2) };
 
     fn run<R: Wait>(self, rt: &R) -> (Ended, Pass<SharedEngine<F, M>>, L::Spent) {
         let LinkJob {

@@ -8,7 +8,7 @@ ghost use Rattle.session_events.specs.declared.event.Entry.{Entry};
 ghost use Rattle.session_events.specs.Meaning.{rules};
 ghost use Rattle.link_lines.specs.declared.ended.Ended.{Ended};
 ghost use Rattle.kak_engine.specs.Steps.{given_by};
-ghost use Rattle.session_server.specs.Rows.{Row};
+ghost use Rattle.session_server.specs.Rows.{ServedRow};
 
 use crate::host::MAX_LINKS;
 
@@ -16,7 +16,7 @@ use crate::host::MAX_LINKS;
 /// and by each later mark.
 pub fn rows_stay()
     ensures { (limit : ℕ) (file : Option (List ℕ)) (who : ℕ) (history more : List Entry) (mark later : Option ℕ) (ended : Ended) (closed : Wire) →
-        own (rules given_by) who more ≡ [] → Met mark later → Row limit file who history mark ended closed → Row limit file who (history ++ more) later ended closed }
+        own (rules given_by) who more ≡ [] → Met mark later → ServedRow limit file who history mark ended closed → ServedRow limit file who (history ++ more) later ended closed }
 {}
 
 /// One session serves 1,000,000 links at most.

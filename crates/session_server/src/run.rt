@@ -3,7 +3,7 @@
 ghost use Rattle.std.specs.Prelude.{◌≡◌, [], map, string_bytes, true, false, IfNone, IfSome, Some};
 ghost use Rattle.kak_engine.specs.Honesty.{IsUntouched};
 ghost use Rattle.program_words.specs.ServerWords.{is_call, session_of, file_of};
-ghost use Rattle.session_server.specs.Running.{code_of, status_of, frame_at, HasNone, WasRun};
+ghost use Rattle.session_server.specs.Running.{server_code, status_of, frame_at, HasNone, WasRun};
 
 use crate::job::LinkJob;
 use crate::serving::serve;
@@ -43,7 +43,7 @@ pub enum ServerStatus {
 impl ServerStatus {
     /// The status with which the process ends.
     pub fn code(self) -> u8
-        ensures { result ≡ code_of self }
+        ensures { result ≡ server_code self }
     {
         match self {
             ServerStatus::Ended => 0,

@@ -3,7 +3,7 @@
 ghost use Rattle.std.specs.Prelude.{◌≡◌, ◌+◌, ◌≤◌, [], length, IsSome, IfSome, None, option_map, string_bytes};
 ghost use Rattle.client_links.specs.Doors.{counted_on};
 ghost use Rattle.engine_desk.specs.Sharing.{frame_of};
-ghost use Rattle.session_server.specs.Sessions.{IfServed, lost, AcceptsFor, SpawnsFor, Stands, CausedBy};
+ghost use Rattle.session_server.specs.Sessions.{IfServed, lost, AcceptsFor, SpawnsFor, SessionStands, SessionCausedBy};
 
 use crate::accepting::accept_all;
 use crate::closing::{take_back, take_rest};
@@ -61,8 +61,8 @@ pub fn serve<
     ensures fit { P.fit spawner.new }
     ensures gathered { P.started spawner.new ≡ [] }
     ensures engine { IfServed result.0 (IsSome result.1.engine) }
-    ensures stands { IfSome result.1.engine (Stands A.Link.spent (frame_of engine) (option_map (λ name. string_bytes name) file) result.1.ends.items) }
-    ensures cause { IfSome result.1.engine (CausedBy result.0 (length result.1.ends.items)) }
+    ensures stands { IfSome result.1.engine (SessionStands A.Link.spent (frame_of engine) (option_map (λ name. string_bytes name) file) result.1.ends.items) }
+    ensures cause { IfSome result.1.engine (SessionCausedBy result.0 (length result.1.ends.items)) }
     ensures most { length result.1.ends.items ≤ 1000000 }
     ensures came { IfServed result.0 ((A.door acceptor.new).came ≡ counted_on (A.door acceptor.old).came (length result.1.ends.items + lost result.0)) }
     ensures listens { (A.door acceptor.new).listens ≡ (A.door acceptor.old).listens }

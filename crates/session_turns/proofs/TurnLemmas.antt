@@ -4,7 +4,7 @@ use Rattle.std.specs.List.{flat_map}
 use Rattle.std.proofs.lemmas.Bool.{le-ltb, lt-ltb}
 use Rattle.std.proofs.lemmas.List.{append-nil, take-append-le, drop-append-le, take_all}
 use Rattle.session_turns.specs.Histories.{Answer, events_of, bytes_of, is_leaving}
-use Rattle.session_turns.specs.Turns.{Phase, Protocol, plays, says, size, played, due, all_sent, sent}
+use Rattle.session_turns.specs.Turns.{Phase, Protocol, plays, says, phase_size, played, due, all_sent, sent}
 use Rattle.session_turns.specs.Growth.{Begins, GoesOn, IsWhole, IsOver, IsShort, IsUnsent, IsLost, How, Whole, Over, Short, Unsent, Lost, Fits}
 use Rattle.session_turns.proofs.Lists.{events_of-append, is_leaving-append, length-events_of, stays_front, stays_rest, events_of-drop}
 
@@ -13,24 +13,24 @@ no_events [] e = refl
 no_events (x ∷ a) e = cc
 
 -- the answers of a phase in front are there
-long : {E : Type 0} (p : Protocol E) (t : Phase) (ts : List Phase) (a : List (Answer E)) → events_of a ≡ flat_map (plays p) (t ∷ ts) → size p t ≤ length a
+long : {E : Type 0} (p : Protocol E) (t : Phase) (ts : List Phase) (a : List (Answer E)) → events_of a ≡ flat_map (plays p) (t ∷ ts) → phase_size p t ≤ length a
 long p t ts a e = omega (arith, sym (length-events_of a) ∙ ap length e ∙ length-append (plays p t) (flat_map (plays p) ts))
 
 pub played-append : {E : Type 0} (p : Protocol E) (ts more : List Phase) (a b : List (Answer E)) → events_of a ≡ flat_map (plays p) ts → is_leaving a ≡ false → played p (ts ++ more) (a ++ b) ≡ ts ++ played p more b
 played-append p [] more a b e s = rw (no_events a e) refl
 played-append p (t ∷ ts) more a b e s =
-    let l : size p t ≤ length a = long p t ts a e in
-    rw (take-append-le (size p t) a b l, drop-append-le (size p t) a b l, stays_front (size p t) a s)
-    (ap (λ r. t ∷ r) (played-append p ts more (drop (size p t) a) b (events_of-drop (size p t) a (plays p t) (flat_map (plays p) ts) refl e) (stays_rest (size p t) a s)))
+    let l : phase_size p t ≤ length a = long p t ts a e in
+    rw (take-append-le (phase_size p t) a b l, drop-append-le (phase_size p t) a b l, stays_front (phase_size p t) a s)
+    (ap (λ r. t ∷ r) (played-append p ts more (drop (phase_size p t) a) b (events_of-drop (phase_size p t) a (plays p t) (flat_map (plays p) ts) refl e) (stays_rest (phase_size p t) a s)))
 
 pub all_sent-append : {E : Type 0} (p : Protocol E) (ts us : List Phase) (a b : List (Answer E)) → events_of a ≡ flat_map (plays p) ts → all_sent p (ts ++ us) (a ++ b) ≡ all_sent p ts a ++ all_sent p us b
 all_sent-append p [] us a b e = rw (no_events a e) refl
 all_sent-append p (t ∷ ts) us a b e =
-    let l : size p t ≤ length a = long p t ts a e in
-    let m : size p t ≤ length (a ++ b) = omega (arith, length-append a b) in
-    rw (take-append-le (size p t) a b l, drop-append-le (size p t) a b l, le-ltb (length (a ++ b)) (size p t) m, le-ltb (length a) (size p t) l)
-    (ap (λ r. (bytes_of (take (size p t) a) ++ says p t) ++ r) (all_sent-append p ts us (drop (size p t) a) b (events_of-drop (size p t) a (plays p t) (flat_map (plays p) ts) refl e))
-    ∙ sym (append_assoc (bytes_of (take (size p t) a) ++ says p t) (all_sent p ts (drop (size p t) a)) (all_sent p us b)))
+    let l : phase_size p t ≤ length a = long p t ts a e in
+    let m : phase_size p t ≤ length (a ++ b) = omega (arith, length-append a b) in
+    rw (take-append-le (phase_size p t) a b l, drop-append-le (phase_size p t) a b l, le-ltb (length (a ++ b)) (phase_size p t) m, le-ltb (length a) (phase_size p t) l)
+    (ap (λ r. (bytes_of (take (phase_size p t) a) ++ says p t) ++ r) (all_sent-append p ts us (drop (phase_size p t) a) b (events_of-drop (phase_size p t) a (plays p t) (flat_map (plays p) ts) refl e))
+    ∙ sym (append_assoc (bytes_of (take (phase_size p t) a) ++ says p t) (all_sent p ts (drop (phase_size p t) a)) (all_sent p us b)))
 
 pub flat_map-append : {E : Type 0} (p : Protocol E) (ts us : List Phase) → flat_map (plays p) (ts ++ us) ≡ flat_map (plays p) ts ++ flat_map (plays p) us
 flat_map-append p [] us = refl
@@ -149,16 +149,16 @@ lost-more p ts more a x f = record {
 pub whole-none : {E : Type 0} (p : Protocol E) → IsWhole p [] [] []
 whole-none p = record { events = refl; stays = refl; bytes = refl }
 
-size-got : {E : Type 0} (p : Protocol E) (t : Phase) (a : List (Answer E)) → events_of a ≡ plays p t → length a ≡ size p t
+size-got : {E : Type 0} (p : Protocol E) (t : Phase) (a : List (Answer E)) → events_of a ≡ plays p t → length a ≡ phase_size p t
 size-got p t a e = sym (length-events_of a) ∙ ap length e
 
-take-got : {E : Type 0} (p : Protocol E) (t : Phase) (a : List (Answer E)) → events_of a ≡ plays p t → take (size p t) a ≡ a
-take-got p t a e = take_all (size p t) a (omega (arith, size-got p t a e))
+take-got : {E : Type 0} (p : Protocol E) (t : Phase) (a : List (Answer E)) → events_of a ≡ plays p t → take (phase_size p t) a ≡ a
+take-got p t a e = take_all (phase_size p t) a (omega (arith, size-got p t a e))
 
 pub one_sent : {E : Type 0} (p : Protocol E) (t : Phase) (a : List (Answer E)) → events_of a ≡ plays p t → all_sent p (t ∷ []) a ≡ bytes_of a ++ says p t
 one_sent p t a e =
-    let m : size p t ≤ length a = omega (arith, size-got p t a e) in
-    rw (le-ltb (length a) (size p t) m, take-got p t a e) (append-nil _)
+    let m : phase_size p t ≤ length a = omega (arith, size-got p t a e) in
+    rw (le-ltb (length a) (phase_size p t) m, take-got p t a e) (append-nil _)
 
 -- a phase that was answered whole, and the client stays
 pub phase_goes : {E : Type 0} (p : Protocol E) (t : Phase) (a : List (Answer E)) → events_of a ≡ plays p t → is_leaving a ≡ false → IsWhole p (t ∷ []) a (bytes_of a ++ says p t)
@@ -192,10 +192,10 @@ goes-append : {A : Type 0} (w f more : List A) → GoesOn w f → GoesOn (w ++ m
 goes-append w f more h = (h.0, h.1 ++ more, ap (λ r. r ++ more) h.2 ∙ append_assoc f (h.0 ∷ h.1) more)
 
 -- a phase of which only a beginning was answered
-pub phase_stops : {E : Type 0} (p : Protocol E) (t : Phase) (a : List (Answer E)) → Begins (plays p t) (events_of a) → length a < size p t → IsShort p (t ∷ []) a []
+pub phase_stops : {E : Type 0} (p : Protocol E) (t : Phase) (a : List (Answer E)) → Begins (plays p t) (events_of a) → length a < phase_size p t → IsShort p (t ∷ []) a []
 phase_stops p t a h l = record {
   events = λ more. goes-append (plays p t) (events_of a) _ (goes_short (plays p t) (events_of a) h (omega (arith, l, length-events_of a)));
-  bytes = λ more. rw (lt-ltb (length a) (size p t) l) refl;
+  bytes = λ more. rw (lt-ltb (length a) (phase_size p t) l) refl;
 }
 
 -- a phase of which only a beginning was answered, and of its bytes none was sent

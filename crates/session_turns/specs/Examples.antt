@@ -20,14 +20,14 @@ pub record Said : Type 0 where
   pub what : Act
 
 -- what an act adds
-abbrev pub added : Act → ℕ
-added (Add n) = n
-added _ = 0
+abbrev pub amount_added : Act → ℕ
+amount_added (Add n) = n
+amount_added _ = 0
 
 -- the sum that some entries lead to
-abbrev pub sum_of : List Said → ℕ
-sum_of [] = 0
-sum_of (said ∷ before) = added said.what + sum_of before
+abbrev pub sum_said : List Said → ℕ
+sum_said [] = 0
+sum_said (said ∷ before) = amount_added said.what + sum_said before
 
 -- Show and Unasked send the sum; leaving is granted where the sum is above 9
 abbrev pub answer_to : Act → ℕ → List (Answer Act)
@@ -38,7 +38,7 @@ answer_to Ask sum = record { event = Ask; bytes = []; leaving = nat_lt 9 sum } �
 answer_to act sum = record { event = act; bytes = []; leaving = false } ∷ []
 
 abbrev pub sums : Rules Said Act
-sums = record { maker = λ said. said.who; event = λ said. said.what; answer = λ before said. answer_to said.what (sum_of before) }
+sums = record { maker = λ said. said.who; event = λ said. said.what; answer = λ before said. answer_to said.what (sum_said before) }
 
 -- each byte of a line adds its number and 33 asks to leave; a line that begins with 63 is refused
 abbrev pub act_of : ℕ → Act
@@ -63,12 +63,12 @@ abbrev pub said : ℕ → Act → Said
 said who what = record { who = who; what = what }
 
 -- one client: the line 1 2, a refused line, an empty one, and the end
-abbrev pub alone : List Said
-alone = said 0 Opening ∷ said 0 Show ∷ said 0 (Add 1) ∷ said 0 (Add 2) ∷ said 0 Show ∷ said 0 Leaving ∷ []
+abbrev pub one_client_said : List Said
+one_client_said = said 0 Opening ∷ said 0 Show ∷ said 0 (Add 1) ∷ said 0 (Add 2) ∷ said 0 Show ∷ said 0 Leaving ∷ []
 
 -- two clients: the second is drawn unasked, and may leave only since the first one added 8
-abbrev pub pair : List Said
-pair = said 0 Opening ∷ said 0 Show ∷ said 1 Opening ∷ said 1 Show ∷ said 0 (Add 8) ∷ said 0 Show ∷ said 1 Unasked
+abbrev pub two_clients_said : List Said
+two_clients_said = said 0 Opening ∷ said 0 Show ∷ said 1 Opening ∷ said 1 Show ∷ said 0 (Add 8) ∷ said 0 Show ∷ said 1 Unasked
     ∷ said 1 (Add 2) ∷ said 1 Ask ∷ said 1 Show ∷ said 1 Leaving ∷ []
 
 -- one client, cut off in the middle of the line 1 2
@@ -89,12 +89,12 @@ pub record Examples : Type 0 where
   pub part_before : whole_lines (7 ∷ []) (1 ∷ 10 ∷ 2 ∷ []) ≡ (7 ∷ 1 ∷ []) ∷ []
   pub part_behind : last_part (7 ∷ []) (1 ∷ 10 ∷ 2 ∷ []) ≡ 2 ∷ []
   -- a refused line and an empty one have no event; the refusal is sent in its place
-  pub alone_due : Due talk sums 0 alone lines_alone ≡ own sums 0 alone
-  pub alone_sent : Sent talk sums 0 alone lines_alone ≡ 0 ∷ 3 ∷ 63 ∷ []
+  pub alone_due : Due talk sums 0 one_client_said lines_alone ≡ own sums 0 one_client_said
+  pub alone_sent : Sent talk sums 0 one_client_said lines_alone ≡ 0 ∷ 3 ∷ 63 ∷ []
   -- the turns up to the one in which leaving is granted, and none behind it
-  pub second_due : Due talk sums 1 pair turns_of_second ≡ own sums 1 pair
-  pub second_sent : Sent talk sums 1 pair turns_of_second ≡ 0 ∷ 8 ∷ 10 ∷ []
-  pub first_sent : Sent talk sums 0 pair (Line (8 ∷ []) ∷ []) ≡ 0 ∷ 8 ∷ []
+  pub second_due : Due talk sums 1 two_clients_said turns_of_second ≡ own sums 1 two_clients_said
+  pub second_sent : Sent talk sums 1 two_clients_said turns_of_second ≡ 0 ∷ 8 ∷ 10 ∷ []
+  pub first_sent : Sent talk sums 0 two_clients_said (Line (8 ∷ []) ∷ []) ≡ 0 ∷ 8 ∷ []
   -- of a line that was cut off nothing is sent, and nothing of the lines behind it
   pub cut_sent : Sent talk sums 0 cut_off lines_alone ≡ 0 ∷ []
   pub cut_due : Due talk sums 0 cut_off (Line (1 ∷ 2 ∷ []) ∷ []) ≡ Opening ∷ Show ∷ Add 1 ∷ Add 2 ∷ Show ∷ Leaving ∷ []

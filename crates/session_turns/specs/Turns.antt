@@ -50,16 +50,16 @@ says protocol (During (Line bytes)) = protocol.refuses bytes
 says protocol (During Idle) = []
 
 -- how many events a phase has
-abbrev pub size : {E : Type 0} → Protocol E → Phase → ℕ
-size protocol phase = length (plays protocol phase)
+abbrev pub phase_size : {E : Type 0} → Protocol E → Phase → ℕ
+phase_size protocol phase = length (plays protocol phase)
 
 -- the phases that are played, where `got` are the answers: up to and with the one in which the client may leave
 abbrev pub played : {E : Type 0} → Protocol E → List Phase → List (Answer E) → List Phase
 played protocol [] got = []
 played protocol (phase ∷ later) got =
-    phase ∷ (if is_leaving (take (size protocol phase) got)
+    phase ∷ (if is_leaving (take (phase_size protocol phase) got)
     then []
-    else played protocol later (drop (size protocol phase) got))
+    else played protocol later (drop (phase_size protocol phase) got))
 
 -- the events that phases owe the history
 abbrev pub due : {E : Type 0} → Protocol E → List Phase → List (Answer E) → List E
@@ -69,10 +69,10 @@ due protocol all got = flat_map (plays protocol) (played protocol all got)
 abbrev pub all_sent : {E : Type 0} → Protocol E → List Phase → List (Answer E) → List ℕ
 all_sent protocol [] got = []
 all_sent protocol (phase ∷ later) got =
-    if nat_lt (length got) (size protocol phase)
+    if nat_lt (length got) (phase_size protocol phase)
     then []
-    else (bytes_of (take (size protocol phase) got) ++ says protocol phase)
-    ++ all_sent protocol later (drop (size protocol phase) got)
+    else (bytes_of (take (phase_size protocol phase) got) ++ says protocol phase)
+    ++ all_sent protocol later (drop (phase_size protocol phase) got)
 
 -- what is sent over phases
 abbrev pub sent : {E : Type 0} → Protocol E → List Phase → List (Answer E) → List ℕ

@@ -2,7 +2,7 @@
 
 ghost use Rattle.std.specs.Prelude.{◌≡◌, ℕ, true, false, [], ◌∷◌, List, ◌++◌, length, ◌<◌};
 ghost use Rattle.session_turns.specs.Histories.{Answer, Rules, own, answers, answers_behind, events_of, bytes_of, is_leaving};
-ghost use Rattle.session_turns.specs.Turns.{Turn, Phase, Protocol, plays, says, size};
+ghost use Rattle.session_turns.specs.Turns.{Turn, Phase, Protocol, plays, says, phase_size};
 ghost use Rattle.session_turns.specs.Growth.{Begins, How, Whole, Fits, IsWhole, IsOver, IsShort, IsUnsent, IsLost};
 ghost use Rattle.session_turns.specs.Headline.{End, Stands};
 
@@ -27,7 +27,7 @@ pub fn one_phase<E>()
         IsWhole p (t ∷ []) a (bytes_of a ++ says p t) }
     ensures quits { (p : Protocol E) (t : Phase) (a : List (Answer E)) → events_of a ≡ plays p t → is_leaving a ≡ true →
         IsOver p (t ∷ []) a (bytes_of a ++ says p t) }
-    ensures stops { (p : Protocol E) (t : Phase) (a : List (Answer E)) → Begins (plays p t) (events_of a) → length a < size p t →
+    ensures stops { (p : Protocol E) (t : Phase) (a : List (Answer E)) → Begins (plays p t) (events_of a) → length a < phase_size p t →
         IsShort p (t ∷ []) a [] }
     ensures fails { (p : Protocol E) (t : Phase) (a : List (Answer E)) (x : List ℕ) → events_of a ≡ plays p t → Begins (bytes_of a ++ says p t) x →
         IsUnsent p (t ∷ []) a x }

@@ -3,7 +3,7 @@ use Rattle.std.proofs.Common.{◌≡◌, ℕ, ◌+◌, ◌-◌, ◌<◌, ◌≤�
 use Rattle.std.proofs.lemmas.Bool.{eqb-false}
 use Rattle.std.proofs.lemmas.List.{drop_all, drop_more, drop-drop}
 use Rattle.text_model.specs.Texts.{IsText, ends_in_newline}
-use Rattle.text_model.specs.Changes.{ended, put_in, inserted, begins_line, taken_end, erased, Change, Insertion, Erasure, changed, inverse, IsInside, all_changed, insertion_of, insertion, erasure, front, exchange, replacement, move_of, IsChange}
+use Rattle.text_model.specs.Changes.{ended, put_in, inserted, begins_line, taken_end, erased, Change, Insertion, Erasure, changed, inverse, IsChangeInside, all_changed, insertion_of, insertion, erasure, front, exchange, replacement, move_of, IsChange}
 use Rattle.text_model.proofs.CoordLemmas.{test_cases}
 use Rattle.text_model.proofs.PlaceLemmas.{three_ways}
 
@@ -152,7 +152,7 @@ IsText-erased text p q h k l =
         ]
 
 -- a change and then its inverse give the old text
-pub changed-inverse : (text : List ℕ) (c : Change) → IsInside text c → changed (changed text c) (inverse text c) ≡ text
+pub changed-inverse : (text : List ℕ) (c : Change) → IsChangeInside text c → changed (changed text c) (inverse text c) ≡ text
 changed-inverse text (Insertion p s) h =
     let long : length (take p text) ≡ p = length-take-le p text h in
     let before : take p (take p text ++ (s ++ drop p text)) ≡ take p text = take_at (take p text) (s ++ drop p text) p long in
@@ -178,12 +178,12 @@ length-changed_erasure text p q h k =
     omega (arith, length-append (take p text) (drop q text), length-take-le p text short, length-drop q text)
 
 -- the inverse lies inside the new text
-pub IsInside-inverse : (text : List ℕ) (c : Change) → IsInside text c → IsInside (changed text c) (inverse text c)
+pub IsInside-inverse : (text : List ℕ) (c : Change) → IsChangeInside text c → IsChangeInside (changed text c) (inverse text c)
 IsInside-inverse text (Insertion p s) h = (omega arith, omega (arith, length-changed_insertion text p s h))
 IsInside-inverse text (Erasure p q) h = omega (arith, length-changed_erasure text p q h.0 h.1, h.0, h.1)
 
 -- the offsets of a change describe it
-pub move_of-change : (text : List ℕ) (c : Change) → IsInside text c → IsChange (move_of text c).insert text (changed text c) (move_of text c).begin (move_of text c).end
+pub move_of-change : (text : List ℕ) (c : Change) → IsChangeInside text c → IsChange (move_of text c).insert text (changed text c) (move_of text c).begin (move_of text c).end
 move_of-change text (Insertion p s) h = record {
   ordered = omega arith;
   within = omega (arith, length-changed_insertion text p s h);

@@ -44,9 +44,9 @@ inverse text (Insertion p s) = Erasure p (p + length s)
 inverse text (Erasure p q) = Insertion p (take (q - p) (drop p text))
 
 -- the change lies inside the text
-abbrev pub IsInside : List ℕ → Change → Type 0
-IsInside text (Insertion p s) = p ≤ length text
-IsInside text (Erasure p q) = (p ≤ q) × (q ≤ length text)
+abbrev pub IsChangeInside : List ℕ → Change → Type 0
+IsChangeInside text (Insertion p s) = p ≤ length text
+IsChangeInside text (Erasure p q) = (p ≤ q) × (q ≤ length text)
 
 -- the text after changes, one after another
 abbrev pub all_changed : List ℕ → List Change → List ℕ

@@ -3,7 +3,7 @@ use Rattle.std.specs.Prelude.{◌≡◌, ℕ, ◌+◌, ◌-◌, ◌<◌, ◌≤�
 use Rattle.text_model.specs.declared.coords.Coord.{Coord}
 use Rattle.text_model.specs.Coords.{is_at_most}
 use Rattle.text_model.specs.Texts.{IsText, IsLine, ends_in_newline, lines_of, joined, nth_line, line_count, offset, coord_at, end_coord, IsPlace, IsPlaceOrEnd}
-use Rattle.text_model.specs.Changes.{put_in, inserted, erased, Change, changed, inverse, IsInside, all_changed, insertion, erasure, replacement, Move, move_of, IsCut, IsChange}
+use Rattle.text_model.specs.Changes.{put_in, inserted, erased, Change, changed, inverse, IsChangeInside, all_changed, insertion, erasure, replacement, Move, move_of, IsCut, IsChange}
 use Rattle.text_model.specs.Mapping.{past_insertion, past_erasure, moved, shifted}
 
 -- a text and its lines
@@ -25,9 +25,9 @@ pub record CoordinatesAreInverse : Type 0 where
 
 -- changes and what takes them back
 pub record ChangesAreInverse : Type 0 where
-  pub taken_back : (text : List ℕ) (c : Change) → IsInside text c → changed (changed text c) (inverse text c) ≡ text
-  pub inverse_is_inside : (text : List ℕ) (c : Change) → IsInside text c → IsInside (changed text c) (inverse text c)
-  pub by_offsets : (text : List ℕ) (c : Change) → IsInside text c → IsChange (move_of text c).insert text (changed text c) (move_of text c).begin (move_of text c).end
+  pub taken_back : (text : List ℕ) (c : Change) → IsChangeInside text c → changed (changed text c) (inverse text c) ≡ text
+  pub inverse_is_inside : (text : List ℕ) (c : Change) → IsChangeInside text c → IsChangeInside (changed text c) (inverse text c)
+  pub by_offsets : (text : List ℕ) (c : Change) → IsChangeInside text c → IsChange (move_of text c).insert text (changed text c) (move_of text c).begin (move_of text c).end
   pub other_way : (insert : Bool) (old new : List ℕ) (b e : ℕ) → IsChange insert old new b e → IsChange (not insert) new old b e
 
 -- changes of a text make texts, and their lists of single changes make the same

@@ -7,7 +7,7 @@ use Rattle.selection_set.specs.declared.sel.Pair.{Pair}
 use Rattle.motion_keys.specs.Landmarks.{line_begin}
 use Rattle.motion_keys.specs.Words.{ends, EndsAre}
 use Rattle.text_objects.specs.Runs.{run_begin, run_end}
-use Rattle.text_objects.specs.LineObjects.{is_full, is_empty, is_indented, lines_between, behind_empty, paragraph_from, paragraph_to, paragraph_and_behind, indentation, indent_at, indent_from, indent_to, indented_lines, indented_inside}
+use Rattle.text_objects.specs.LineObjects.{is_full, is_empty, is_indented, lines_between, behind_empty, paragraph_from, paragraph_to, paragraph_and_behind, indentation, indentation_at, indent_from, indent_to, indented_lines, indented_inside}
 use Rattle.text_objects.proofs.RunLemmas.{empty-end, empty-begin}
 
 -- from the first character of a line to the newline of another
@@ -33,7 +33,7 @@ pub indented-is : (text : List ℕ) (tabstop n least from to : ℕ) (line : List
     → from ≡ run_begin (is_indented text tabstop least) n → to ≡ run_end (is_indented text tabstop least) (n + 1) (line_count text)
     → EndsAre text pair (Some (lines_between text from to)) → EndsAre text pair (indented_lines text tabstop n)
 indented-is text tabstop n least from to line pair full l i f t h =
-    let own : least ≡ indent_at text tabstop n = i ∙ ap (λ k. indentation k tabstop) l in
+    let own : least ≡ indentation_at text tabstop n = i ∙ ap (λ k. indentation k tabstop) l in
     let first : from ≡ indent_from text tabstop n = f ∙ ap (λ d. run_begin (is_indented text tabstop d) n) own in
     let last : to ≡ indent_to text tabstop n = t ∙ ap (λ d. run_end (is_indented text tabstop d) (n + 1) (line_count text)) own in
     let whole : Some (lines_between text from to) ≡ indented_lines text tabstop n = ap (λ k. Some (lines_between text k to)) first ∙ ap (λ k. Some (lines_between text (indent_from text tabstop n) k)) last ∙ sym (ap (λ c. cond c (Some (lines_between text (indent_from text tabstop n) (indent_to text tabstop n))) None) full) in
@@ -44,7 +44,7 @@ pub inside-is : (text : List ℕ) (tabstop n least from to first behind : ℕ) (
     → first ≡ run_end (is_empty text) from (line_count text) → behind ≡ run_begin (is_empty text) to
     → EndsAre text pair (Some (lines_between text first behind)) → EndsAre text pair (indented_inside text tabstop n)
 inside-is text tabstop n least from to first behind line pair full l i f t s b h =
-    let own : least ≡ indent_at text tabstop n = i ∙ ap (λ k. indentation k tabstop) l in
+    let own : least ≡ indentation_at text tabstop n = i ∙ ap (λ k. indentation k tabstop) l in
     let low : first ≡ behind_empty text (indent_from text tabstop n) = s ∙ ap (behind_empty text) (f ∙ ap (λ d. run_begin (is_indented text tabstop d) n) own) in
     let high : behind ≡ run_begin (is_empty text) (indent_to text tabstop n) = b ∙ ap (run_begin (is_empty text)) (t ∙ ap (λ d. run_end (is_indented text tabstop d) (n + 1) (line_count text)) own) in
     let whole : Some (lines_between text first behind) ≡ indented_inside text tabstop n = ap (λ k. Some (lines_between text k behind)) low ∙ ap (λ k. Some (lines_between text (behind_empty text (indent_from text tabstop n)) k)) high ∙ sym (ap (λ c. cond c (Some (lines_between text (behind_empty text (indent_from text tabstop n)) (run_begin (is_empty text) (indent_to text tabstop n)))) None) full) in

@@ -13,7 +13,7 @@ use Rattle.motion_keys.specs.Landmarks.{line_begin, line_of}
 use Rattle.motion_keys.specs.Words.{ends, EndsAre}
 use Rattle.motion_keys.proofs.DepthLemmas.{times, one, one-same, one-other}
 use Rattle.motion_keys.proofs.ExtremeLemmas.{least-is, only-least, only-greatest}
-use Rattle.text_objects.specs.Pairs.{reaches, innermost_begin, opens, quote_mate, around_quotes}
+use Rattle.text_objects.specs.Pairs.{reaches, innermost_begin, quote_opens, quote_mate, around_quotes}
 use Rattle.text_objects.proofs.BracketLemmas.{times-drop, times-split}
 use Rattle.text_objects.proofs.LineOfLemmas.{line_begin-le, line_begin-next, line_begin-within, line_of-begin, line_of-is}
 
@@ -74,7 +74,7 @@ mate-opening quote text n a l p q h even =
 -- a pair ends on the line that it begins on
 mate-before : (quote : ℕ) (text : List ℕ) (a o : ℕ) → line_end text a ≤ o → reaches (quote_mate quote text a) o ≡ false
 mate-before quote text a o h =
-    elim (test_cases (opens quote text a)) [
+    elim (test_cases (quote_opens quote text a)) [
       | inl t ↦ ap (λ m. reaches m o) (ap (λ b. cond b (least_between (holds text quote) (a + 1) (line_end text a)) None) t) ∙ go (least_between (holds text quote) (a + 1) (line_end text a)) (least-is (holds text quote) (a + 1) (line_end text a))
       | inr f ↦ ap (λ m. reaches m o) (ap (λ b. cond b (least_between (holds text quote) (a + 1) (line_end text a)) None) f)
     ]

@@ -15,7 +15,7 @@ use Rattle.text_objects.specs.Runs.{behind_found, run_begin, run_end}
 use Rattle.text_objects.specs.LineObjects.{is_full}
 use Rattle.text_objects.specs.RunObjects.{is_gap}
 use Rattle.text_objects.specs.Sentences.{is_stop, is_end, is_solid, paragraph_begin, paragraph_end, is_end_from, follows_end, is_begin, sentence_begin, sentence_last, before_next}
-use Rattle.text_objects.specs.SentenceSteps.{IsBefore, IsBehind}
+use Rattle.text_objects.specs.SentenceSteps.{IsBefore, IsNextBehind}
 use Rattle.text_objects.proofs.RunLemmas.{begin-here, begin-on, begin-first, end-here, end-on, end-last}
 use Rattle.text_objects.proofs.LineOfLemmas.{line_begin-le, line_begin-next, line_of-place}
 
@@ -130,7 +130,7 @@ before-not_begin text at b h before e = omega (arith, e, before.same, before.nex
 pub begins-below_empty : (text : List ℕ) (at : Coord) (n : ℕ) → IsPlace text at → at.column ≡ 0 → n + 1 ≡ at.line → is_full text n ≡ false → offset text at ≡ paragraph_begin text (offset text at)
 begins-below_empty text at n h z e f = omega (arith, z, begin-of text at h, begin_of-here text n at.line e f)
 
-pub behind-on_line : (text : List ℕ) (at b : Coord) → IsPlace text at → is_full text at.line ≡ true → b.line ≡ at.line → b.column ≡ at.column + 1 → at.column + 1 < length (nth_line text at.line) → IsBehind text b at
+pub behind-on_line : (text : List ℕ) (at b : Coord) → IsPlace text at → is_full text at.line ≡ true → b.line ≡ at.line → b.column ≡ at.column + 1 → at.column + 1 < length (nth_line text at.line) → IsNextBehind text b at
 behind-on_line text at b h full e c l =
     let same : line_begin text b.line ≡ line_begin text at.line = ap (line_begin text) e in
     let length-same : length (nth_line text b.line) ≡ length (nth_line text at.line) = ap (λ n. length (nth_line text n)) e in
@@ -145,7 +145,7 @@ behind-on_line text at b h full e c l =
 full-length : (text : List ℕ) (n : ℕ) → is_full text n ≡ true → 1 < length (nth_line text n)
 full-length text n e = ltb-true 1 (length (nth_line text n)) e
 
-pub behind-line_below : (text : List ℕ) (at b : Coord) → IsPlace text at → at.column + 1 ≡ length (nth_line text at.line) → b.line ≡ at.line + 1 → b.column ≡ 0 → at.line + 1 < line_count text → is_full text (at.line + 1) ≡ true → IsBehind text b at
+pub behind-line_below : (text : List ℕ) (at b : Coord) → IsPlace text at → at.column + 1 ≡ length (nth_line text at.line) → b.line ≡ at.line + 1 → b.column ≡ 0 → at.line + 1 < line_count text → is_full text (at.line + 1) ≡ true → IsNextBehind text b at
 behind-line_below text at b h last e z l full =
     let own : is_full text b.line ≡ true = ap (is_full text) e ∙ full in
     let place : IsPlace text b = record { on_line = omega (arith, e, l); in_line = omega (arith, z, full-length text b.line own) } in
@@ -158,7 +158,7 @@ behind-line_below text at b h last e z l full =
     }
 
 -- a step on is there where the paragraph doesn't end
-pub behind-not_end : (text : List ℕ) (at b : Coord) → IsPlace text at → IsBehind text b at → offset text at + 1 ≢ paragraph_end text (offset text at)
+pub behind-not_end : (text : List ℕ) (at b : Coord) → IsPlace text at → IsNextBehind text b at → offset text at + 1 ≢ paragraph_end text (offset text at)
 behind-not_end text at b h behind e = omega (arith, e, behind.same, behind.next, end-ge text b behind.place)
 
 pub ends-last : (text : List ℕ) (at : Coord) → IsPlace text at → at.column + 1 ≡ length (nth_line text at.line) → at.line + 1 ≡ line_count text → offset text at + 1 ≡ paragraph_end text (offset text at)

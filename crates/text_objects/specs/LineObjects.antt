@@ -58,16 +58,16 @@ abbrev pub is_indented : List ℕ → ℕ → ℕ → ℕ → Bool
 is_indented text tabstop least n = is_empty text n || nat_le least (indentation (nth_line text n) tabstop)
 
 -- the indentation of the line with that number
-abbrev pub indent_at : List ℕ → ℕ → ℕ → ℕ
-indent_at text tabstop n = indentation (nth_line text n) tabstop
+abbrev pub indentation_at : List ℕ → ℕ → ℕ → ℕ
+indentation_at text tabstop n = indentation (nth_line text n) tabstop
 
 -- the first line of those around a line that are empty or indented at least as it
 abbrev pub indent_from : List ℕ → ℕ → ℕ → ℕ
-indent_from text tabstop n = run_begin (is_indented text tabstop (indent_at text tabstop n)) n
+indent_from text tabstop n = run_begin (is_indented text tabstop (indentation_at text tabstop n)) n
 
 -- the line behind them
 abbrev pub indent_to : List ℕ → ℕ → ℕ → ℕ
-indent_to text tabstop n = run_end (is_indented text tabstop (indent_at text tabstop n)) (n + 1) (line_count text)
+indent_to text tabstop n = run_end (is_indented text tabstop (indentation_at text tabstop n)) (n + 1) (line_count text)
 
 -- all of them
 abbrev pub indented_lines : List ℕ → ℕ → ℕ → Option Ends

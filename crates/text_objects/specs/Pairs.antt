@@ -42,12 +42,12 @@ abbrev pub quotes_before : ℕ → List ℕ → ℕ → ℕ
 quotes_before quote text o = count_by (λ c. c == quote) (slice_range text (line_begin text (line_of text o)) o)
 
 -- whether a quote at an offset opens: the quotes of a line are paired from its left
-abbrev pub opens : ℕ → List ℕ → ℕ → Bool
-opens quote text a = holds text quote a && (quotes_before quote text a % 2 == 0)
+abbrev pub quote_opens : ℕ → List ℕ → ℕ → Bool
+quote_opens quote text a = holds text quote a && (quotes_before quote text a % 2 == 0)
 
 -- the offset of the quote that closes one: the next on its line
 abbrev pub quote_mate : ℕ → List ℕ → ℕ → Option ℕ
-quote_mate quote text a = if opens quote text a then least_between (holds text quote) (a + 1) (line_end text a) else None
+quote_mate quote text a = if quote_opens quote text a then least_between (holds text quote) (a + 1) (line_end text a) else None
 
 -- the pair of quotes that holds an offset
 abbrev pub around_quotes : ℕ → List ℕ → ℕ → Option Ends

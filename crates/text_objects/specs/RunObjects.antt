@@ -8,8 +8,8 @@ use Rattle.motion_keys.specs.Words.{Ends, ends, word_kind, class_for}
 use Rattle.text_objects.specs.Runs.{chars_end, char_run}
 
 -- whether words are made of a character, or big words, for which marks count too
-abbrev pub is_in_word : Bool → ℕ → Bool
-is_in_word big c = is_same (class_for (word_kind big) c) Word
+abbrev pub is_in_word_kind : Bool → ℕ → Bool
+is_in_word_kind big c = is_same (class_for (word_kind big) c) Word
 
 -- whether a character is a blank
 abbrev pub is_blank : ℕ → Bool
@@ -37,7 +37,7 @@ with_sign text e = ends (sign_before text e.anchor) e.cursor
 
 -- the word, or big word, that holds an offset
 abbrev pub inner_word : Bool → List ℕ → ℕ → Option Ends
-inner_word big text o = char_run (is_in_word big) text o
+inner_word big text o = char_run (is_in_word_kind big) text o
 
 -- and with the blanks behind it, up to the end of its line at most
 abbrev pub around_word : Bool → List ℕ → ℕ → Option Ends

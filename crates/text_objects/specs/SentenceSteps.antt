@@ -13,7 +13,7 @@ pub record IsBefore (text : List ℕ) (b at : Coord) : Type 0 where
   pub same : paragraph_begin text (offset text b) ≡ paragraph_begin text (offset text at)
 
 -- a place right behind another one of its paragraph
-pub record IsBehind (text : List ℕ) (b at : Coord) : Type 0 where
+pub record IsNextBehind (text : List ℕ) (b at : Coord) : Type 0 where
   pub place : IsPlace text b
   pub next : offset text b ≡ offset text at + 1
   pub full : is_full text b.line ≡ true

@@ -4,7 +4,7 @@ ghost use Rattle.std.specs.Prelude.{◌≡◌, ◌+◌, ◌↔◌, true, IsNone,
 ghost use Rattle.text_model.specs.Texts.{offset, IsPlace, line_count};
 ghost use Rattle.text_objects.specs.LineObjects.{is_full};
 ghost use Rattle.text_objects.specs.Sentences.{is_stop, is_end, paragraph_begin, paragraph_end, follows_end, is_begin};
-ghost use Rattle.text_objects.specs.SentenceSteps.{IsBefore, IsBehind};
+ghost use Rattle.text_objects.specs.SentenceSteps.{IsBefore, IsNextBehind};
 
 use crate::line_runs::is_full;
 use crate::runs::{CharKind, is_char_of};
@@ -59,7 +59,7 @@ pub(crate) fn behind_in_paragraph(lines: &Lines, at: Coord) -> Option<Coord>
     requires place { IsPlace lines.now at }
     requires full { is_full lines.now at.line ≡ true }
     ensures none { IsNone result ↔ (offset lines.now at + 1 ≡ paragraph_end lines.now (offset lines.now at)) }
-    ensures behind { IfSome result (λ b. IsBehind lines.now b at) }
+    ensures behind { IfSome result (λ b. IsNextBehind lines.now b at) }
 {
     let n = at.line as usize;
     if at.column as usize + 1 < lines.line(n).len() {

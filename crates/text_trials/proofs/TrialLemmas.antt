@@ -5,7 +5,7 @@ use Rattle.text_model.specs.declared.coords.Coord.{Coord}
 use Rattle.text_model.specs.declared.coords.Shift.{Shift}
 use Rattle.text_model.specs.declared.TheConstants.{MAX_CHARS}
 use Rattle.text_model.specs.Texts.{IsStored, IsPlace, offset, ends_in_newline}
-use Rattle.text_model.specs.Changes.{Change, Insertion, Erasure, changed, Move, move_of, IsShift, IsInside as LiesInside}
+use Rattle.text_model.specs.Changes.{Change, Insertion, Erasure, changed, Move, move_of, IsShift, IsChangeInside as LiesInside}
 use Rattle.text_model.specs.Mapping.{shifted}
 use Rattle.text_model.proofs.ChangeLemmas.{move_of-change}
 use Rattle.undo_model.specs.Steps.{size, AreSteps}
@@ -13,7 +13,7 @@ use Rattle.list_model.specs.Settling.{carried}
 use Rattle.selection_set.specs.declared.sel.Sel.{Sel}
 use Rattle.selection_set.specs.Listing.{Listed, ranges_of, AreInside, LowsDontFall, IsSettledIn}
 use Rattle.selection_set.proofs.HeldLemmas.{settled-held, held-order}
-use Rattle.selection_map.specs.Carrying.{IsStep, AllSmall}
+use Rattle.selection_map.specs.Carrying.{IsShiftStep, AllSmall}
 use Rattle.selection_map.specs.Catching.{Step, Lead, shifts_of, AreShiftsOf, IsCatchable}
 use Rattle.selection_map.proofs.SmallLemmas.{both-small}
 use Rattle.selection_map.proofs.RisingLemmas.{step-of}
@@ -80,7 +80,7 @@ catchable-small s ss list c = by_steps c.steps c.can.leads c.can.shifts_are
     by_steps (st ∷ sts) l k = let head : st.shift ≡ s = cc in subst (λ (x : Shift). AllSmall list.list x) head (all-small c.old st list.list c.can.stored l.0.stored l.0.shift_is c.can.held.inside)
 
 pub catchable-on : (s : Shift) (ss : List Shift) (before now : Listed) → IsCatchable (s ∷ ss) before
-    → ((old new : List ℕ) (m : Move) → IsStep old new s m → AreInside old before.list → LowsDontFall (ranges_of old before.list) → IsSettledIn new (map (carried (shifted m)) (ranges_of old before.list)) before.main now)
+    → ((old new : List ℕ) (m : Move) → IsShiftStep old new s m → AreInside old before.list → LowsDontFall (ranges_of old before.list) → IsSettledIn new (map (carried (shifted m)) (ranges_of old before.list)) before.main now)
     → IsCatchable ss now
 catchable-on s ss before now c settles = by_steps c.steps c.can.leads c.can.shifts_are
   where
@@ -92,7 +92,7 @@ catchable-on s ss before now c settles = by_steps c.steps c.can.leads c.can.shif
     by_steps (st ∷ sts) l k =
         let head : st.shift ≡ s = cc in
         let tail : ss ≡ shifts_of sts = cc in
-        let step : IsStep c.old st.text s st.move = subst (λ (x : Shift). IsStep c.old st.text x st.move) head (step-of c.old st c.can.stored l.0) in
+        let step : IsShiftStep c.old st.text s st.move = subst (λ (x : Shift). IsShiftStep c.old st.text x st.move) head (step-of c.old st c.can.stored l.0) in
         record {
           old = st.text;
           steps = sts;

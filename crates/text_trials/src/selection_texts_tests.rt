@@ -1,6 +1,6 @@
 //! Columns by bytes and by characters, as the places of selections tell and mean them.
 
-use command_forms::{Columns, Described, Place};
+use command_forms::{ArgumentPlace, Columns, Described};
 use kak_text::{Chars, Coord, Text};
 use line_buffer::Lines;
 use selection_set::Sel;
@@ -26,7 +26,7 @@ fn told_before<R: Abort>(rt: &R, lines: &Lines, column: usize) -> u32 {
 
 // The character that a byte of the first line is taken to mean, from 0.
 fn meant(lines: &Lines, byte: u32) -> Coord {
-    let place = Place {
+    let place = ArgumentPlace {
         line: 1,
         column: byte.saturating_add(1),
     };

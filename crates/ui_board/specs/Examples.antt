@@ -9,8 +9,8 @@ abbrev pub twice : Shown
 twice = telling (Refused Parse) (telling (Refused Method) (untold Json))
 
 -- seat 0 has a silent box, seat 1 is free, seat 2 has a box of JSON lines
-abbrev pub given : List (Option Shown)
-given = Some (untold Silent) ∷ None ∷ Some twice ∷ []
+abbrev pub given_boxes : List (Option Shown)
+given_boxes = Some (untold Silent) ∷ None ∷ Some twice ∷ []
 
 -- the table of examples
 pub record WorkedExamples : Type 0 where
@@ -21,13 +21,13 @@ pub record WorkedExamples : Type 0 where
   pub silent : report_of (telling (Refused Parse) (untold Silent)) ≡ []
   pub what_was_told : twice.told ≡ Refused Method ∷ Refused Parse ∷ []
   -- seats
-  pub free : is_free (seat_at 1 given) ≡ true
-  pub taken : is_free (seat_at 2 given) ≡ false
-  pub no_seat : seat_at 3 given ≡ None
-  pub first_free : free_seat given ≡ 1
-  pub into_the_gap : seated (untold Json) given ≡ Some (untold Silent) ∷ Some (untold Json) ∷ Some twice ∷ []
-  pub none_is_free : free_seat (seated (untold Json) given) ≡ 3
+  pub free : is_free (seat_at 1 given_boxes) ≡ true
+  pub taken : is_free (seat_at 2 given_boxes) ≡ false
+  pub no_seat : seat_at 3 given_boxes ≡ None
+  pub first_free : free_seat given_boxes ≡ 1
+  pub into_the_gap : seated (untold Json) given_boxes ≡ Some (untold Silent) ∷ Some (untold Json) ∷ Some twice ∷ []
+  pub none_is_free : free_seat (seated (untold Json) given_boxes) ≡ 3
   pub behind_the_last : seated (untold Silent) (Some twice ∷ []) ≡ Some twice ∷ Some (untold Silent) ∷ []
-  pub left : left_at 0 given ≡ None ∷ None ∷ Some twice ∷ []
-  pub report : report_at (seat_at 2 given) ≡ report_of twice
-  pub no_report : report_at (seat_at 1 given) ≡ []
+  pub left : left_at 0 given_boxes ≡ None ∷ None ∷ Some twice ∷ []
+  pub report : report_at (seat_at 2 given_boxes) ≡ report_of twice
+  pub no_report : report_at (seat_at 1 given_boxes) ≡ []

@@ -1,7 +1,7 @@
 -- Lemmas on steps and what takes them back.
 use Rattle.std.proofs.Common.{◌≡◌, ℕ, ◌-◌, ◌≤◌, List, [], ◌∷◌, ◌++◌, length, drop, refl, sym, ap, subst, ◌∙◌, arith, length-take-le, length-drop}
 use Rattle.text_model.specs.Texts.{IsStored}
-use Rattle.text_model.specs.Changes.{Change, Insertion, Erasure, changed, inverse, all_changed, IsInside}
+use Rattle.text_model.specs.Changes.{Change, Insertion, Erasure, changed, inverse, all_changed, IsChangeInside}
 use Rattle.text_model.proofs.ChangeLemmas.{changed-inverse, IsInside-inverse, all_changed-append}
 use Rattle.undo_model.specs.Steps.{size, IsStep, AreSteps, undoing}
 
@@ -21,7 +21,7 @@ undoing-text text (c ∷ cs) h =
     all_changed-append (all_changed (changed text c) cs) (undoing (changed text c) cs) (inverse text c ∷ []) ∙ ap (λ t. changed t (inverse text c)) (undoing-text (changed text c) cs h.1) ∙ changed-inverse text c h.0.inside
 
 -- an inverse has as many characters as the change
-size-inverse : (text : List ℕ) (c : Change) → IsInside text c → size (inverse text c) ≡ size c
+size-inverse : (text : List ℕ) (c : Change) → IsChangeInside text c → size (inverse text c) ≡ size c
 size-inverse text (Insertion p s) h = omega arith
 size-inverse text (Erasure p q) h = let room : q - p ≤ length (drop p text) = omega (arith, length-drop p text, h.1) in length-take-le (q - p) (drop p text) room
 

@@ -10,7 +10,7 @@ use Rattle.text_model.proofs.CoordLemmas.{test_cases}
 use Rattle.text_model.proofs.PlaceLemmas.{three_ways}
 use Rattle.text_model.proofs.ChangeLemmas.{all_changed-append}
 use Rattle.undo_model.specs.Steps.{AreSteps}
-use Rattle.undo_model.specs.Tree.{Node, root, node_at, aimed, with_heir, up, route, remembering, Step, crossed, heir_after}
+use Rattle.undo_model.specs.Tree.{Node, root, node_at, aimed, with_heir, up, route, remembering, TreeEdge, crossed, heir_after}
 use Rattle.undo_model.specs.Kept.{IsChild, IsHeir, IsTree}
 use Rattle.undo_model.proofs.StepLemmas.{steps-append, undoing-text, undoing-steps}
 
@@ -191,12 +191,12 @@ crossed-same (suc k) ms nodes a b h =
     ]
   where
     crossed-same_up : (node_at ms a).parent ≡ (node_at nodes a).parent → crossed k ms (node_at nodes a).parent b ≡ crossed k nodes (node_at nodes a).parent b → (record { parent = (node_at ms a).parent; child = a }) ∷ crossed k ms (node_at ms a).parent b ≡ (record { parent = (node_at nodes a).parent; child = a }) ∷ crossed k nodes (node_at nodes a).parent b
-    crossed-same_up p q = ap (λ m. (let s : Step = record { parent = m; child = a } in s) ∷ crossed k ms m b) p ∙ ap (λ ss. (let s : Step = record { parent = (node_at nodes a).parent; child = a } in s) ∷ ss) q
+    crossed-same_up p q = ap (λ m. (let s : TreeEdge = record { parent = m; child = a } in s) ∷ crossed k ms m b) p ∙ ap (λ ss. (let s : TreeEdge = record { parent = (node_at nodes a).parent; child = a } in s) ∷ ss) q
 
     crossed-same_down : (node_at ms b).parent ≡ (node_at nodes b).parent → crossed k ms a (node_at nodes b).parent ≡ crossed k nodes a (node_at nodes b).parent → crossed k ms a (node_at ms b).parent ++ (record { parent = (node_at ms b).parent; child = b }) ∷ [] ≡ crossed k nodes a (node_at nodes b).parent ++ (record { parent = (node_at nodes b).parent; child = b }) ∷ []
-    crossed-same_down p q = ap (λ m. crossed k ms a m ++ (let s : Step = record { parent = m; child = b } in s) ∷ []) p ∙ ap (λ ss. ss ++ (let s : Step = record { parent = (node_at nodes b).parent; child = b } in s) ∷ []) q
+    crossed-same_down p q = ap (λ m. crossed k ms a m ++ (let s : TreeEdge = record { parent = m; child = b } in s) ∷ []) p ∙ ap (λ ss. ss ++ (let s : TreeEdge = record { parent = (node_at nodes b).parent; child = b } in s) ∷ []) q
 
-heir_after-append : (o : Option ℕ) (n : ℕ) (ss ts : List Step) → heir_after o n (ss ++ ts) ≡ heir_after (heir_after o n ss) n ts
+heir_after-append : (o : Option ℕ) (n : ℕ) (ss ts : List TreeEdge) → heir_after o n (ss ++ ts) ≡ heir_after (heir_after o n ss) n ts
 heir_after-append o n [] ts = refl
 heir_after-append o n (s ∷ ss) ts = heir_after-append (cond (eqb s.parent n) (Some s.child) o) n ss ts
 
@@ -229,7 +229,7 @@ remembering-heir (suc k) nodes a b n t la lb =
             let there : pb < length nodes = parent-there nodes b t p lb in
             let ms : List Node = remembering k nodes a pb in
             let rest : IsTreeAs ms nodes = remembering-tree k nodes a pb t la there in
-            let one : List Step = (record { parent = pb; child = b }) ∷ [] in
+            let one : List TreeEdge = (record { parent = pb; child = b }) ∷ [] in
             ap (λ xs. (node_at xs n).heir) (remembering-down k nodes a b e l) ∙ heir-of_step ms pb b n (omega (arith, rest.same.long)) ∙ ap (λ o. cond (eqb pb n) (Some b) o) (remembering-heir k nodes a pb n t la there) ∙ sym (ap (heir_after heir n) (crossed-down k nodes a b e l) ∙ heir_after-append heir n (crossed k nodes a pb) one))
       ]
     ]

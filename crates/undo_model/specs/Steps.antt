@@ -1,7 +1,7 @@
 -- Lists of single changes, one after another, and what takes them back.
 use Rattle.std.specs.Prelude.{ℕ, ◌-◌, ◌<◌, List, [], ◌∷◌, ◌++◌, length, ⊤}
 use Rattle.text_model.specs.Texts.{IsStored}
-use Rattle.text_model.specs.Changes.{Change, Insertion, Erasure, changed, inverse, IsInside}
+use Rattle.text_model.specs.Changes.{Change, Insertion, Erasure, changed, inverse, IsChangeInside}
 
 -- how many characters a change puts in or takes out
 abbrev pub size : Change → ℕ
@@ -10,7 +10,7 @@ size (Erasure p q) = q - p
 
 -- a change of a text: it lies inside it, puts in or takes out some character, and leaves a text that can be kept
 pub record IsStep (text : List ℕ) (c : Change) : Type 0 where
-  pub inside : IsInside text c
+  pub inside : IsChangeInside text c
   pub some : 0 < size c
   pub stored : IsStored (changed text c)
 

@@ -51,12 +51,12 @@ remembering (suc k) nodes a b =
     else with_heir (node_at nodes b).parent b (remembering k nodes a (node_at nodes b).parent))
 
 -- a parent and one of its children that a way goes between
-pub record Step : Type 0 where
+pub record TreeEdge : Type 0 where
   pub parent : ℕ
   pub child : ℕ
 
 -- the steps of the way from one node to another, in order
-abbrev pub crossed : ℕ → List Node → ℕ → ℕ → List Step
+abbrev pub crossed : ℕ → List Node → ℕ → ℕ → List TreeEdge
 crossed zero nodes a b = []
 crossed (suc k) nodes a b =
     if a == b then [] else (if nat_lt b a
@@ -64,6 +64,6 @@ crossed (suc k) nodes a b =
     else crossed k nodes a (node_at nodes b).parent ++ (record { parent = (node_at nodes b).parent; child = b }) ∷ [])
 
 -- the heir of a node behind steps: the child of the last one that has it as the parent, or else the one before
-abbrev pub heir_after : Option ℕ → ℕ → List Step → Option ℕ
+abbrev pub heir_after : Option ℕ → ℕ → List TreeEdge → Option ℕ
 heir_after heir n [] = heir
 heir_after heir n (s ∷ ss) = heir_after (if s.parent == n then Some s.child else heir) n ss

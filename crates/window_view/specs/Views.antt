@@ -3,5 +3,5 @@ use Rattle.window_view.specs.declared.window.Window.{Window}
 use Rattle.window_view.specs.View.{View}
 
 -- what a window shows
-abbrev pub view_of : Window → View
-view_of w = record { top = w.top; left = w.left; rows = w.rows; columns = w.columns }
+abbrev pub window_seen : Window → View
+window_seen w = record { top = w.top; left = w.left; rows = w.rows; columns = w.columns }

@@ -17,7 +17,7 @@ pub struct Window {
 }
 
 impl Window {
-    ghost use Rattle.window_view.specs.Views.{view_of};
+    ghost use Rattle.window_view.specs.Views.{window_seen};
 
     /// A window at the start of a text.
     pub fn new(rows: u16, columns: u16) -> Window
@@ -25,7 +25,7 @@ impl Window {
         requires few_rows { rows ≤ 1000 }
         requires some_columns { 1 ≤ columns }
         requires few_columns { columns ≤ 1000 }
-        ensures { view_of result ≡ record { top = 0; left = 0; rows = rows; columns = columns } }
+        ensures { window_seen result ≡ record { top = 0; left = 0; rows = rows; columns = columns } }
     {
         Window {
             top: 0,
@@ -40,7 +40,7 @@ impl Window {
     /// stand before the text.
     pub fn follow(&mut self, line: u32, column: u32, width: u32, gutter: u32)
         requires { column + width < 2 ^ 32 }
-        ensures { view_of self.new ≡ followed (view_of self.old) line column width gutter }
+        ensures { window_seen self.new ≡ followed (window_seen self.old) line column width gutter }
     {
         let rows = u32::from(self.rows);
         if line < self.top {

@@ -1,7 +1,7 @@
 use Rattle.std.proofs.Common.{◌≡◌, ◌+◌, ◌-◌, ◌≤◌, Bool, eqb, ◌||◌, length, ap, ap₂, sym, subst, ◌∙◌, arith, eq-eqb, ne_eqb}
 use Rattle.text_model.specs.declared.TheConstants.{MAX_CHARS}
 use Rattle.text_model.specs.Texts.{lines_of, offset}
-use Rattle.buffer_store.specs.declared.limits.Passed.{Passed}
+use Rattle.buffer_store.specs.declared.limits.PassedText.{PassedText}
 use Rattle.buffer_store.specs.Limits.{added, begins_behind, IsPassed}
 use Rattle.buffer_store.proofs.LimitLemmas.{added-le}
 use Rattle.buffer_store.proofs.PassLemmas.{Passes, passes, next_text, begins_there}
@@ -35,5 +35,5 @@ returns c = λ now f h le.
       | then-at_end w ↦ w.result-is ∙ eq-eqb c.args.splice.now.to.line c.line_count.result w.if-at_end.true ∙ sym (ap (λ v. v || begins_behind c.args.splice.now.text (begins_there c.args.at c.args.splice.now)) (eq-eqb c.args.splice.now.to.line (length (lines_of c.args.lines.now)) (w.if-at_end.true ∙ c.line_count.ensures.value)))
       | else-at_end w ↦ w.result-is ∙ w.begins_behind.ensures ∙ ap₂ begins_behind c.as_slice-chars.ensures c.begins_at-begins.ensures ∙ sym (ap (λ v. v || begins_behind c.args.splice.now.text (begins_there c.args.at c.args.splice.now)) (ne_eqb c.args.splice.now.to.line (length (lines_of c.args.lines.now)) (λ e. w.if-at_end.false (e ∙ sym c.line_count.ensures.value))))
     ] in
-    let P : Bool → Type 0 = λ v. IsPassed c.args.lines.now (next_text c.args.lines.now now c.args.splice.now) (offset c.args.lines.now c.args.splice.now.to) (let x : Passed = record { behind = c.args.splice.now.to; begins = v; chars = c.args.at.chars - c.count.result + c.added-more.result } in x) in
+    let P : Bool → Type 0 = λ v. IsPassed c.args.lines.now (next_text c.args.lines.now now c.args.splice.now) (offset c.args.lines.now c.args.splice.now.to) (let x : PassedText = record { behind = c.args.splice.now.to; begins = v; chars = c.args.at.chars - c.count.result + c.added-more.result } in x) in
     (small, subst P (sym begins) (k.next (c.args.at.chars - c.count.result + c.added-more.result) small chars))

@@ -1,12 +1,12 @@
 use Rattle.std.proofs.Common.{ℕ, List, sym, subst, ◌∙◌}
-use Rattle.buffer_store.specs.Stored.{Fits}
+use Rattle.buffer_store.specs.Stored.{KeptFits}
 use Rattle.buffer_store.proofs.MakingLemmas.{on_any, fit-at}
 use Rattle.buffer_store.proofs.TraceLemmas.{text-made, flats-more, some-made, after-more}
 use Rattle.buffer_store.proofs.making.make_all.Goals as goal
 
 pub make_noted-requires : goal.make_noted-requires
 make_noted-requires c =
-    let P : List ℕ → Type 0 = λ t. Fits t c.change-item.result in
+    let P : List ℕ → Type 0 = λ t. KeptFits t c.change-item.result in
     subst P (sym (text-made _ _ _ _ _ _ _ c.loop-change.invariant)) (fit-at c.args.lines.now c.args.changes.now c.loop-change.change-index c.change-item.result c.requires c.loop-change-test.true c.change-item.is)
 
 pub returns-in_err-make_noted-clause-err : goal.returns-in_err-make_noted-clause-err

@@ -2,7 +2,7 @@ use Rattle.std.proofs.Common.{ℕ, List, ◌+◌, not, length, ap, sym, subst, �
 use Rattle.text_model.specs.Texts.{offset}
 use Rattle.text_model.specs.Changes.{changed}
 use Rattle.undo_model.specs.Steps.{IsStep}
-use Rattle.buffer_store.specs.Stored.{turn, Fits}
+use Rattle.buffer_store.specs.Stored.{turn, KeptFits}
 use Rattle.buffer_store.proofs.MakingLemmas.{made-turns_back, back-fits, weaker_on_ok}
 use Rattle.buffer_store.proofs.making.take_back.Goals as goal
 
@@ -24,5 +24,5 @@ turn-requires-clause-step c =
 pub returns-clause-fits : goal.returns-clause-fits
 returns-clause-fits c =
     let k = c.args.change.now in
-    let P : List ℕ → Type 0 = λ t. Fits t k in
-    weaker_on_ok c.turn.result _ (Fits c.turn.new.lines k) (λ e. subst P (sym (e ∙ ap (λ s. changed c.args.lines.now (turn (not k.shift.insert) (offset c.args.lines.now k.shift.begin) s)) c.as_slice.ensures)) (back-fits c.args.lines.now k c.requires)) c.turn.ensures.text
+    let P : List ℕ → Type 0 = λ t. KeptFits t k in
+    weaker_on_ok c.turn.result _ (KeptFits c.turn.new.lines k) (λ e. subst P (sym (e ∙ ap (λ s. changed c.args.lines.now (turn (not k.shift.insert) (offset c.args.lines.now k.shift.begin) s)) c.as_slice.ensures)) (back-fits c.args.lines.now k c.requires)) c.turn.ensures.text

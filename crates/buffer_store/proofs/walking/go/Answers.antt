@@ -1,5 +1,5 @@
 use Rattle.std.proofs.Common.{List, ℕ, ap, sym, subst}
-use Rattle.buffer_store.specs.Walks.{CanGoOn}
+use Rattle.buffer_store.specs.Walks.{CanGoForth}
 use Rattle.buffer_store.specs.Traces.{Trace, trace}
 use Rattle.buffer_store.proofs.MakingLemmas.{on_any, weaker_on_ok, weaker_on_err}
 use Rattle.buffer_store.proofs.WalkLemmas.{way-whole, way-some_back, way-some_on}
@@ -7,7 +7,7 @@ use Rattle.buffer_store.proofs.walking.go.Goals as goal
 
 pub go_on-requires : goal.go_on-requires
 go_on-requires c =
-    let P : List ℕ → Type 0 = λ t. CanGoOn c.args.branches.now t c.args.entered.now in
+    let P : List ℕ → Type 0 = λ t. CanGoForth c.args.branches.now t c.args.entered.now in
     subst P (sym (ap (λ (x : Trace). x.text) c.in_ok-go_back.ensures.ok)) c.requires.on
 
 pub returns-in_err-go_back-clause-err : goal.returns-in_err-go_back-clause-err

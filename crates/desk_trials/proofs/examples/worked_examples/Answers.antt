@@ -1,7 +1,7 @@
 use Rattle.std.proofs.Common.{◌≡◌, ℕ, Option, Some, None, Err, refl, arith}
 use Rattle.session_desk.specs.Histories.{first_mark}
 use Rattle.desk_trials.specs.declared.tally.Refusal.TheVariants.{Zero}
-use Rattle.desk_trials.specs.Tally.{answer_of}
+use Rattle.desk_trials.specs.Tally.{tally_answer}
 use Rattle.desk_trials.specs.Examples.{two_moves}
 use Rattle.desk_trials.proofs.examples.worked_examples.Goals as goal
 
@@ -11,7 +11,7 @@ never_none None k e = cc
 never_none (Some m) k e = cc
 
 -- a move of 5 is never refused as one of 0
-not_zero : (before : Option ℕ) → answer_of two_moves before 5 ≡ Err Zero → ⊥
+not_zero : (before : Option ℕ) → tally_answer two_moves before 5 ≡ Err Zero → ⊥
 not_zero None e = cc
 not_zero (Some k) e = cc
 

@@ -2,7 +2,7 @@ use Rattle.std.proofs.Common.{◌≡◌, ℕ, List, refl, sym, ap, ap₂, ◌∙
 use Rattle.std.specs.Prelude.{not, length}
 use Rattle.list_model.specs.Ranges.{Selected}
 use Rattle.text_model.specs.declared.coords.Coord.{Coord}
-use Rattle.window_view.specs.Views.{view_of as window_seen}
+use Rattle.window_view.specs.Views.{window_seen}
 use Rattle.drawings.specs.declared.drawing.DrawnLine.{DrawnLine}
 use Rattle.kak_world.specs.Flat.{Flat, text_of, number_of, name_of, mode_of, sels_of, view_of, tabstop_of, status_of, purpose_of, prompt_of, is_drawn}
 use Rattle.kak_world.specs.declared.own.Mode.{Mode}
@@ -10,14 +10,14 @@ use Rattle.kak_world.specs.declared.own.Own.{Own}
 use Rattle.drawings.specs.declared.drawing.Drawing.{Drawing}
 use Rattle.drawings.specs.declared.drawing.Info.TheVariants.{Keep}
 use Rattle.selection_set.specs.Held.{selected}
-use Rattle.line_painting.specs.Atoms.{Shown, atoms_of}
+use Rattle.line_painting.specs.Atoms.{ShownChar, atoms_of}
 use Rattle.line_painting.specs.Lines.{drawn_lines}
 use Rattle.draw_model.specs.Drawings.{status_line, mode_shown, main_cursor, main_column, cursor_drawn, drawing_of}
 use Rattle.line_painting.proofs.DrawnLemmas.{ranges-length}
 use Rattle.draw_model.proofs.drawing.draw.Goals as goal
 
 -- a line of characters in their faces
-abbrev line_of : List Shown → DrawnLine
+abbrev line_of : List ShownChar → DrawnLine
 line_of shown = record { atoms = atoms_of shown }
 
 -- drawings are equal when their parts are

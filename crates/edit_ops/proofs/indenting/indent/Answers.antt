@@ -1,6 +1,6 @@
 use Rattle.std.proofs.Common.{◌∙◌, arith}
 use Rattle.selection_set.specs.Listing.{ranges_of}
-use Rattle.edit_ops.specs.declared.spans.Reach.TheVariants.{Touched}
+use Rattle.edit_ops.specs.declared.spans.LineReach.TheVariants.{Touched}
 use Rattle.edit_ops.specs.Indenting.{indent_at, has_more}
 use Rattle.edit_ops.proofs.SpanLemmas.{reached-below}
 use Rattle.edit_ops.proofs.LineEditLemmas.{indents-keep, kept-splices}

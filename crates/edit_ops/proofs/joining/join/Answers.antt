@@ -1,6 +1,6 @@
 use Rattle.std.proofs.Common.{◌∙◌, arith}
 use Rattle.selection_set.specs.Listing.{ranges_of}
-use Rattle.edit_ops.specs.declared.spans.Reach.TheVariants.{Joined}
+use Rattle.edit_ops.specs.declared.spans.LineReach.TheVariants.{Joined}
 use Rattle.edit_ops.specs.Joining.{join_at}
 use Rattle.edit_ops.proofs.SpanLemmas.{reached-below}
 use Rattle.edit_ops.proofs.LineEditLemmas.{joins-keep, reached-splices}

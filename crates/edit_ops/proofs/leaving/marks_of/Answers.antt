@@ -5,8 +5,8 @@ use Rattle.text_model.specs.declared.coords.Shift.{Shift}
 use Rattle.selection_set.specs.declared.sel.Sel.{Sel}
 use Rattle.selection_map.specs.Carrying.{IsSmall}
 use Rattle.buffer_store.specs.declared.edits.Splice.{Splice}
-use Rattle.edit_ops.specs.declared.passing.Passed.{Passed}
-use Rattle.edit_ops.specs.Passing.{place, passed, passed_at, mark_at, marks, count_then}
+use Rattle.edit_ops.specs.declared.passing.PassedShifts.{PassedShifts}
+use Rattle.edit_ops.specs.Passing.{place, passed, passed_at, mark_at, passed_marks, count_then}
 use Rattle.edit_ops.proofs.HomeLemmas.{home-of-all}
 use Rattle.edit_ops.proofs.LeftLemmas.{CanPass, GoesOn, can-go-on, go-on, edit-small}
 use Rattle.edit_ops.proofs.leaving.marks_of.Goals as goal
@@ -14,7 +14,7 @@ use Rattle.edit_ops.proofs.leaving.marks_of.Goals as goal
 next-is : (splices : List Splice) (i : ℕ) (s : Splice) → i < length splices → s ≡ get_or splices i s → drop i splices ≡ s ∷ drop (i + 1) splices
 next-is splices i s h e = drop_more splices i s h ∙ ap (λ x. x ∷ drop (i + 1) splices) (sym e)
 
-can : (last : Coord) (shifts : List Shift) (w : Passed) (splices : List Splice) (i : ℕ) (s : Splice) → i < length splices → s ≡ get_or splices i s → GoesOn last shifts w (drop i splices) → CanPass last shifts w s
+can : (last : Coord) (shifts : List Shift) (w : PassedShifts) (splices : List Splice) (i : ℕ) (s : Splice) → i < length splices → s ≡ get_or splices i s → GoesOn last shifts w (drop i splices) → CanPass last shifts w s
 can last shifts w splices i s h e g = can-go-on last shifts w s (drop (i + 1) splices) (drop i splices) (next-is splices i s h e) g
 
 pub place-at-requires-clause-ordered : goal.place-at-requires-clause-ordered
@@ -54,14 +54,14 @@ loop-splice-preserved c =
     let splices : List Splice = c.args.splices.now in
     let i : ℕ = c.loop-splice.splice-index in
     let s : Splice = c.splice-item.result in
-    let w : Passed = c.loop-splice.walk in
+    let w : PassedShifts = c.loop-splice.walk in
     let rest : drop i splices ≡ s ∷ drop (i + 1) splices = next-is splices i s c.loop-splice-test.true c.splice-item.is in
     let walk : c.passed_at-walk.result ≡ passed last shifts w s = c.passed_at-walk.ensures ∙ ap (passed_at last shifts w s) c.place-at.ensures in
     let mark : c.mark_at.result ≡ mark_at shifts (passed last shifts w s) s (place w s) = c.mark_at.ensures ∙ ap₂ (λ v at. mark_at shifts v s at) walk c.place-at.ensures in
     record {
-      so_far = ap₂ (λ (xs ys : List Sel). xs ++ ys) (c.push_reserved.ensures.items ∙ ap (λ x. c.loop-splice.list.items ++ x ∷ []) mark) (ap (λ v. marks last shifts v (drop (i + 1) splices)) walk)
-          ∙ append_assoc c.loop-splice.list.items (mark_at shifts (passed last shifts w s) s (place w s) ∷ []) (marks last shifts (passed last shifts w s) (drop (i + 1) splices))
-          ∙ ap (λ r. c.loop-splice.list.items ++ marks last shifts w r) (sym rest) ∙ c.loop-splice.invariant.so_far;
+      so_far = ap₂ (λ (xs ys : List Sel). xs ++ ys) (c.push_reserved.ensures.items ∙ ap (λ x. c.loop-splice.list.items ++ x ∷ []) mark) (ap (λ v. passed_marks last shifts v (drop (i + 1) splices)) walk)
+          ∙ append_assoc c.loop-splice.list.items (mark_at shifts (passed last shifts w s) s (place w s) ∷ []) (passed_marks last shifts (passed last shifts w s) (drop (i + 1) splices))
+          ∙ ap (λ r. c.loop-splice.list.items ++ passed_marks last shifts w r) (sym rest) ∙ c.loop-splice.invariant.so_far;
       goes_on = subst (λ v. GoesOn last shifts v (drop (i + 1) splices)) (sym walk) (go-on last shifts w s (drop (i + 1) splices) (drop i splices) rest c.loop-splice.invariant.goes_on);
       room = omega (arith, ap length c.push_reserved.ensures.items, length_push c.loop-splice.list.items c.mark_at.result, c.push_reserved.ensures.capacity, c.loop-splice.invariant.room, c.loop-splice-test.true);
     }

@@ -2,15 +2,15 @@ use Rattle.std.proofs.Common.{refl, sym, ap, ◌∙◌, subst, Err}
 use Rattle.session_lines.specs.declared.playing.Stop.TheVariants.{NoMemory}
 use Rattle.kak_engine.specs.Honesty.{Outside, outside_of}
 use Rattle.kak_engine.specs.Seating.{WasHonest}
-use Rattle.kak_app.specs.Runs.{around, Ran}
+use Rattle.kak_app.specs.Runs.{around_run, Ran}
 use Rattle.kak_app.proofs.RunLemmas.{nothing-ran, nobody-else, served-ran}
 use Rattle.kak_app.proofs.program.serve_client.Goals as goal
 
 pub returns-in-Err : goal.returns-in-Err
 returns-in-Err g c =
-    let first = around (g.I.Source.inlet c.args.input.now) (g.K.Sink.outlet c.args.output.now) (g.F.Files.shelf c.args.files) (g.M.PatternMaker.refusals c.args.patterns) in
-    subst (λ files. Ran c.args.keys.now (Err NoMemory) first (around (g.I.Source.inlet c.args.input.now) (g.K.Sink.outlet c.args.output.now) (g.F.Files.shelf files) (g.M.PatternMaker.refusals c.in-Err.field-0.patterns))) (sym c.in-Err.ensures.none.0)
-    (subst (λ patterns. Ran c.args.keys.now (Err NoMemory) first (around (g.I.Source.inlet c.args.input.now) (g.K.Sink.outlet c.args.output.now) (g.F.Files.shelf c.args.files) (g.M.PatternMaker.refusals patterns))) (sym c.in-Err.ensures.none.1)
+    let first = around_run (g.I.Source.inlet c.args.input.now) (g.K.Sink.outlet c.args.output.now) (g.F.Files.shelf c.args.files) (g.M.PatternMaker.refusals c.args.patterns) in
+    subst (λ files. Ran c.args.keys.now (Err NoMemory) first (around_run (g.I.Source.inlet c.args.input.now) (g.K.Sink.outlet c.args.output.now) (g.F.Files.shelf files) (g.M.PatternMaker.refusals c.in-Err.field-0.patterns))) (sym c.in-Err.ensures.none.0)
+    (subst (λ patterns. Ran c.args.keys.now (Err NoMemory) first (around_run (g.I.Source.inlet c.args.input.now) (g.K.Sink.outlet c.args.output.now) (g.F.Files.shelf c.args.files) (g.M.PatternMaker.refusals patterns))) (sym c.in-Err.ensures.none.1)
     (nothing-ran c.args.keys.now first))
 
 pub returns-in-Ok : goal.returns-in-Ok

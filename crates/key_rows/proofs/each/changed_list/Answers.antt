@@ -1,5 +1,5 @@
 use Rattle.std.proofs.Common.{◌+◌, ◌≤◌, ◌∷◌, [], length, sym, ap, subst, ◌∙◌, length-append}
-use Rattle.window_view.specs.Views.{view_of as window_seen}
+use Rattle.window_view.specs.Views.{window_seen}
 use Rattle.selection_set.specs.Inside.{IsInside}
 use Rattle.selection_set.specs.Listing.{AreInside, ranges_of}
 use Rattle.selection_set.proofs.HeldLemmas.{zero_sel, all-at}

@@ -1,5 +1,5 @@
 use Rattle.std.proofs.Common.{◌≡◌, ◌≤◌, length, take, map}
-use Rattle.window_view.specs.Views.{view_of as window_seen}
+use Rattle.window_view.specs.Views.{window_seen}
 use Rattle.selection_set.specs.Listing.{AreInside, ranges_of}
 use Rattle.key_rows.specs.Each.{each_range}
 use Rattle.key_rows.proofs.each.changed_list.Given as goal

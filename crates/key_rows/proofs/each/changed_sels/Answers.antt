@@ -1,5 +1,5 @@
 use Rattle.std.proofs.Common.{map, refl, ap, ◌∙◌}
-use Rattle.window_view.specs.Views.{view_of as window_seen}
+use Rattle.window_view.specs.Views.{window_seen}
 use Rattle.selection_set.specs.Listing.{ranges_of}
 use Rattle.key_rows.specs.Each.{each_range}
 use Rattle.key_rows.proofs.EachLemmas.{settles-moved}

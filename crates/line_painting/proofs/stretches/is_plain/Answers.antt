@@ -1,5 +1,5 @@
 use Rattle.std.proofs.Common.{◌<◌, ◌≤◌, eqb-true, sym, subst, rules}
-use Rattle.line_painting.specs.Laws.{IsPlain}
+use Rattle.line_painting.specs.Laws.{IsPlainChar}
 use Rattle.line_painting.proofs.PlainLemmas.{ascii}
 use Rattle.line_painting.proofs.stretches.is_plain.Goals as goal
 
@@ -10,4 +10,4 @@ returns-then-matches c =
     λ _. ascii.printable c.args.c low high
 
 pub returns : goal.returns
-returns c = λ e. subst IsPlain (sym (eqb-true c.args.c 10 e)) ascii.newline
+returns c = λ e. subst IsPlainChar (sym (eqb-true c.args.c 10 e)) ascii.newline

@@ -1,6 +1,6 @@
 use Rattle.motion_keys.specs.Motions.{offset_beside}
 use Rattle.motion_keys.specs.Landmarks.{landmark}
-use Rattle.window_view.specs.Views.{view_of as window_seen}
+use Rattle.window_view.specs.Views.{window_seen}
 use Rattle.motion_keys.proofs.FoundLemmas.{ends-ranges, offset-found}
 use Rattle.motion_keys.proofs.finding.find.Goals as goal
 

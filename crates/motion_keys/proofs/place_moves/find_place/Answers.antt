@@ -3,7 +3,7 @@ use Rattle.text_model.specs.declared.coords.Coord.{Coord}
 use Rattle.text_model.specs.Texts.{offset, IsPlace}
 use Rattle.text_model.proofs.PlaceLemmas.{coord_at-offset}
 use Rattle.motion_keys.specs.Places.{OffsetsAre}
-use Rattle.motion_keys.specs.Landmarks.{line_start, line_of, line_last, line_text}
+use Rattle.motion_keys.specs.Landmarks.{line_start, line_of, line_last, first_no_blank}
 use Rattle.motion_keys.proofs.place_moves.find_place.Goals as goal
 
 -- the line of the cursor's offset is the cursor's
@@ -22,5 +22,5 @@ returns-in-LineEnd c = record {
 
 pub returns-in-NonBlank : goal.returns-in-NonBlank
 returns-in-NonBlank c = record {
-  gives = rw c.in-NonBlank.is (subst (OffsetsAre c.args.lines.now c.find_text.result) (ap (line_text c.args.lines.now) (sym (own_line c.args.lines.now c.args.at c.requires))) c.find_text.ensures.gives);
+  gives = rw c.in-NonBlank.is (subst (OffsetsAre c.args.lines.now c.find_text.result) (ap (first_no_blank c.args.lines.now) (sym (own_line c.args.lines.now c.args.at c.requires))) c.find_text.ensures.gives);
 }

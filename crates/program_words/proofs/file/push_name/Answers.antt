@@ -1,7 +1,7 @@
 use Rattle.std.proofs.Common.{◌++◌, map, sym, ap, ◌∙◌, map-id, append-nil}
 use Rattle.std.proofs.lemmas.Iterator.{YieldsList-from_chars}
 use Rattle.std.proofs.lemmas.Iterator.Consumers.{YieldsList-end}
-use Rattle.program_words.specs.Files.{typed, doubled}
+use Rattle.program_words.specs.Files.{typed_key, doubled}
 use Rattle.program_words.proofs.KeyLemmas.{doubled-push}
 use Rattle.program_words.proofs.file.push_name.Goals as goal
 
@@ -14,4 +14,4 @@ loop-c-preserved c = doubled-push _ _ _ c.loop-c.yielded c.in-Some.c c.loop-c.in
 pub returns : goal.returns
 returns c =
     let end = YieldsList-end (YieldsList-from_chars c.args.name.now c.utf8.name cc) c.loop-c.yielded _ c.loop-c.yielded_by _ _ c.in-None.is c.next.ensures.steps in
-    c.loop-c.invariant ∙ ap (λ r. c.args.keys.now.items ++ map typed (doubled r)) (sym (map-id c.loop-c.yielded) ∙ end.0)
+    c.loop-c.invariant ∙ ap (λ r. c.args.keys.now.items ++ map typed_key (doubled r)) (sym (map-id c.loop-c.yielded) ∙ end.0)

@@ -5,7 +5,7 @@ use Rattle.list_model.specs.Ranges.{Range}
 use Rattle.selection_set.specs.Inside.{range_of}
 use Rattle.selection_set.specs.Listing.{ranges_of}
 use Rattle.selection_set.proofs.HeldLemmas.{zero_sel, nth-inside}
-use Rattle.regex_select.specs.Rows.{chars_of}
+use Rattle.regex_select.specs.Rows.{selected_chars}
 use Rattle.regex_select.specs.Taking.{taken_by, taken_in}
 use Rattle.regex_select.proofs.EachLemmas.{given-selected}
 use Rattle.regex_select.proofs.MatchedLemmas.{matched-whole, matched-within, pushed-matched, room-cause, not-none}
@@ -22,7 +22,7 @@ returns-in_err-push_taken-clause-refused g c =
     let text = c.args.lines.now in
     let f : Range → List Range = taken_in c.args.what (g.P.Pattern.source c.args.pattern.now) text in
     let below : c.loop-n.n < length c.args.sels.now.list = omega (arith, c.loop-n-test.true, c.len-n-end.ensures.value) in
-    let own : taken_by c.args.what (chars_of text (range_of text c.at-sel.result)) (range_of text c.at-sel.result).low c.as_slice.result.now ≡ f (range_of text c.at-sel.result) = ap (taken_by c.args.what (chars_of text (range_of text c.at-sel.result)) (range_of text c.at-sel.result).low) (c.as_slice.ensures.value ∙ c.in_ok-matches.ensures) in
+    let own : taken_by c.args.what (selected_chars text (range_of text c.at-sel.result)) (range_of text c.at-sel.result).low c.as_slice.result.now ≡ f (range_of text c.at-sel.result) = ap (taken_by c.args.what (selected_chars text (range_of text c.at-sel.result)) (range_of text c.at-sel.result).low) (c.as_slice.ensures.value ∙ c.in_ok-matches.ensures) in
     let p = err_from_is_err_and c.from_residual-in_err-push_taken.result c.from_residual-in_err-push_taken.ensures.1 in
     rw (p.1, p.2) (room-cause _ _ _ (omega (arith, ap length own, ap length c.loop-n.invariant.ranges, length-map c.loop-n.list.items (range_of text), matched-within text f c.args.sels.now.list c.loop-n.n zero_sel c.at-sel.result below (c.at-sel.ensures zero_sel))) c.in_err-push_taken.ensures.refused)
 
@@ -31,7 +31,7 @@ loop-n-preserved g c =
     let text = c.args.lines.now in
     let f : Range → List Range = taken_in c.args.what (g.P.Pattern.source c.args.pattern.now) text in
     let below : c.loop-n.n < length c.args.sels.now.list = omega (arith, c.loop-n-test.true, c.len-n-end.ensures.value) in
-    let own : taken_by c.args.what (chars_of text (range_of text c.at-sel.result)) (range_of text c.at-sel.result).low c.as_slice.result.now ≡ f (range_of text c.at-sel.result) = ap (taken_by c.args.what (chars_of text (range_of text c.at-sel.result)) (range_of text c.at-sel.result).low) (c.as_slice.ensures.value ∙ c.in_ok-matches.ensures) in
+    let own : taken_by c.args.what (selected_chars text (range_of text c.at-sel.result)) (range_of text c.at-sel.result).low c.as_slice.result.now ≡ f (range_of text c.at-sel.result) = ap (taken_by c.args.what (selected_chars text (range_of text c.at-sel.result)) (range_of text c.at-sel.result).low) (c.as_slice.ensures.value ∙ c.in_ok-matches.ensures) in
     record {
       inside = c.in_ok-push_taken.ensures.inside;
       ranges = pushed-matched text f c.args.sels.now.list c.loop-n.list.items c.push_taken.new.list.items c.loop-n.n zero_sel c.at-sel.result _ below (c.at-sel.ensures zero_sel) own c.loop-n.invariant.ranges c.in_ok-push_taken.ensures.ranges;

@@ -1,7 +1,7 @@
 use Rattle.std.proofs.Common.{◌≡◌, ◌+◌, length, ap, ◌∙◌, arith}
 use Rattle.text_model.specs.Texts.{offset}
 use Rattle.text_model.proofs.PlaceLemmas.{offset-below}
-use Rattle.regex_select.specs.Walks.{bytes_before}
+use Rattle.regex_select.specs.Walks.{bytes_of_first}
 use Rattle.regex_select.proofs.WalkLemmas.{own-length}
 use Rattle.regex_select.proofs.SpanLemmas.{bytes-of-take, written-before, written-all, byte-inside}
 use Rattle.regex_select.proofs.seeking.written_around.Goals as goal
@@ -21,11 +21,11 @@ returns-clause-bytes c =
 pub returns-clause-byte : goal.returns-clause-byte
 returns-clause-byte c =
     let text = c.args.lines.now in
-    let long : length c.in_ok-before.before ≡ bytes_before text (offset text c.args.at) = ap length (written-before text _ _ (offset text c.whole-sel.result.low) (offset text c.args.at) c.in_ok-none.ensures c.whole-sel.ensures.low c.in_ok-before.ensures) ∙ bytes-of-take text (offset text c.args.at) in
+    let long : length c.in_ok-before.before ≡ bytes_of_first text (offset text c.args.at) = ap length (written-before text _ _ (offset text c.whole-sel.result.low) (offset text c.args.at) c.in_ok-none.ensures c.whole-sel.ensures.low c.in_ok-before.ensures) ∙ bytes-of-take text (offset text c.args.at) in
     omega (arith, long, c.len-byte.ensures)
 
 pub returns-clause-inside : goal.returns-clause-inside
 returns-clause-inside c =
     let text = c.args.lines.now in
-    let long : length c.in_ok-before.before ≡ bytes_before text (offset text c.args.at) = ap length (written-before text _ _ (offset text c.whole-sel.result.low) (offset text c.args.at) c.in_ok-none.ensures c.whole-sel.ensures.low c.in_ok-before.ensures) ∙ bytes-of-take text (offset text c.args.at) in
+    let long : length c.in_ok-before.before ≡ bytes_of_first text (offset text c.args.at) = ap length (written-before text _ _ (offset text c.whole-sel.result.low) (offset text c.args.at) c.in_ok-none.ensures c.whole-sel.ensures.low c.in_ok-before.ensures) ∙ bytes-of-take text (offset text c.args.at) in
     omega (arith, long, c.len-byte.ensures, byte-inside text (offset text c.args.at) (offset-below text c.args.at c.requires))

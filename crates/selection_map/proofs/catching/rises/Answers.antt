@@ -1,6 +1,6 @@
 use Rattle.std.proofs.Common.{length, subst, arith, eqb-true, take_all}
 use Rattle.std.proofs.lemmas.Bool.{eq-eqb}
-use Rattle.selection_map.specs.declared.walking.Way.TheVariants.{Rising}
+use Rattle.selection_map.specs.declared.walking.ShiftWay.TheVariants.{Rising}
 use Rattle.selection_map.specs.Walking.{IsRun}
 use Rattle.selection_map.proofs.RunLemmas.{zero_shift, whole-run}
 use Rattle.selection_map.proofs.catching.rises.Goals as goal

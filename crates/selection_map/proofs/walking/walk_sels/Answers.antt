@@ -2,7 +2,7 @@ use Rattle.std.proofs.Common.{◌≡◌, ℕ, ◌+◌, ◌<◌, ◌∙◌, List,
 use Rattle.std.proofs.lemmas.List.{drop_more}
 use Rattle.text_model.specs.declared.coords.Shift.{Shift}
 use Rattle.selection_set.specs.declared.sel.Sel.{Sel}
-use Rattle.selection_map.specs.declared.walking.Way.{Way}
+use Rattle.selection_map.specs.declared.walking.ShiftWay.{ShiftWay}
 use Rattle.selection_map.specs.declared.walking.Walk.{Walk}
 use Rattle.selection_set.specs.Listing.{Listed}
 use Rattle.selection_set.proofs.HeldLemmas.{zero_sel}
@@ -21,7 +21,7 @@ next_sel : (f : Sel → Sel) (list now : List Sel) (n : ℕ) (at : Sel) → n < 
 next_sel f list now n at below e g = drop_more list n zero_sel below ∙ ap (λ x. x ∷ drop (n + 1) list) (sym (same_at f list now n at e g))
 
 -- the walk can go on over the selection that was read and the others
-over-at : (way : Way) (shifts : List Shift) (walk : Walk) (list now : List Sel) (n : ℕ) (at : Sel) → n < length list → now ≡ mapped_front n (through shifts) list → ((d : Sel) → at ≡ get_or now n d) → CanWalkOver way shifts walk (drop n list) → CanWalkOver way shifts walk (at ∷ drop (n + 1) list)
+over-at : (way : ShiftWay) (shifts : List Shift) (walk : Walk) (list now : List Sel) (n : ℕ) (at : Sel) → n < length list → now ≡ mapped_front n (through shifts) list → ((d : Sel) → at ≡ get_or now n d) → CanWalkOver way shifts walk (drop n list) → CanWalkOver way shifts walk (at ∷ drop (n + 1) list)
 over-at way shifts walk list now n at below e g h = subst (CanWalkOver way shifts walk) (next_sel (through shifts) list now n at below e g) h
 
 pub loop-n-init : goal.loop-n-init

@@ -1,5 +1,5 @@
 use Rattle.std.proofs.Common.{map, refl, ap, ◌∙◌, take_all, []}
-use Rattle.session_replay.specs.declared.places.Place.TheVariants as place
+use Rattle.session_replay.specs.declared.places.ClientPlace.TheVariants as place
 use Rattle.session_replay.proofs.PlayersLemmas.{next-away, next-unreported}
 use Rattle.session_replay.proofs.players.seat_all.Goals as goal
 

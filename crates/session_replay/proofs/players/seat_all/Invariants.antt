@@ -1,5 +1,5 @@
 use Rattle.std.specs.Prelude.{◌≡◌, [], map, take}
-use Rattle.session_replay.specs.declared.places.Place.TheVariants as place
+use Rattle.session_replay.specs.declared.places.ClientPlace.TheVariants as place
 use Rattle.session_replay.specs.Players.{places, reports}
 use Rattle.session_replay.proofs.players.seat_all.Given as goal
 

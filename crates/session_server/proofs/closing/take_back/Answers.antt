@@ -1,12 +1,12 @@
 use Rattle.std.proofs.Common.{◌≡◌, [], refl, sym, ◌∙◌, subst, append-nil}
 use Rattle.std.proofs.lemmas.List.Elements.{All-rest, All-same}
 use Rattle.jobs.proofs.MeetLemmas.{grows}
-use Rattle.session_desk.specs.Tokens.{Place, IsOf, PassView}
+use Rattle.session_desk.specs.Tokens.{DeskPlace, IsOf, PassView}
 use Rattle.session_desk.proofs.HistoryLemmas.{starts_itself, starts_through}
 use Rattle.session_events.specs.declared.event.Entry.{Entry}
 use Rattle.link_lines.specs.declared.ended.Ended.{Ended}
 use Rattle.engine_desk.specs.Sharing.{Frame}
-use Rattle.session_server.specs.Hosting.{noted, end_of}
+use Rattle.session_server.specs.Hosting.{noted, serving_end}
 use Rattle.session_server.proofs.SessionLemmas.{keeps-itself, keeps-first, noted-one, of-next}
 use Rattle.session_server.proofs.closing.take_back.Goals as goal
 
@@ -16,7 +16,7 @@ loop-ended-init g c = record { place = refl; made = refl; begins = starts_itself
 pub leave-requires-clause-pass : goal.leave-requires-clause-pass
 leave-requires-clause-pass g c =
     let same = of-next (λ r. r.1.place ≡ c.args.keeper.now.place) _ _ _ c.in-Some.ensures.steps.0 c.loop-ended.invariant.places in
-    subst (λ (p : Place Frame). IsOf p c.args.desk.now) (sym same) c.requires.own
+    subst (λ (p : DeskPlace Frame). IsOf p c.args.desk.now) (sym same) c.requires.own
 
 pub loop-ended-preserved : goal.loop-ended-preserved
 loop-ended-preserved g c =
@@ -28,6 +28,6 @@ loop-ended-preserved g c =
       mark = keeps-first _ _ _ _ i.mark e.mark;
       results = grows _ _ _ _ one i.results step;
       given = noted-one (noted {S = g.row.S.Denot}) _ _ _ c.loop-ended.yielded one e.given i.given;
-      ends = noted-one (end_of {S = g.row.S.Denot}) _ _ [] c.loop-ended.yielded one c.in_ok-push.ensures.items i.ends;
+      ends = noted-one (serving_end {S = g.row.S.Denot}) _ _ [] c.loop-ended.yielded one c.in_ok-push.ensures.items i.ends;
       places = All-rest (λ r. r.1.place ≡ c.args.keeper.now.place) one _ _ step i.places;
     }

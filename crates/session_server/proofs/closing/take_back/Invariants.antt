@@ -1,7 +1,7 @@
 use Rattle.std.proofs.Common.{◌≡◌, ◌++◌, map, All}
 use Rattle.std.specs.Vec.Iter.{into_iter_items}
 use Rattle.session_desk.specs.Histories.{StartsWith}
-use Rattle.session_server.specs.Hosting.{noted, end_of, KeepsMark}
+use Rattle.session_server.specs.Hosting.{noted, serving_end, KeepsMark}
 use Rattle.session_server.proofs.closing.take_back.Given as goal
 
 -- the passes so far were given back
@@ -13,6 +13,6 @@ invariant-loop-ended g l = record {
   mark : KeepsMark l.fn.keeper.mark l.keeper.mark;
   results : into_iter_items l.initial.ended-iterator ≡ l.yielded ++ into_iter_items l.ended-iterator;
   given : l.keeper.given ≡ l.fn.keeper.given ++ map noted l.yielded;
-  ends : l.ends.items ≡ map end_of l.yielded;
+  ends : l.ends.items ≡ map serving_end l.yielded;
   places : All (λ r. r.1.place ≡ l.fn.keeper.place) (into_iter_items l.ended-iterator);
 }

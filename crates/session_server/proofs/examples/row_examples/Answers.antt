@@ -5,7 +5,7 @@ use Rattle.session_events.specs.declared.event.Event.TheVariants.{Join, Refresh,
 use Rattle.session_events.specs.Entries.{is_leave}
 use Rattle.session_events.specs.Meaning.{rules}
 use Rattle.link_lines.specs.Endings.{NeverCame}
-use Rattle.kak_world.specs.Flat.{joined_by, left_by, with_own, with_view, with_list_of}
+use Rattle.kak_world.specs.Flat.{joined_by, left_by_client, with_own, with_view, with_list_of}
 use Rattle.kak_engine.specs.Steps.{given_by}
 use Rattle.session_server.specs.Rows.{LeavesLast}
 use Rattle.session_server.specs.RowExamples.{one_went}
@@ -29,7 +29,7 @@ not_none : (events : List Event) → Join ∷ events ≡ [] → ⊥
 not_none events e = cc
 
 pub returns : goal.returns
-unfolding chars joined_by left_by with_own with_view with_list_of
+unfolding chars joined_by left_by_client with_own with_view with_list_of
 returns c = record {
   file = refl;
   no_file = refl;

@@ -1,13 +1,13 @@
 use Rattle.std.proofs.Common.{◌≡◌, ◌+◌, ◌≤◌, ◌<◌, ℕ, List, [], ◌++◌, length, map, All, Option, Some, None, option_map, string_bytes, refl, sym, ap, ◌∙◌, subst, arith, length-append}
 use Rattle.std.specs.Arc.{arc_value}
 use Rattle.client_links.specs.Doors.{counted_on}
-use Rattle.session_desk.specs.Histories.{Given}
-use Rattle.session_desk.specs.Tokens.{Home, Place, PassView, KeeperView}
+use Rattle.session_desk.specs.Histories.{GivenBack}
+use Rattle.session_desk.specs.Tokens.{Home, DeskPlace, PassView, KeeperView}
 use Rattle.session_events.specs.declared.event.Entry.{Entry}
 use Rattle.engine_desk.specs.Sharing.{Frame, frame_of}
 use Rattle.link_lines.specs.declared.ended.Ended.{Ended}
-use Rattle.session_server.specs.Sessions.{Stands, IfServed, lost}
-use Rattle.session_server.specs.Hosting.{StopsFor, job_view, noted, passes_back}
+use Rattle.session_server.specs.Sessions.{SessionStands, IfServed, lost}
+use Rattle.session_server.specs.Hosting.{StopsHostingFor, job_view, noted, passes_back}
 use Rattle.session_server.proofs.SessionLemmas.{places-back, session-stands, ends-count, caused-by, given-all, none-out}
 use Rattle.session_server.proofs.serving.serve.Goals as goal
 
@@ -16,7 +16,7 @@ take_back-requires-clause-places g c =
     let a = c.accept_all-stopped.ensures in let home = c.in-Ok.host.home in let place = c.in-Ok.host.keeper.place in
     let here = places-back (λ j. job_view (arc_value j.desk) j.pass (option_map (λ name. string_bytes name) j.file)) g.A.Link.Link.spent home place 0 c.in-Ok.host.file (g.P.Spawner.started c.accept_all-stopped.new.spawner) c.in-Ok-gather.results.items c.in-Ok-gather.ensures.meet a.jobs in
     let same = ap (λ (k : KeeperView Entry Frame). k.place) c.into_parts-desk.ensures.keeper ∙ a.place in
-    subst (λ (p : Place Frame). All (λ r. r.1.place ≡ p) c.in-Ok-gather.results.items) (sym same) here
+    subst (λ (p : DeskPlace Frame). All (λ r. r.1.place ≡ p) c.in-Ok-gather.results.items) (sym same) here
 
 pub returns-clause-stands : goal.returns-clause-stands
 returns-clause-stands g c =
@@ -28,14 +28,14 @@ returns-clause-stands g c =
     let frames = c.in-Ok-close.ensures.frame ∙ ap (λ (h : Home Frame). h.frame) (c.deref-3.ensures ∙ parts.desk ∙ a.home) ∙ new.frame_is in
     let stands = session-stands (λ j. job_view (arc_value j.desk) j.pass (option_map (λ name. string_bytes name) j.file)) g.A.Link.Link.spent home place c.in-Ok.host.file jobs c.in-Ok-gather.results.items back c.take_rest.new.keeper c.in-Ok-take_back.ends.items c.in-Ok-close.engine (frame_of c.args.engine)
     frames new.frame_is c.in-Ok-gather.ensures.meet a.jobs given made a.back c.in-Ok-close.ensures.history c.in-Ok-take_back.ensures.ends in
-    subst (λ (name : Option (List ℕ)). Stands g.A.Link.Link.spent (frame_of c.args.engine) name c.in-Ok-take_back.ends.items c.in-Ok-close.engine) new.file_is stands
+    subst (λ (name : Option (List ℕ)). SessionStands g.A.Link.Link.spent (frame_of c.args.engine) name c.in-Ok-take_back.ends.items c.in-Ok-close.engine) new.file_is stands
 
 pub returns-clause-cause : goal.returns-clause-cause
 returns-clause-cause g c =
     let a = c.accept_all-stopped.ensures in let home = c.in-Ok.host.home in let place = c.in-Ok.host.keeper.place in let parts = c.into_parts-desk.ensures in
     let jobs = g.P.Spawner.started c.accept_all-stopped.new.spawner in
     let count = ends-count (λ j. job_view (arc_value j.desk) j.pass (option_map (λ name. string_bytes name) j.file)) g.A.Link.Link.spent home place jobs c.in-Ok-gather.results.items c.in-Ok-take_back.ends.items c.in-Ok-gather.ensures.meet c.in-Ok-take_back.ensures.ends in
-    let stops = subst (λ (k : KeeperView Entry Frame). StopsFor c.accept_all-stopped.result.why k.seen k.mark (length jobs)) (sym parts.keeper) a.why in
+    let stops = subst (λ (k : KeeperView Entry Frame). StopsHostingFor c.accept_all-stopped.result.why k.seen k.mark (length jobs)) (sym parts.keeper) a.why in
     caused-by c.accept_all-stopped.result.why c.in-Ok-close.engine _ _ _ _ _ _ (length jobs) (length c.in-Ok-take_back.ends.items)
     stops c.in-Ok-take_back.ensures.begins c.take_rest.ensures.begins c.in-Ok-close.ensures.history.begins c.in-Ok-take_back.ensures.mark c.take_rest.ensures.mark c.in-Ok-close.ensures.history.mark count
 

@@ -7,9 +7,9 @@ use Rattle.undo_model.specs.Stories.{Story}
 use Rattle.move_marks.specs.Marking.{IsLeftBy}
 use Rattle.buffer_store.specs.Seen.{Branch, branch_at}
 use Rattle.buffer_store.specs.Histories.{seen_pending, IsHistory}
-use Rattle.buffer_store.specs.Stored.{shifts_of}
-use Rattle.buffer_store.specs.Seen.{story_of}
-use Rattle.buffer_store.specs.Walks.{CanGo, way_changes, changes_from, IsBehindSome}
+use Rattle.buffer_store.specs.Stored.{change_shifts}
+use Rattle.buffer_store.specs.Seen.{story_kept}
+use Rattle.buffer_store.specs.Walks.{CanGoWay, way_changes, changes_from, IsBehindSome}
 use Rattle.buffer_store.proofs.GoneLemmas.{told-parents, told-current, node-in, none-pending, going-by, way-is, gone-there, none-made, broken-whole, broken-forgotten, two-nodes, forgotten-seen, forgotten-history}
 use Rattle.buffer_store.proofs.history.History.go_to.Goals as goal
 
@@ -27,7 +27,7 @@ way_between-requires-clause-to c = omega (arith, ap length c.as_slice.ensures.va
 pub walk-requires-clause-can : goal.walk-requires-clause-can
 walk-requires-clause-can c =
     let g = going-by _ _ _ _ _ _ _ _ _ _ _ _ c.self.invariant.told c.self.view_is c.requires.none c.requires.there c.as_slice.ensures.value c.in_ok-way.ensures.left c.in_ok-way.ensures.entered c.as_slice-left.ensures.value c.as_slice-entered.ensures.value in
-    let P : List Branch → Type 0 = λ bs. CanGo bs c.self.inside.lines c.as_slice-left.result.now c.as_slice-entered.result.now in
+    let P : List Branch → Type 0 = λ bs. CanGoWay bs c.self.inside.lines c.as_slice-left.result.now c.as_slice-entered.result.now in
     subst P (sym c.as_slice-2.ensures.value) g.can
 
 pub remember-requires-clause-left : goal.remember-requires-clause-left
@@ -59,7 +59,7 @@ returns-in-Ok-clause-shifts c =
     let g = going-by _ _ _ _ _ _ _ _ _ _ _ _ c.self.invariant.told c.self.view_is c.requires.none c.requires.there c.as_slice.ensures.value c.in_ok-way.ensures.left c.in_ok-way.ensures.entered c.as_slice-left.ensures.value c.as_slice-entered.ensures.value in
     let text : c.self.inside.lines ≡ c.args.self.now.text = ap (λ (x : Story). x.text) c.self.view_is in
     let cs = way-is c.self.inside.lines c.self.inside.branches.items c.as_slice-2.result.now c.self.inside.saved c.args.node c.as_slice-left.result.now c.as_slice-entered.result.now c.args.self.now g c.as_slice-2.ensures.value in
-    c.in-Ok.ensures.shifts ∙ ap₂ shifts_of text cs
+    c.in-Ok.ensures.shifts ∙ ap₂ change_shifts text cs
 
 pub returns-in-Ok-clause-list : goal.returns-in-Ok-clause-list
 returns-in-Ok-clause-list c =
@@ -80,7 +80,7 @@ pub returns-then-is_empty-clause-broken : goal.returns-then-is_empty-clause-brok
 returns-then-is_empty-clause-broken c =
     let none : length c.walk.new.shifts.items ≡ 0 = omega (arith, c.walk.new.shifts.ok.0, eqb-true _ 0 (sym c.is_empty.ensures ∙ c.if-is_empty.true)) in
     let same : c.walk.new.lines ≡ c.self.inside.lines = none-made _ _ _ _ c.in-Err.ensures.broken none in
-    broken-whole (changes_from c.args.node c.args.self.now) c.args.self.now _ c.walk.new.shifts.items (ap (λ x. story_of x c.self.inside.branches.items c.self.inside.current c.self.inside.saved (seen_pending c.self.inside.pending)) same ∙ c.self.view_is) (nil_from_length c.walk.new.shifts.items none)
+    broken-whole (changes_from c.args.node c.args.self.now) c.args.self.now _ c.walk.new.shifts.items (ap (λ x. story_kept x c.self.inside.branches.items c.self.inside.current c.self.inside.saved (seen_pending c.self.inside.pending)) same ∙ c.self.view_is) (nil_from_length c.walk.new.shifts.items none)
 
 pub invariant_of-self-in-Err : goal.invariant_of-self-in-Err
 invariant_of-self-in-Err c =

@@ -2,7 +2,7 @@ use Rattle.std.proofs.Common.{ℕ, sym, subst}
 use Rattle.std.specs.Prelude.{None}
 use Rattle.session_events.specs.Seats.{IsIn, Sees, Steps, Refuses}
 use Rattle.kak_engine.specs.Steps.{given_by, crowded_by}
-use Rattle.engine_desk.specs.Sitting.{DeskSeated, seat_of}
+use Rattle.engine_desk.specs.Sitting.{DeskSeated, desk_seat_of}
 use Rattle.engine_desk.proofs.SeatLemmas.{at_desk, seat-steps, desk-taken, refused-sees, refused-stays}
 use Rattle.engine_desk.proofs.RefusalLemmas.{seat-refused}
 use Rattle.engine_desk.proofs.seat.DeskSeatSeat.step.Goals as goal
@@ -13,17 +13,17 @@ invariant_of-self g c = desk-taken c.self.inside.desk.now c.self.inside.pass c.s
 pub returns-in-Ok-clause-ok : goal.returns-in-Ok-clause-ok
 returns-in-Ok-clause-ok g c =
     let b = c.self.inside.pass in let a = c.step.new.pass in let home = c.self.inside.desk.now in let told = c.self.inside.told in
-    subst (λ (s : DeskSeated). Steps given_by (seat_of s) (at_desk home a told) c.args.event c.in-Ok.output) c.self.view_is (seat-steps home b a told told c.args.event c.in-Ok.output c.in-Ok.ensures.ok)
+    subst (λ (s : DeskSeated). Steps given_by (desk_seat_of s) (at_desk home a told) c.args.event c.in-Ok.output) c.self.view_is (seat-steps home b a told told c.args.event c.in-Ok.output c.in-Ok.ensures.ok)
 
 pub returns-in-Err-clause-stays : goal.returns-in-Err-clause-stays
 returns-in-Err-clause-stays g c =
     let b = c.self.inside.pass in let a = c.step.new.pass in let home = c.self.inside.desk.now in let told = c.told_by-self-inside.result in
-    subst (λ (s : DeskSeated). IsIn (seat_of s) → IsIn (at_desk home a told)) c.self.view_is (refused-stays home b a c.self.inside.told told c.args.event c.in-Err.fault c.in-Err.ensures.fault c.in-Err.ensures.same.number)
+    subst (λ (s : DeskSeated). IsIn (desk_seat_of s) → IsIn (at_desk home a told)) c.self.view_is (refused-stays home b a c.self.inside.told told c.args.event c.in-Err.fault c.in-Err.ensures.fault c.in-Err.ensures.same.number)
 
 pub returns-in-Err-clause-err : goal.returns-in-Err-clause-err
 returns-in-Err-clause-err g c =
     let b = c.self.inside.pass in let a = c.step.new.pass in let home = c.self.inside.desk.now in let told = c.told_by-self-inside.result in
-    subst (λ (s : DeskSeated). Sees given_by (seat_of s) (at_desk home a told)) c.self.view_is (refused-sees home b a c.self.inside.told told c.args.event c.in-Err.fault c.in-Err.ensures.fault)
+    subst (λ (s : DeskSeated). Sees given_by (desk_seat_of s) (at_desk home a told)) c.self.view_is (refused-sees home b a c.self.inside.told told c.args.event c.in-Err.fault c.in-Err.ensures.fault)
 
 pub returns-in-Err-clause-why : goal.returns-in-Err-clause-why
 returns-in-Err-clause-why g c =

@@ -5,7 +5,7 @@ use Rattle.kak_world.proofs.RowAnswers.{edit-done, edit-refused, edited-of, some
 use Rattle.undo_model.specs.Stories.{is_undo_full}
 use Rattle.undo_model.specs.Edits.{is_too_long}
 use Rattle.undo_model.specs.Steps.{AreSteps}
-use Rattle.buffer_store.specs.Stored.{shifts_of}
+use Rattle.buffer_store.specs.Stored.{change_shifts}
 use Rattle.kak_world.specs.Flat.{Buffer, text_of, story_of}
 use Rattle.kak_world.proofs.AnswerLemmas.{ok-err}
 use Rattle.kak_world.proofs.world.World.edit.Goals.{in-Ok, in-Err}
@@ -52,7 +52,7 @@ unfolding text_of
 returns-clause-shifts c =
     let b = (buffer-of c.args.who _ _ _ _ _ _ _ c.self.view_is c.client.ensures c.requires.joined c.index_mut.ensures.value c.in-Some.is) in
     elim c.match-edit.branch [
-      | in-Ok w ↦ rw w.result-is (w.in-Ok.ensures.shifts ∙ ap (λ (x : Buffer). shifts_of x.story.text (changes_of x.story.text c.args.splices.now)) b)
+      | in-Ok w ↦ rw w.result-is (w.in-Ok.ensures.shifts ∙ ap (λ (x : Buffer). change_shifts x.story.text (changes_of x.story.text c.args.splices.now)) b)
       | in-Err w ↦ rw w.result-is tt
     ]
 

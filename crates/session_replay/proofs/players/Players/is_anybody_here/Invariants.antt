@@ -1,5 +1,5 @@
 use Rattle.std.specs.Prelude.{◌≢◌, ◌<◌, ℕ}
-use Rattle.session_replay.specs.declared.places.Place.TheVariants as place
+use Rattle.session_replay.specs.declared.places.ClientPlace.TheVariants as place
 use Rattle.session_replay.specs.Players.{places}
 use Rattle.std.specs.Prelude.{get_or}
 use Rattle.session_replay.proofs.players.Players.is_anybody_here.Given as goal

@@ -2,10 +2,10 @@ use Rattle.tables.specs.Tables.{place_where}
 use Rattle.kak_world.specs.Seen.{is_list_of}
 use Rattle.std.proofs.Common.{◌<◌, ◌∙◌, ap, length, arith}
 use Rattle.selection_set.specs.Held.{selected}
-use Rattle.window_view.specs.Views.{view_of as window_seen}
+use Rattle.window_view.specs.Views.{window_seen}
 use Rattle.kak_world.specs.Flat.{Held, Buffer}
 use Rattle.kak_world.proofs.ListLemmas.{list-inside, list-set}
-use Rattle.kak_world.proofs.buffer.Buffer.set_sels.Goals as goal
+use Rattle.kak_world.proofs.buffer.WorldBuffer.set_sels.Goals as goal
 
 pub index_mut-list-requires : goal.index_mut-list-requires
 index_mut-list-requires c = let inside : c.place-at.result < length c.self.inside.lists.items = list-inside c.args.holder _ _ _ c.self.inside.lists.items _ _ c.self.view_is c.requires.list (c.place-at.ensures ∙ ap (place_where (is_list_of c.args.holder)) c.as_slice.ensures.value) in omega (arith, c.self.inside.lists.ok.0)

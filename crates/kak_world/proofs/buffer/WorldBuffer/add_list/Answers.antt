@@ -4,7 +4,7 @@ use Rattle.tables.specs.Tables.{place_where}
 use Rattle.kak_world.specs.Flat.{Buffer, has_list}
 use Rattle.kak_world.specs.Seen.{is_list_of, held_seen, buffer_seen}
 use Rattle.kak_world.proofs.ListLemmas.{list-test, list-stays, list-added}
-use Rattle.kak_world.proofs.buffer.Buffer.add_list.Goals as goal
+use Rattle.kak_world.proofs.buffer.WorldBuffer.add_list.Goals as goal
 
 pub returns-then-place-len-clause-ok : goal.returns-then-place-len-clause-ok
 returns-then-place-len-clause-ok c =

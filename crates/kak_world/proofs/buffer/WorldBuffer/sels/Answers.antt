@@ -4,7 +4,7 @@ use Rattle.std.proofs.Common.{◌<◌, ◌∙◌, ap, sym, subst, length, arith}
 use Rattle.selection_set.specs.Held.{IsHeld, selected}
 use Rattle.kak_world.specs.Flat.{Held, Buffer}
 use Rattle.kak_world.proofs.ListLemmas.{list-inside, list-read, list-held}
-use Rattle.kak_world.proofs.buffer.Buffer.sels.Goals as goal
+use Rattle.kak_world.proofs.buffer.WorldBuffer.sels.Goals as goal
 
 pub index-list-requires : goal.index-list-requires
 index-list-requires c = let inside : c.place.result < length c.self.inside.lists.items = list-inside c.args.holder _ _ _ c.self.inside.lists.items _ _ c.self.view_is c.requires (c.place.ensures ∙ ap (place_where (is_list_of c.args.holder)) c.as_slice.ensures.value) in omega (arith, c.self.inside.lists.ok.0)

@@ -4,11 +4,11 @@ use Rattle.std.proofs.Common.{◌<◌, ◌∙◌, ap, length, arith}
 use Rattle.std.proofs.lemmas.List.{length-map}
 use Rattle.selection_set.specs.Held.{selected, IsHeld}
 use Rattle.selection_set.specs.Inside.{range_of}
-use Rattle.window_view.specs.Views.{view_of as window_seen}
+use Rattle.window_view.specs.Views.{window_seen}
 use Rattle.kak_world.specs.Flat.{Held, list_on}
 use Rattle.kak_world.specs.declared.lists.HeldList.{HeldList}
 use Rattle.kak_world.proofs.ListLemmas.{list-inside, list-read, list-held, list-set, all-set, main-held}
-use Rattle.kak_world.proofs.buffer.Buffer.set_main.Goals as goal
+use Rattle.kak_world.proofs.buffer.WorldBuffer.set_main.Goals as goal
 
 pub index_mut-list-requires : goal.index_mut-list-requires
 index_mut-list-requires c = let inside : c.place-at.result < length c.self.inside.lists.items = list-inside c.args.holder _ _ _ c.self.inside.lists.items _ _ c.self.view_is c.requires.list (c.place-at.ensures ∙ ap (place_where (is_list_of c.args.holder)) c.as_slice.ensures.value) in omega (arith, c.self.inside.lists.ok.0)

@@ -2,13 +2,13 @@ use Rattle.std.proofs.Common.{◌≡◌, [], ap, sym, subst, ◌∙◌, Err}
 use Rattle.undo_model.specs.Stories.{Story}
 use Rattle.undo_model.specs.Moves.{target_of, moved_by, move_changes}
 use Rattle.text_model.specs.Changes.{all_changed}
-use Rattle.buffer_store.specs.Stored.{shifts_of}
+use Rattle.buffer_store.specs.Stored.{change_shifts}
 use Rattle.move_marks.specs.Marking.{IsLeftBy}
 use Rattle.kak_world.specs.Flat.{Buffer, has_list}
 use Rattle.kak_world.proofs.AnswerLemmas.{error-of}
 use Rattle.kak_world.proofs.WorldLaws.{has-edited}
 use Rattle.kak_world.proofs.EditingLemmas.{some-moved, can-go, have-gone, has-gone, gone-held, gone-some, gone-moved, gone-moves, gone-text, gone-left, gone-list_held, gone-without, gone-nowhere}
-use Rattle.kak_world.proofs.buffer.Buffer.travel.Goals as goal
+use Rattle.kak_world.proofs.buffer.WorldBuffer.travel.Goals as goal
 
 pub move_all-requires : goal.move_all-requires
 move_all-requires c =
@@ -63,7 +63,7 @@ returns-clause-nowhere c = λ none.
     let there = ap (λ (s : Story). target_of c.args.travel s) same ∙ none in
     let r = c.in-Err.ensures.nowhere there in
     let nothing = gone-nowhere c.args.travel c.self.inside.store.story there in
-    let m = gone-moves c.args.travel c.self.inside.store _ _ _ _ c.move_all.ensures c.is_story.ensures (r.1.1 ∙ ap (shifts_of c.self.inside.store.story.text) (sym nothing)) c.as_slice.ensures.value c.self.invariant in (
+    let m = gone-moves c.args.travel c.self.inside.store _ _ _ _ c.move_all.ensures c.is_story.ensures (r.1.1 ∙ ap (change_shifts c.self.inside.store.story.text) (sym nothing)) c.as_slice.ensures.value c.self.invariant in (
       ap Err (ap (error-of c.in-Err.error) r.0),
       gone-without c.args.holder c.args.travel c.args.self.now _
           (gone-moved _ _ c.args.travel _ _ _ _ _ c.self.view_is c.is_story.ensures r.1.0 m)

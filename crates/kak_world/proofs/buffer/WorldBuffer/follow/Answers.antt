@@ -5,7 +5,7 @@ use Rattle.selection_set.specs.Held.{selected}
 use Rattle.window_view.specs.View.{followed}
 use Rattle.kak_world.specs.Flat.{Held, list_on}
 use Rattle.kak_world.proofs.ListLemmas.{list-inside, list-read, list-set}
-use Rattle.kak_world.proofs.buffer.Buffer.follow.Goals as goal
+use Rattle.kak_world.proofs.buffer.WorldBuffer.follow.Goals as goal
 
 pub index_mut-list-requires : goal.index_mut-list-requires
 index_mut-list-requires c = let inside : c.place-at.result < length c.self.inside.lists.items = list-inside c.args.holder _ _ _ c.self.inside.lists.items _ _ c.self.view_is c.requires.list (c.place-at.ensures ∙ ap (place_where (is_list_of c.args.holder)) c.as_slice.ensures.value) in omega (arith, c.self.inside.lists.ok.0)

@@ -1,12 +1,12 @@
 use Rattle.std.proofs.Common.{ap, subst, ◌∙◌}
-use Rattle.buffer_store.specs.Stored.{shifts_of}
+use Rattle.buffer_store.specs.Stored.{change_shifts}
 use Rattle.buffer_store.specs.Buffers.{changes_of}
 use Rattle.undo_model.specs.Steps.{AreSteps}
 use Rattle.kak_world.specs.Flat.{Buffer}
 use Rattle.kak_world.specs.Changing.{buffer_edited}
 use Rattle.kak_world.proofs.AnswerLemmas.{on-ok, carried-ok, carried-if, carried-err, carried-from}
 use Rattle.kak_world.proofs.EditingLemmas.{some-of, can-go, have-gone, edited-held, edited-some, edited-all, left-alone}
-use Rattle.kak_world.proofs.buffer.Buffer.edit.Goals as goal
+use Rattle.kak_world.proofs.buffer.WorldBuffer.edit.Goals as goal
 
 pub move_all-requires : goal.move_all-requires
 move_all-requires c = let e = c.edit-done.ensures.edits in can-go _ _ _ _ _ e.steps e.shifts_are c.as_slice.ensures.value c.is_story.ensures.stored c.self.invariant
@@ -29,7 +29,7 @@ returns-clause-shifts c =
     let e = c.edit-done.ensures.edits in
     let text = ap (λ (b : Buffer). b.story.text) c.self.view_is in
     carried-if _ c.edit-done.result _ _ c.carrying.ensures (on-ok c.edit-done.result e.all (λ all.
-    e.shifts_are ∙ ap (shifts_of _) all ∙ ap (λ t. shifts_of t (changes_of t c.args.splices.now)) text))
+    e.shifts_are ∙ ap (change_shifts _) all ∙ ap (λ t. change_shifts t (changes_of t c.args.splices.now)) text))
 
 pub returns-clause-steps : goal.returns-clause-steps
 returns-clause-steps c =
