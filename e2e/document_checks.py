@@ -33,8 +33,9 @@ def run(program, report):
     session = TOP / "e2e/first_path/006"
     for suffix in (".in", ".out"):
         report.check(f"docs/PROTOCOL.md shows e2e/first_path/006{suffix}", True, session.with_suffix(suffix).read_text() in whole)
-    counts = [len(list((TOP / "e2e").glob(names))) for names in ("*/*.in", "clients/*.in", "*/*.after")]
-    told = re.search(r"(\d+) recorded sessions, of which (\d+) have several clients and (\d+) have", (TOP / "README.md").read_text())
+    recorded, clients, screens, kept, generated = [len(list((TOP / "e2e").glob(names))) for names in ("*/*.in", "clients/*.in", "screens/*.in", "*/*.after", "generated/*.words")]
+    counts = [recorded, clients + screens, kept, generated]
+    told = re.search(r"(\d+) recorded sessions, of which (\d+) are replays and (\d+) have the files that they leave; and (\d+) generated", (TOP / "README.md").read_text())
     report.check("README.md: how many sessions are recorded", counts, [int(number) for number in told.groups()])
 
 

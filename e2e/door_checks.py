@@ -145,7 +145,8 @@ def no_descriptors(place, report):
     server = place.serve(confine=lambda: resource.setrlimit(resource.RLIMIT_NOFILE, (DESCRIPTORS, DESCRIPTORS)))
     clients = server.clients(1)
     clients += [server.client() for _ in range(DESCRIPTORS)]
-    settle(clients)
+    drawn = settle(clients)
+    report.check("server: no descriptors: who came too late is drawn nothing", None, drawn[-1])
     report.check("server: no descriptors: the first goes on", "hi\n", text_of(clients[0].play("ihi<esc>")))
     for client in clients:
         client.close()
@@ -171,9 +172,13 @@ def file_word(place, report):
 
 
 def no_file_word(place, report):
-    """A file that isn't there is a new buffer, and one that can't be read is told."""
+    """A file that isn't there is a new buffer, and what can't be opened or read is told; a named pipe holds nobody up."""
     (place.folder / "folder").mkdir()
-    for word, told in (("new", ("<\n>", "new 1:1 normal 1/1 - client0", "")), ("folder", ("<\n>", "*scratch* 1:1 normal 1/1 - client0", "file fault: folder"))):
+    (place.folder / "circle").symlink_to("circle")
+    os.mkfifo(place.folder / "pipe")
+    rows = [("new", ("<\n>", "new 1:1 normal 1/1 - client0", ""))]
+    rows += [(word, ("<\n>", "*scratch* 1:1 normal 1/1 - client0", f"file fault: {word}")) for word in ("folder", "circle", "pipe")]
+    for word, told in rows:
         server = place.serve(word)
         client = server.client()
         report.check(f"server: the file {word}", told, last_drawing(client.next()))

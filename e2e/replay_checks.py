@@ -10,7 +10,8 @@ from processes import run_whole, run_with_files
 from status_checks import status_of
 
 TOP = pathlib.Path(__file__).resolve().parent.parent
-FOLDER = TOP / "e2e/clients"
+# sessions of several clients; and of clients whose user interfaces report what stands on their screens at the end
+TOPICS = ["clients", "screens"]
 
 # so many entries the history of a replay may have, those of leaving aside, and so many bytes of input are taken
 MAX_ENTRIES = 4_000_000
@@ -21,6 +22,7 @@ MILLION = 1_000_000
 
 WRONG_WORDS = [
     [], [""], ["json"] * 65, ["terminal"], ["JSON"], ["json "], ["json", ""], ["json", "-ui"], ["-ui", "json"], ["json silent"],
+    ["Screen"], ["screens"], ["screen", "scree"],
     ["silent", "json", "jso"], ["--help"], [b"json\xff"], [b"json", b"\xff"],
 ]
 
@@ -47,6 +49,7 @@ QUIT = ":quit<ret>"
 FIRST = at(0, EMPTY, "1:1", (0, 0))
 SECOND = at(1, EMPTY, "1:1", (0, 0))
 SECOND_HI = at(1, HI_SEEN, "1:1", (0, 0))
+THIRD = at(2, HI_SEEN, "1:1", (0, 0))
 SHOWN = OPENING + at(0, HI, "1:3", (0, 2))
 
 BAD_LINES = [
@@ -84,6 +87,14 @@ RUNS = {
     "bad lines are seen behind a quit": (["json", "json"], NO_KEYS + line(0, QUIT) + b"0{}\n", 7, opening(SECOND) + SECOND + OPENING + FIRST),
     "both quit": (["json", "json"], NO_KEYS + line(0, QUIT) + line(1, QUIT) + b"bad\n", 0, opening(SECOND) + SECOND + OPENING + FIRST * 2),
     "keys behind quit in its line": (["json"], line(0, QUIT + "ilater<esc>"), 0, OPENING + FIRST),
+    # screens
+    "what stands on a screen at the end": (["screen"], TYPED, 0, b"hi\n"),
+    "a screen on which nothing changed": (["screen"], NO_KEYS.replace(b"1", b"0", 1), 0, b"\n"),
+    "a screen of a client that never came": (["screen", "silent"], NO_KEYS, 0, b""),
+    "a refused line alone": (["screen"], b"0 {\n", 0, b"\n"),
+    "a refused line leaves the screen": (["screen"], TYPED + b"0 {\n", 0, b"hi\n"),
+    "two screens and what one was sent": (["screen", "json", "screen"], TYPED + b"2 \n" + NO_KEYS + line(0, "ghiO<esc>"), 0, b"Ohi\n" + opening(THIRD) + THIRD + b"hi\n"),
+    "lines that are cut have their newline": (["screen"], line(0, "i" + "x" * 100 + "<ret>y<esc>gg"), 0, b"x" * 80 + b"\ny\n"),
     # lines that are no client's
     "two of two clients": (["json", "silent"], line(2, "ihi<esc>"), 7, b""),
     "a bad line behind good ones": (["json", "json"], TYPED + NO_KEYS + b"2 {}\n" + TYPED, 7, SHOWN + opening(SECOND_HI) + SECOND_HI),
@@ -159,11 +170,16 @@ def pages(report):
 
 
 def sessions(program, report):
+    for topic in TOPICS:
+        play_all(program, report, topic)
+
+
+def play_all(program, report, topic):
     """Whole sessions: NNN.in gives NNN.out and the status of NNN.status, or 0, and the files of NNN.after."""
-    inputs = sorted(FOLDER.glob("*.in"))
-    report.check("clients: there are sessions to be played", True, bool(inputs))
+    inputs = sorted((TOP / "e2e" / topic).glob("*.in"))
+    report.check(f"{topic}: there are sessions to be played", True, bool(inputs))
     for given in inputs:
-        name = f"clients: session {given.stem}"
+        name = f"{topic}: session {given.stem}"
         words = given.with_suffix(".words").read_text().splitlines()
         status = given.with_suffix(".status")
         ended, files = run_with_files(program, words, given.read_bytes(), files_of(given.with_suffix(".before")))

@@ -1,5 +1,5 @@
 -- What comes in at an acceptor, and when it may fail.
-use Rattle.std.specs.Prelude.{◌≡◌, ℕ, ◌+◌, List, [], ◌∷◌, IsSome, IfSome, None, Some}
+use Rattle.std.specs.Prelude.{◌≡◌, ℕ, ◌+◌, List, [], ◌∷◌, ◌++◌, IsSome, IfSome, None, Some}
 use Rattle.std.specs.declared.option.Option.{Option}
 use Rattle.kak_ports.specs.Ports.{Rose}
 use Rattle.client_links.specs.Wires.{Wire}
@@ -49,6 +49,11 @@ abbrev pub IsNextOf : Wire → Option (List Wire) → Option (List Wire) → Typ
 IsNextOf link None None = Unit {0}
 IsNextOf link (Some links) (Some rest) = links ≡ link ∷ rest
 IsNextOf link before now = ⊥
+
+-- what was to come, where these links came first, and what still is to come is told
+abbrev pub led_by : List Wire → Option (List Wire) → Option (List Wire)
+led_by links None = None
+led_by links (Some rest) = Some (links ++ rest)
 
 -- no link is left that is to come, where these are told
 abbrev pub NoneIsToCome : Door → Type 0

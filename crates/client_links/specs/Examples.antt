@@ -1,14 +1,18 @@
 -- Worked examples of what is heard over a link, and of what comes in at an acceptor.
-use Rattle.std.specs.Prelude.{ℕ, List, [], ◌∷◌, Some, None}
+use Rattle.std.specs.Prelude.{◌≡◌, ℕ, List, [], ◌∷◌, Some, None}
 use Rattle.client_links.specs.declared.link.Heard.TheVariants.{Got, End, Idle, Failed}
 use Rattle.client_links.specs.declared.acceptor.Bound.TheVariants.{Up}
 use Rattle.client_links.specs.declared.acceptor.Next.TheVariants.{Came, Idle as NoneYet}
 use Rattle.client_links.specs.Wires.{Wire, Hears, HearingTakesPauses, HearingIsCounted, TellsNoMore, IsFresh}
-use Rattle.client_links.specs.Doors.{Door, Binds, Comes, ComesInOrder}
+use Rattle.client_links.specs.Doors.{Door, led_by, Binds, Comes, ComesInOrder}
 
 -- a link that tells all, over which nothing was sent, with one pause to come
 abbrev pub wire : List ℕ → List ℕ → Wire
 wire received left = record { received = Some received; left = Some left; pauses = Some 1; read_faults = 0; outlet = record { told = Some []; faults = 0 } }
+
+-- a link that tells what will come, and no pauses
+abbrev pub unpaused_link : List ℕ → Wire
+unpaused_link left = record { received = None; left = Some left; pauses = None; read_faults = 0; outlet = record { told = None; faults = 0 } }
 
 -- a link that tells nothing, of which so many receivings failed
 abbrev pub untold_link : ℕ → Wire
@@ -40,12 +44,20 @@ pub record Examples : Type 0 where
   -- nothing has come yet, though 1 still will; behind it the other side has ended
   pub idle : Hears Idle (wire [] (1 ∷ [])) (wire [] (1 ∷ [])) (9 ∷ [])
   pub ended : Hears End (wire (1 ∷ []) []) (wire (1 ∷ []) []) (9 ∷ [])
+  -- nor has anything come where nothing will but the pause that is told, or where nothing is told
+  pub idle_before_the_end : Hears Idle (wire (1 ∷ []) []) (wire (1 ∷ []) []) (9 ∷ [])
+  pub idle_untold : Hears Idle (untold_link 0) (untold_link 0) (9 ∷ [])
+  pub idle_unpaused : Hears Idle (unpaused_link (1 ∷ [])) (unpaused_link (1 ∷ [])) (9 ∷ [])
   pub counted : HearingIsCounted Failed (untold_link 3) (untold_link 4)
   pub fresh : IsFresh (wire [] (1 ∷ []))
   -- a session is listened for, and the first link comes
   pub bound : Binds Up (shut_door []) (open_door 0 []) (115 ∷ [])
   pub came : Comes {L = ℕ} (Came 5) (open_door 0 []) (open_door 1 [])
   pub came_first : ComesInOrder itself (Came first) (open_door 0 (first ∷ second ∷ [])) (open_door 1 (second ∷ []))
+  -- both came, the first one first, where it is told which were to come
+  pub both_came : Some (first ∷ second ∷ []) ≡ led_by (first ∷ second ∷ []) (Some [])
+  pub one_left : Some (first ∷ second ∷ []) ≡ led_by (first ∷ []) (Some (second ∷ []))
+  pub untold_came : led_by (first ∷ []) None ≡ None
   -- none has come yet where none is left, or none is listened for
   pub none_left : ComesInOrder itself NoneYet (open_door 2 []) (open_door 2 [])
   pub none_asked : ComesInOrder itself NoneYet (shut_door (first ∷ [])) (shut_door (first ∷ []))
@@ -59,6 +71,8 @@ pub record Examples : Type 0 where
   pub not_ended : Hears End (wire [] (1 ∷ [])) (wire [] (1 ∷ [])) [] → ⊥
   pub none_lost : Hears (Got 1) (wire [] (1 ∷ 2 ∷ [])) (wire (1 ∷ []) []) (1 ∷ []) → ⊥
   pub none_taken : Hears Idle (wire [] (1 ∷ [])) (wire (1 ∷ []) []) (1 ∷ []) → ⊥
+  -- a link at its end that tells no pauses doesn't wait for more
+  pub not_for_ever : Hears Idle (unpaused_link []) (unpaused_link []) (1 ∷ []) → ⊥
   -- a fault is counted, and what is no fault isn't
   pub no_fault : HearingIsCounted Idle (untold_link 3) (untold_link 4) → ⊥
   pub not_uncounted : HearingIsCounted Failed (untold_link 3) (untold_link 3) → ⊥

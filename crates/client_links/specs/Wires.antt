@@ -1,5 +1,5 @@
 -- What is heard and sent over a link, where it is told, and when the one or the other may fail.
-use Rattle.std.specs.Prelude.{◌≡◌, ℕ, ◌-◌, ◌<◌, ◌≤◌, List, [], length, take, None, Some, IfSome}
+use Rattle.std.specs.Prelude.{◌≡◌, ℕ, ◌-◌, ◌<◌, ◌≤◌, List, [], ◌∷◌, length, take, None, Some, IfSome}
 use Rattle.std.specs.declared.option.Option.{Option}
 use Rattle.std.specs.Io.KnownBytes.{Appends, Consumes, IsAtEnd}
 use Rattle.kak_ports.specs.Ports.{Outlet, Rose}
@@ -31,11 +31,23 @@ pub record Gets (count : ℕ) (old new : Wire) (into : List ℕ) : Type 0 where
 abbrev pub HearsNothing : Wire → Wire → Type 0
 HearsNothing old new = (new.received ≡ old.received) × (new.left ≡ old.left)
 
--- the next bytes came, or none will come any more, or none have come yet, or receiving failed and took none
+-- bytes are left, where they are told
+abbrev pub IsNotAtEnd : Option (List ℕ) → Type 0
+IsNotAtEnd None = Unit {0}
+IsNotAtEnd (Some []) = ⊥
+IsNotAtEnd (Some (b ∷ bytes)) = Unit {0}
+
+-- More may come: a link that tells its pauses tells by them how often nothing comes, and any other one isn't at its end.
+abbrev pub MayGoOn : (pauses : Option ℕ) → (left : Option (List ℕ)) → Type 0
+MayGoOn (Some pauses) left = Unit {0}
+MayGoOn None left = IsNotAtEnd left
+
+-- The next bytes came, or none will come any more, or none have come yet and more may come, or receiving failed and took
+-- none.
 abbrev pub Hears : Heard → Wire → Wire → List ℕ → Type 0
 Hears (Got count) old new into = Gets count old new into
 Hears End old new into = IsAtEnd old.left × HearsNothing old new
-Hears Idle old new into = HearsNothing old new
+Hears Idle old new into = MayGoOn old.pauses old.left × HearsNothing old new
 Hears Failed old new into = HearsNothing old new
 
 -- one of the pauses that are left is taken, where these are told

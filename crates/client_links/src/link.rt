@@ -14,7 +14,8 @@ pub enum Heard {
     Got(usize),
     /// The other side has ended; nothing will come any more.
     End,
-    /// Nothing has come yet, which takes one of the pauses of a link that tells these. That is no fault.
+    /// Nothing has come yet, which takes one of the pauses of a link that tells these; a link that tells none, and what
+    /// will come, isn't at its end. That is no fault.
     Idle,
     /// Receiving failed, and the count of such faults rose. Nothing was taken.
     Failed,

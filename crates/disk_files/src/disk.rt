@@ -1,9 +1,10 @@
 //! Files of the disk: the edge of what is proved.
 
-ghost use Rattle.std.specs.Prelude.{◌≡◌, None, IfOk, OnOk};
+ghost use Rattle.std.specs.Prelude.{◌≡◌, ℕ, None, IfOk, OnOk};
 ghost use Rattle.std.specs.Io.KnownBytes.{Appends};
+ghost use Rattle.std.specs.IoError.{error_kind};
 ghost use Rattle.kak_files.specs.Files.{IsWithin, one_more};
-ghost use Rattle.disk_files.specs.Whole.{IsWholeRead};
+ghost use Rattle.disk_files.specs.Whole.{IsUnopened, IsWholeRead};
 
 use byte_texts::Octets;
 use kak_files::{FileRead, Files};
@@ -11,7 +12,7 @@ use kak_ports::Put;
 use std::alloc::{AllocError, Global};
 use std::fs::{self, Metadata, OpenFile, OpenOptions};
 use std::io::{self, ErrorKind, Read, Write};
-use std::os::unix::fs::{MetadataExt, OpenOptionsExt};
+use std::os::unix::fs::{FileTypeExt, MetadataExt, OpenOptionsExt};
 use std::path::{Path, PathBuf};
 use std::rt;
 
@@ -31,7 +32,8 @@ const CHUNK_BYTES: usize = 65_536;
 /// followed to the file that it names. The old file itself is written, and may be left with a part of the bytes where that
 /// fails, where no file can be made beside it, or it can't be renamed over, or that would change what it is: where it isn't
 /// a plain file, has several names, or belongs to another user or group than a new file does. Access lists and other
-/// attributes than the mode aren't looked at, and a new file doesn't have them.
+/// attributes than the mode aren't looked at, and a new file doesn't have them. A named pipe is neither read nor written,
+/// since opening one waits for its other side.
 #[derive(Drop)]
 pub struct DiskFiles<R> {
     runtime: R,
@@ -102,6 +104,11 @@ impl<R: rt::Files> DiskFiles<R> {
         }
         file.write_all(bytes)
     }
+}
+
+// Whether a file is a named pipe.
+fn is_pipe(data: &Metadata) -> bool {
+    data.file_type().is_fifo()
 }
 
 // Whether a new file is to the old one as another of its kind: of the same user and group.
@@ -209,6 +216,9 @@ impl<R: rt::Files> DiskFiles<R> {
             }
             Err(error) => return Err(error),
         };
+        if is_pipe(&old) {
+            return Err(io::Error::from(ErrorKind::Unsupported));
+        }
         if is_plain(&old) {
             // A file that can't be written isn't replaced either.
             OpenOptions::new().write(true).open(&self.runtime, path)?;
@@ -217,6 +227,17 @@ impl<R: rt::Files> DiskFiles<R> {
             }
         }
         self.write_in_place(path, &old, bytes)
+    }
+}
+
+// What is answered where a file wasn't opened for a read: that there is none only if nothing stands under the name.
+fn unopened(error: &io::Error) -> FileRead
+    ensures told { IsUnopened (error_kind error.now) result }
+    ensures within { (max : ℕ) → IsWithin max result }
+{
+    match error.kind() {
+        ErrorKind::NotFound => FileRead::NotThere,
+        _ => FileRead::Failed,
     }
 }
 
@@ -253,16 +274,32 @@ fn read_all<F: Read + OpenFile>(
     Ok(FileRead::Failed)
 }
 
+impl<R: rt::Files> DiskFiles<R> {
+    // Opens a file for a read.
+    fn open(&self, name: &str) -> io::Result<R::File> {
+        if is_pipe(&fs::metadata(&self.runtime, name)?) {
+            return Err(io::Error::from(ErrorKind::Unsupported));
+        }
+        fs::open(&self.runtime, name)
+    }
+
+    // What the file of a name holds. A failure isn't counted here.
+    fn read_once(&self, alloc: Global, name: &str, max: usize) -> Result<FileRead, AllocError>
+        ensures { IfOk result (λ answer. IsWithin max answer) }
+    {
+        match self.open(name) {
+            Ok(mut file) => read_all(alloc, &mut file, max),
+            Err(error) => Ok(unopened(&error)),
+        }
+    }
+}
+
 impl<R: rt::Files> Files for DiskFiles<R> {
     ghost shelf = { λ s. record { told = None; faults = s.faults } };
 
-    /// What the file of a name holds. A folder, and a file that can't be opened or read, is `Failed`.
+    /// What the file of a name holds. A folder, a named pipe, and a file that can't be opened or read, is `Failed`.
     fn read(&mut self, alloc: Global, name: &str, max: usize) -> Result<FileRead, AllocError> {
-        let answer = match fs::open(&self.runtime, name) {
-            Ok(mut file) => read_all(alloc, &mut file, max)?,
-            Err(error) if error.kind() == ErrorKind::NotFound => FileRead::NotThere,
-            Err(_) => FileRead::Failed,
-        };
+        let answer = self.read_once(alloc, name, max)?;
         if let FileRead::Failed = answer {
             self.count_fault();
             return Ok(FileRead::Failed);

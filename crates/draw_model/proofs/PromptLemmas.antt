@@ -1,12 +1,13 @@
 -- The cursor of a prompt.
-use Rattle.std.proofs.Common.{◌≡◌, ℕ, ◌+◌, ◌<◌, List, [], ◌∷◌, ◌++◌, length, take, get_or, refl, sym, ap, ap₂, ◌∙◌, append_assoc, arith}
+use Rattle.std.proofs.Common.{◌≡◌, ℕ, ◌+◌, ◌<◌, ◌≤◌, List, [], ◌∷◌, ◌++◌, length, take, drop, get_or, refl, sym, ap, ap₂, ◌∙◌, append_assoc, subst, arith}
 use Rattle.unicode_width.specs.Width.{char_width}
 use Rattle.kak_text.specs.Cells.{cells_of, column_behind}
-use Rattle.std.proofs.lemmas.List.{take_more}
+use Rattle.std.proofs.lemmas.List.{take_more, take-append-drop}
 use Rattle.kak_world.specs.declared.purpose.Toward.TheVariants.{Next, Former}
 use Rattle.kak_world.specs.declared.purpose.Use.TheVariants as matches
 use Rattle.kak_world.specs.declared.purpose.Purpose.{Purpose}
 use Rattle.kak_world.specs.declared.purpose.Purpose.TheVariants.{Commands, Pattern}
+use Rattle.line_painting.proofs.StretchLemmas.{column_behind-right}
 use Rattle.draw_model.specs.Drawings.{prompt_name, prompt_column}
 
 -- before what was typed each character has one cell
@@ -54,3 +55,12 @@ prompt-more tabstop purpose typed i column c width h r e w =
     ap₂ (λ (a : ℕ) (b : ℕ). a + b) e (w ∙ ap (λ k. cells_of c k tabstop) e)
     ∙ sym (behind-append tabstop 0 (prompt_name purpose ++ take i typed) (c ∷ []))
     ∙ ap (column_behind tabstop 0) (append_assoc (prompt_name purpose) (take i typed) (c ∷ []) ∙ ap (λ t. prompt_name purpose ++ t) (ap (λ k. take i typed ++ k ∷ []) r ∙ sym (take_more typed i c h)))
+
+-- characters that follow take no cells away
+pub prompt-least : (tabstop : ℕ) (purpose : Purpose) (typed : List ℕ) (i column least : ℕ) → column ≡ prompt_column tabstop purpose (take i typed) → least ≤ column → least ≤ prompt_column tabstop purpose typed
+prompt-least tabstop purpose typed i column least e h =
+    let whole : column_behind tabstop column (drop i typed) ≡ prompt_column tabstop purpose typed =
+    ap (λ k. column_behind tabstop k (drop i typed)) e
+    ∙ sym (behind-append tabstop 0 (prompt_name purpose ++ take i typed) (drop i typed))
+    ∙ ap (column_behind tabstop 0) (append_assoc (prompt_name purpose) (take i typed) (drop i typed) ∙ ap (λ t. prompt_name purpose ++ t) (take-append-drop i typed)) in
+    subst (λ n. least ≤ n) whole (column_behind-right tabstop least column (drop i typed) h)

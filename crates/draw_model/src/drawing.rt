@@ -1,6 +1,6 @@
 //! What a client is shown.
 
-ghost use Rattle.std.specs.Prelude.{◌≡◌, ◌+◌, ◌<◌, ◌≤◌, ◌^◌, true, IfOk};
+ghost use Rattle.std.specs.Prelude.{◌≡◌, ◌+◌, ◌<◌, ◌≤◌, ◌^◌, true, IfOk, OnErr};
 ghost use Rattle.text_model.specs.Texts.{IsPlace};
 ghost use Rattle.window_view.specs.Views.{window_seen};
 ghost use Rattle.kak_world.specs.Flat.{is_joined, text_of, sels_of, tabstop_of};
@@ -15,6 +15,9 @@ use kak_world::{Mode, Purpose, World};
 use line_painting::draw_lines;
 use std::alloc::{AllocError, Global};
 use window_view::{Window, cell_of};
+
+// So many cells before the cursor of a prompt are too many.
+const MAX_PROMPT_CELLS: u32 = 2_147_483_648;
 
 // Where the main cursor stands, the display column there, and how many cells its character has.
 #[derive(Clone, Copy, Debug)]
@@ -53,15 +56,17 @@ fn find_cursor(world: &World, who: u32) -> MainCursor
     }
 }
 
-// How many cells stand before the cursor of a prompt, of the characters before it. 2^31 and more count as want of memory.
+// How many cells stand before the cursor of a prompt, of the characters before it. 2^31 and more count as want of memory,
+// and nothing else does.
 fn prompt_cursor(purpose: Purpose, before: &[char], tabstop: u32) -> Result<u32, AllocError>
     requires some { 1 ≤ tabstop }
     requires few { tabstop ≤ MAX_TABSTOP }
-    ensures { IfOk result (λ column. column ≡ prompt_column tabstop purpose before.now) }
+    ensures value { IfOk result (λ column. column ≡ prompt_column tabstop purpose before.now) }
+    ensures wide { OnErr result (2 ^ 31 ≤ prompt_column tabstop purpose before.now) }
 {
     let mut column = prompt_name(purpose).len() as u32;
     for c in before {
-        if column >= 1 << 31 {
+        if column >= MAX_PROMPT_CELLS {
             return Err(AllocError);
         }
         column += cells(*c, column, tabstop);
@@ -69,7 +74,7 @@ fn prompt_cursor(purpose: Purpose, before: &[char], tabstop: u32) -> Result<u32,
     Ok(column)
 }
 
-// Where the cursor stands.
+// Where the cursor stands. It takes no memory, and tells want of it for a prompt that is too wide alone.
 fn cursor_of(
     mode: Mode,
     main: MainCursor,
@@ -80,7 +85,8 @@ fn cursor_of(
 ) -> Result<Cursor, AllocError>
     requires some { 1 ≤ tabstop }
     requires few { tabstop ≤ MAX_TABSTOP }
-    ensures { IfOk result (λ cursor. cursor ≡ cursor_drawn tabstop mode main.at.line main.column (window_seen window) purpose prompt.now) }
+    ensures value { IfOk result (λ cursor. cursor ≡ cursor_drawn tabstop mode main.at.line main.column (window_seen window) purpose prompt.now) }
+    ensures wide { OnErr result ((mode ≡ Mode.Prompt) × (2 ^ 31 ≤ prompt_column tabstop purpose prompt.now.before)) }
 {
     match mode {
         Mode::Prompt => Ok(Cursor {

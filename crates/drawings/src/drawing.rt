@@ -1,11 +1,8 @@
 //! What is shown: atoms, lines, and whole drawings.
 
-ghost use Rattle.std.specs.Prelude.{◌≡◌, ◌∷◌, [], ◌++◌, OnOk, OnErr};
-
 use kak_faces::Face;
 use kak_text::Chars;
-use std::alloc::{AllocError, Global};
-use std::marker::Model;
+use sequences::Seq;
 
 /// Characters that are drawn in one face.
 #[derive(Drop, Debug)]
@@ -14,61 +11,8 @@ pub struct Atom {
     pub face: Face,
 }
 
-/// Atoms in a row. Contracts see the list of them.
-#[derive(Drop, Debug)]
-pub struct Atoms {
-    items: Vec<Atom>,
-}
-
-impl Model for Atoms {
-    ghost use Rattle.std.specs.Prelude.{List};
-    ghost use Rattle.drawings.specs.declared.drawing.Atom.{Atom};
-
-    ghost Value = { List Atom };
-
-    ghost view = { λ a. a.items.items };
-}
-
-impl Atoms {
-    /// No atoms; takes no memory.
-    pub fn new(alloc: Global) -> Atoms
-        ensures { result ≡ [] }
-    {
-        Atoms {
-            items: Vec::new(alloc),
-        }
-    }
-
-    /// The atoms of a vector; takes no memory.
-    pub fn of_vec(items: Vec<Atom>) -> Atoms
-        ensures { result ≡ items.items }
-    {
-        Atoms { items }
-    }
-
-    /// The atoms as a vector; takes no memory.
-    pub fn into_vec(self) -> Vec<Atom>
-        ensures { result.items ≡ self }
-    {
-        self.items
-    }
-
-    /// The atoms.
-    pub fn as_slice(&self) -> &[Atom]
-        ensures { result.now ≡ self.now }
-    {
-        self.items.as_slice()
-    }
-
-    /// Adds an atom at the end. After an error the atoms are as they were.
-    pub fn push(&mut self, atom: Atom) -> Result<(), AllocError>
-        ensures ok { OnOk result (self.new ≡ self.old ++ atom ∷ []) }
-        ensures err { OnErr result (self.new ≡ self.old) }
-    {
-        self.items.push(atom)?;
-        Ok(())
-    }
-}
+/// Atoms in a row.
+pub type Atoms = Seq<Atom>;
 
 /// A line of a drawing: maximal runs of one face.
 #[derive(Drop, Debug)]
@@ -76,61 +20,8 @@ pub struct DrawnLine {
     pub atoms: Atoms,
 }
 
-/// Lines in a row. Contracts see the list of them.
-#[derive(Drop, Debug)]
-pub struct DrawnLines {
-    items: Vec<DrawnLine>,
-}
-
-impl Model for DrawnLines {
-    ghost use Rattle.std.specs.Prelude.{List};
-    ghost use Rattle.drawings.specs.declared.drawing.DrawnLine.{DrawnLine};
-
-    ghost Value = { List DrawnLine };
-
-    ghost view = { λ a. a.items.items };
-}
-
-impl DrawnLines {
-    /// No lines; takes no memory.
-    pub fn new(alloc: Global) -> DrawnLines
-        ensures { result ≡ [] }
-    {
-        DrawnLines {
-            items: Vec::new(alloc),
-        }
-    }
-
-    /// The lines of a vector; takes no memory.
-    pub fn of_vec(items: Vec<DrawnLine>) -> DrawnLines
-        ensures { result ≡ items.items }
-    {
-        DrawnLines { items }
-    }
-
-    /// The lines as a vector; takes no memory.
-    pub fn into_vec(self) -> Vec<DrawnLine>
-        ensures { result.items ≡ self }
-    {
-        self.items
-    }
-
-    /// The lines.
-    pub fn as_slice(&self) -> &[DrawnLine]
-        ensures { result.now ≡ self.now }
-    {
-        self.items.as_slice()
-    }
-
-    /// Adds a line at the end. After an error the lines are as they were.
-    pub fn push(&mut self, line: DrawnLine) -> Result<(), AllocError>
-        ensures ok { OnOk result (self.new ≡ self.old ++ line ∷ []) }
-        ensures err { OnErr result (self.new ≡ self.old) }
-    {
-        self.items.push(line)?;
-        Ok(())
-    }
-}
+/// Lines in a row.
+pub type DrawnLines = Seq<DrawnLine>;
 
 /// Where the cursor stands: in the buffer's window, by its line and cell from 0, or in the prompt,
 /// by the cells before it on line 0.

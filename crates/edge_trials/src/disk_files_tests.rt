@@ -109,3 +109,38 @@ fn files_with_two_names_and_devices_are_written_in_place(rt: HostRuntime) -> Res
     fs::remove_dir_all(&rt, folder.as_path())?;
     Ok(())
 }
+
+// Whether neither a read nor a write of a name comes about, and the read says so.
+fn is_refused<F: Files>(alloc: Global, files: &mut F, name: &str) -> Result<bool, Fail> {
+    let refused = reads(alloc, files, name, 9, "Failed")?;
+    Ok(refused && files.write(name, b"new") == Put::Failed)
+}
+
+// A link in a folder to a file by its name.
+fn link_to(rt: &HostRuntime, folder: &PathBuf, link: &str, file: &str) -> Result<PathBuf, Fail> {
+    let path = folder.join(rt.alloc(), link)?;
+    symlink(rt, file, path.as_str())?;
+    Ok(path)
+}
+
+#[test]
+fn what_cannot_be_opened_is_not_told_as_missing(rt: HostRuntime) -> Result<(), Fail> {
+    let alloc = rt.alloc();
+    let folder = folder(&rt, "unopened")?;
+    let file = folder.join(alloc, "file")?;
+    let through = file.join(alloc, "in")?;
+    let circle = link_to(&rt, &folder, "circle", "circle")?;
+    let nowhere = link_to(&rt, &folder, "nowhere", "missing")?;
+    let letters = Vec::from_elem(alloc, b'a', 256)?;
+    let long = folder.join(alloc, str::from_utf8(letters.as_slice())?)?;
+    let mut files = DiskFiles::new(&rt, alloc);
+    assert_eq!(rt; files.write(file.as_str(), b"old"), Put::Done);
+    assert!(rt; is_refused(alloc, &mut files, through.as_str())?);
+    assert!(rt; is_refused(alloc, &mut files, circle.as_str())?);
+    assert!(rt; is_refused(alloc, &mut files, long.as_str())?);
+    assert!(rt; reads(alloc, &mut files, nowhere.as_str(), 9, "NotThere")?);
+    assert!(rt; reads(alloc, &mut files, file.as_str(), 9, "old")?);
+    assert_eq!(rt; count_files(&rt, &folder)?, 3);
+    fs::remove_dir_all(&rt, folder.as_path())?;
+    Ok(())
+}

@@ -1,8 +1,11 @@
 -- Which selections begin on one line, the display columns of cursors, and the spaces that bring these to one.
-use Rattle.std.proofs.Common.{◌≡◌, ◌≢◌, ℕ, ◌+◌, ◌-◌, ◌<◌, ◌≤◌, Bool, false, eqb, ◌||◌, ◌⊎◌, inl, inr, List, [], ◌∷◌, length, map, drop, get_or, refl, sym, ap, ap₂, ◌∙◌, arith, eq-eqb, ne_eqb, eqb-true}
+use Rattle.std.proofs.Common.{◌≡◌, ◌≢◌, ℕ, ◌+◌, ◌-◌, ◌<◌, ◌≤◌, max, Bool, false, eqb, ltb, ◌||◌, ◌⊎◌, inl, inr, List, [], ◌∷◌, length, map, drop, get_or, refl, sym, ap, ap₂, ◌∙◌, arith, eq-eqb, ne_eqb, eqb-true}
 use Rattle.std.specs.List.{AllByRecursion}
+use Rattle.std.specs.Ordering.{nat_cmp, ord_max}
 use Rattle.std.proofs.lemmas.Bool.{eqb-false}
+use Rattle.std.proofs.lemmas.Grind.{common_steps}
 use Rattle.std.proofs.lemmas.List.{drop_more, drop_all, length-replicate}
+use Rattle.text_model.specs.declared.TheConstants.{MAX_CHARS}
 use Rattle.text_model.specs.declared.coords.Coord.{Coord}
 use Rattle.text_model.specs.Texts.{coord_at, offset, nth_line}
 use Rattle.text_model.proofs.CoordLemmas.{test_cases}
@@ -134,15 +137,44 @@ pub record IsMeasured (text : List ℕ) (tabstop : ℕ) (sels : List Sel) (colum
   pub columns_are : columns ≡ map (cursor_column text tabstop) (ranges_of text sels)
   pub last_is : last ≡ greatest columns
 
-pub measured : (text : List ℕ) (tabstop : ℕ) (sels given : List Sel) (items columns others : List ℕ) (last : ℕ) → given ≡ sels → items ≡ map (cursor_column text tabstop) (ranges_of text given)
-    → columns ≡ items → others ≡ items → last ≡ greatest others → IsMeasured text tabstop sels columns last
-measured text tabstop sels given items columns others last e f g h k = record {
+pub measured : (text : List ℕ) (tabstop : ℕ) (sels given : List Sel) (items columns : List ℕ) (last : ℕ) → given ≡ sels → items ≡ map (cursor_column text tabstop) (ranges_of text given) → columns ≡ items
+    → last ≡ greatest (map (cursor_column text tabstop) (ranges_of text given)) → IsMeasured text tabstop sels columns last
+measured text tabstop sels given items columns last e f g k = record {
   columns_are = g ∙ f ∙ ap (λ s. map (cursor_column text tabstop) (ranges_of text s)) e;
-  last_is = k ∙ ap greatest (h ∙ sym g);
+  last_is = k ∙ ap greatest (sym f ∙ sym g);
 }
 
-pub lacking-is : (text : List ℕ) (tabstop : ℕ) (sels : List Sel) (columns : List ℕ) (last : ℕ) → IsMeasured text tabstop sels columns last → lacking last columns ≡ put_together (alignments text tabstop (ranges_of text sels))
-lacking-is text tabstop sels columns last m = ap₂ lacking (m.last_is ∙ ap greatest m.columns_are) m.columns_are ∙ sym (alignments-together text tabstop (ranges_of text sels))
+-- whether the spaces are too many, as it is found of the display columns of the cursors
+pub long-is : (text : List ℕ) (tabstop : ℕ) (sels given : List Sel) (last : ℕ) (found : Bool) → given ≡ sels → last ≡ greatest (map (cursor_column text tabstop) (ranges_of text given))
+    → found ≡ ltb MAX_CHARS (lacking last (map (cursor_column text tabstop) (ranges_of text given))) → found ≡ ltb MAX_CHARS (put_together (alignments text tabstop (ranges_of text sels)))
+long-is text tabstop sels given last found e g f =
+    f ∙ ap (λ l. ltb MAX_CHARS (lacking l (map (cursor_column text tabstop) (ranges_of text given)))) g
+    ∙ ap (ltb MAX_CHARS) (sym (alignments-together text tabstop (ranges_of text given)) ∙ ap (λ s. put_together (alignments text tabstop (ranges_of text s))) e)
+
+-- the greatest display column of the cursors from one on
+pub greatest-next : (text : List ℕ) (tabstop : ℕ) (sels : List Sel) (n : ℕ) (d : Sel) → n < length sels
+    → greatest (map (cursor_column text tabstop) (ranges_of text (drop n sels)))
+    ≡ max (cursor_column text tabstop (range_of text (get_or sels n d))) (greatest (map (cursor_column text tabstop) (ranges_of text (drop (n + 1) sels))))
+greatest-next text tabstop sels n d h = ap (λ s. greatest (map (cursor_column text tabstop) (ranges_of text s))) (drop_more sels n d h)
+
+max-is : (a b most : ℕ) → most ≡ ord_max nat_cmp a b → most ≡ max a b
+max-is a b most e = grind (arith, common_steps)
+
+-- the greatest of some numbers and of those that follow
+pub greatest-of : (last column rest before most all here : ℕ) → max last before ≡ all → before ≡ max here rest → column ≡ here → most ≡ ord_max nat_cmp last column → max most rest ≡ all
+greatest-of last column rest before most all here e f g k = omega (arith, max-is last column most k)
+
+pub greatest-none : (text : List ℕ) (tabstop : ℕ) (sels : List Sel) (n : ℕ) → length sels ≤ n → greatest (map (cursor_column text tabstop) (ranges_of text (drop n sels))) ≡ 0
+greatest-none text tabstop sels n h = ap (λ s. greatest (map (cursor_column text tabstop) (ranges_of text s))) (drop_all n sels h)
+
+-- how many spaces bring the cursors from one on to a display column
+pub lacking-next : (text : List ℕ) (tabstop last : ℕ) (sels : List Sel) (n : ℕ) (d : Sel) → n < length sels
+    → lacking last (map (cursor_column text tabstop) (ranges_of text (drop n sels)))
+    ≡ (last - cursor_column text tabstop (range_of text (get_or sels n d))) + lacking last (map (cursor_column text tabstop) (ranges_of text (drop (n + 1) sels)))
+lacking-next text tabstop last sels n d h = ap (λ s. lacking last (map (cursor_column text tabstop) (ranges_of text s))) (drop_more sels n d h)
+
+pub lacking-none : (text : List ℕ) (tabstop last : ℕ) (sels : List Sel) (n : ℕ) → length sels ≤ n → lacking last (map (cursor_column text tabstop) (ranges_of text (drop n sels))) ≡ 0
+lacking-none text tabstop last sels n h = ap (λ s. lacking last (map (cursor_column text tabstop) (ranges_of text s))) (drop_all n sels h)
 
 -- spaces before selections of a text are put in order
 pub alignments-in_order : (text : List ℕ) (tabstop : ℕ) (list : Listed) → IsHeld text list → AreInOrder 0 (length text) (alignments text tabstop (ranges_of text list.list))

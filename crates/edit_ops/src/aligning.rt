@@ -1,6 +1,6 @@
 //! Cursors that are brought to one display column.
 
-ghost use Rattle.std.specs.Prelude.{◌≡◌, ◌<◌, ◌≤◌, ◌↔◌, true, false, length, map, max, nat_lt, IfOk, OnOk, IsErrOf};
+ghost use Rattle.std.specs.Prelude.{◌≡◌, ◌-◌, ◌<◌, ◌≤◌, ◌↔◌, true, false, length, map, max, nat_lt, IfOk, OnOk, IsErrOf};
 ghost use Rattle.text_model.specs.declared.TheConstants.{MAX_CHARS};
 ghost use Rattle.selection_set.specs.Inside.{IsInside, range_of};
 ghost use Rattle.selection_set.specs.Listing.{AreInside, ranges_of};
@@ -24,7 +24,7 @@ pub enum AlignError {
     /// Two selections begin on one line.
     #[error("two selections begin on one line")]
     SameLine,
-    /// The spaces are more characters together than a text may have. None of them was made.
+    /// The spaces are more characters together than a text may have. No memory was taken for them.
     #[error("the spaces are longer than a text may be")]
     TooLong,
     /// Memory ran out.
@@ -41,8 +41,9 @@ impl From<AllocError> for AlignError {
 }
 
 /// The replacements that put spaces before the first character of each selection, from the first to the last: as many as
-/// the display column of its cursor is below the greatest one of a cursor, with a tab stop at each `tabstop` columns. It
-/// goes over the line of each cursor once, up to the cursor.
+/// the display column of its cursor is below the greatest one of a cursor, with a tab stop at each `tabstop` columns.
+/// Whether it is refused is found before any memory is taken. It goes over the line of each cursor three times, up to the
+/// cursor.
 pub fn align(
     alloc: Global,
     lines: &Lines,
@@ -55,18 +56,20 @@ pub fn align(
     ensures aligns { IfOk result (λ s. flat_splices lines.now s.items ≡ alignments lines.now tabstop (ranges_of lines.now sels.now.list)) }
     ensures splices { IfOk result (λ s. AreSplicesOf lines.now s.items) }
     ensures same_line { IsErrOf result AlignError.SameLine ↔ (shares_line lines.now (ranges_of lines.now sels.now.list) ≡ true) }
-    ensures long { IsErrOf result AlignError.TooLong → MAX_CHARS < put_together (alignments lines.now tabstop (ranges_of lines.now sels.now.list)) }
+    ensures long { IsErrOf result AlignError.TooLong ↔ ((shares_line lines.now (ranges_of lines.now sels.now.list) ≡ false)
+        × (MAX_CHARS < put_together (alignments lines.now tabstop (ranges_of lines.now sels.now.list)))) }
     ensures fits { OnOk result (put_together (alignments lines.now tabstop (ranges_of lines.now sels.now.list)) ≤ MAX_CHARS) }
 {
-    if share_lines(sels.as_slice()) {
+    let list = sels.as_slice();
+    if share_lines(list) {
         return Err(AlignError::SameLine);
     }
-    let columns = columns_of(alloc, lines, sels.as_slice(), tabstop)?;
-    let last = greatest(columns.as_slice());
-    if lack_too_much(columns.as_slice(), last) {
+    let last = greatest_column(lines, list, tabstop);
+    if lack_too_much(lines, list, tabstop, last) {
         return Err(AlignError::TooLong);
     }
-    Ok(spaced(alloc, sels.as_slice(), columns.as_slice(), last)?)
+    let columns = columns_of(alloc, lines, list, tabstop)?;
+    Ok(spaced(alloc, list, columns.as_slice(), last)?)
 }
 
 // Whether a selection begins on the line on which the next one does.
@@ -111,24 +114,41 @@ fn column_of(lines: &Lines, sel: Sel, tabstop: u32) -> u32
     cell_of(lines.line(at.line as usize), at.column as usize, tabstop)
 }
 
-// The greatest of some numbers, and 0 where there are none.
-fn greatest(numbers: &[u32]) -> u32
-    ensures { result ≡ greatest numbers.now }
+// The greatest display column of a cursor of selections, and 0 where there are none.
+fn greatest_column(lines: &Lines, sels: &[Sel], tabstop: u32) -> u32
+    requires inside { AreInside lines.now sels.now }
+    requires some { 1 ≤ tabstop }
+    requires few { tabstop ≤ MAX_TABSTOP }
+    ensures { result ≡ greatest (map (cursor_column lines.now tabstop) (ranges_of lines.now sels.now)) }
 {
-    let mut most = 0;
-    for n in numbers {
-        most = most.max(*n);
+    let mut last = 0;
+    for sel in sels {
+        let column = column_of(lines, *sel, tabstop);
+        last = last.max(column);
     }
-    most
+    last
 }
 
-// Whether the spaces that bring columns to one are more characters than a text may have.
-fn lack_too_much(columns: &[u32], last: u32) -> bool
-    ensures { result ≡ nat_lt MAX_CHARS (lacking last columns.now) }
+// How many spaces bring the cursor of a selection to a display column.
+fn lacking_before(lines: &Lines, sel: Sel, tabstop: u32, last: u32) -> usize
+    requires inside { IsInside lines.now sel }
+    requires some { 1 ≤ tabstop }
+    requires few { tabstop ≤ MAX_TABSTOP }
+    ensures { result ≡ last - cursor_column lines.now tabstop (range_of lines.now sel) }
+{
+    last.saturating_sub(column_of(lines, sel, tabstop)) as usize
+}
+
+// Whether the spaces that bring the cursors of selections to a display column are more characters than a text may have.
+fn lack_too_much(lines: &Lines, sels: &[Sel], tabstop: u32, last: u32) -> bool
+    requires inside { AreInside lines.now sels.now }
+    requires some { 1 ≤ tabstop }
+    requires few { tabstop ≤ MAX_TABSTOP }
+    ensures { result ≡ nat_lt MAX_CHARS (lacking last (map (cursor_column lines.now tabstop) (ranges_of lines.now sels.now))) }
 {
     let mut room = MAX_CHARS;
-    for column in columns {
-        let count = last.saturating_sub(*column) as usize;
+    for sel in sels {
+        let count = lacking_before(lines, *sel, tabstop, last);
         if room < count {
             return true;
         }

@@ -1,4 +1,3 @@
-pub mod CountingLemmas
 pub mod WorldLemmas
 pub mod PlayLemmas
 pub mod SeatLemmas

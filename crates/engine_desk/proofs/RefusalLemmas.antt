@@ -4,7 +4,7 @@ use Rattle.std.specs.Prelude.{if◌then◌else◌, ◌&&◌, not, nat_le, IfSome
 use Rattle.std.specs.declared.option.Option.{Option}
 use Rattle.std.proofs.lemmas.Bool.{leb-true}
 use Rattle.session_desk.specs.Histories.{Met}
-use Rattle.session_desk.specs.Tokens.{Home, PassView, PassRefuses}
+use Rattle.session_desk.specs.Tokens.{Home, DeskPlace, IsOf, PassView, IsSamePass, PassRefuses}
 use Rattle.session_desk.proofs.HistoryLemmas.{met_through}
 use Rattle.session_events.specs.declared.event.Event.{Event}
 use Rattle.session_events.specs.declared.event.Entry.{Entry}
@@ -17,8 +17,8 @@ use Rattle.session_events.specs.Seats.{Refuses as SeatRefuses, StaysUnbroken}
 use Rattle.kak_engine.specs.Held.{refused_at, refused_by}
 use Rattle.kak_engine.specs.Steps.{run, is_session_full, crowded_by}
 use Rattle.engine_desk.specs.Sharing.{Frame, MoveAnswers, marked_behind}
-use Rattle.engine_desk.specs.Sitting.{told_behind}
-use Rattle.engine_desk.proofs.SeatLemmas.{whose}
+use Rattle.engine_desk.specs.Sitting.{IsAtDesk, told_behind}
+use Rattle.engine_desk.proofs.SeatLemmas.{whose, begins-refused}
 
 -- a refusal for a reason that the history gives
 abbrev IsPlain : StepFault → Type 0
@@ -119,3 +119,13 @@ pub seat-refused : (home : Home Frame) (b a : PassView Entry Frame) (event : Eve
 seat-refused home b a event fault told told' count s met c t =
     subst (λ (o : Option ℕ). IsRefusal home.frame.limit a.seen b.number event fault told o a.mark) (sym (t ∙ ap (told_behind fault told) c))
     (any-refusal home.frame.limit a.seen b.number event s.marked fault told a.mark (met_through told b.mark s.marked met s.met) s.answer.why s.answer.wanting s.answer.mark_is)
+
+-- behind a move that was refused, the pass is of the desk still, and it isn't known what its client has missed
+pub desk-refused : (home : Home Frame) (b a : PassView Entry Frame) (first : List Entry) (told told' : Option ℕ) (event : Event) (fault : StepFault) (count : ℕ) {old : Option Bool} → IsAtDesk home b first told old → IsSamePass b a → PassRefuses whose (MoveAnswers home.frame) b a event fault
+    → count ≡ length a.seen → told' ≡ told_behind fault told count → IsAtDesk home a first told' None
+desk-refused home b a first told told' event fault count at same s c t = record {
+  own = subst (λ (p : DeskPlace Frame). IsOf p home) (sym same.place) at.own;
+  met = (seat-refused home b a event fault told told' count s at.met c t).met;
+  known = tt;
+  begins = begins-refused home b a first event fault s at.begins;
+}

@@ -1,11 +1,11 @@
 -- What the steps and the looks of a pass are to the seat of its client.
-use Rattle.std.proofs.Common.{◌≡◌, ⊎_elim, inl, ℕ, Bool, true, false, List, [], ◌∷◌, ◌++◌, refl, sym, ap, ◌∙◌, subst}
-use Rattle.std.specs.Prelude.{if◌then◌else◌, ◌==◌, ◌&&◌, not, Some, None}
+use Rattle.std.proofs.Common.{◌≡◌, ⊎_elim, inl, ℕ, Bool, true, false, List, [], ◌∷◌, ◌++◌, length, refl, sym, ap, ◌∙◌, subst, arith, append-nil, length-append}
+use Rattle.std.specs.Prelude.{if◌then◌else◌, ◌==◌, ◌&&◌, not, Some, None, IfSome}
 use Rattle.std.specs.declared.option.Option.{Option}
 use Rattle.std.proofs.lemmas.Bool.{eq-eqb}
-use Rattle.session_desk.specs.Histories.{entries_by as own_entries}
+use Rattle.session_desk.specs.Histories.{entries_by as own_entries, StartsWith, Met}
 use Rattle.session_desk.specs.Tokens.{Home, DeskPlace, IsOf, PassView, IsSamePass, PassAdds, PassRefuses, SeesMore}
-use Rattle.session_desk.proofs.HistoryLemmas.{starts_through, none_between, met_through}
+use Rattle.session_desk.proofs.HistoryLemmas.{starts_itself, starts_through, none_between, met_through}
 use Rattle.session_turns.specs.Histories.{own}
 use Rattle.session_events.specs.declared.event.Event.{Event}
 use Rattle.session_events.specs.declared.event.Event.TheVariants.{Join, Key as Struck, Refresh, Leave}
@@ -50,7 +50,7 @@ in-behind who seen between now others e here =
 
 -- a seat of the desk `home`, with a pass and what its client was told
 abbrev pub at_desk : Home Frame → PassView Entry Frame → Option ℕ → Seated
-at_desk home pass told = desk_seat_of (record { home = home; pass = pass; told = told })
+at_desk home pass told = desk_seat_of (record { home = home; pass = pass; first = []; told = told })
 
 module _ (home : Home Frame) (b a : PassView Entry Frame) (told told' : Option ℕ) where
   -- more of the history was seen
@@ -116,11 +116,63 @@ missed-own limit before mark who event output after marked t = by (is_leave even
     by false true e f = sym (ap (λ (p : Bool). p && has_news who now) (here e) ∙ news-drawn who before (entry_with who event t.answers) f (eq-eqb who who refl))
     by false false e f = sym (ap (λ (p : Bool). p && has_news who now) (here e) ∙ news-new who before (entry_with who event t.answers) f)
 
+-- what a pass had seen at first stands in front of what it has seen: behind a move that was taken, or refused, and behind a look
+pub begins-taken : (home : Home Frame) (b a : PassView Entry Frame) (first : List Entry) (event : Event) (output : Output) → PassAdds whose (MoveAnswers home.frame) b a event output → StartsWith b.seen first → StartsWith a.seen first
+begins-taken home b a first event output s begins =
+    starts_through a.seen (b.seen ++ s.between) first (s.entry ∷ [], s.seen) (starts_through (b.seen ++ s.between) b.seen first (s.between, refl) begins)
+
+pub begins-refused : (home : Home Frame) (b a : PassView Entry Frame) (first : List Entry) (event : Event) (fault : StepFault) → PassRefuses whose (MoveAnswers home.frame) b a event fault → StartsWith b.seen first → StartsWith a.seen first
+begins-refused home b a first event fault s begins = starts_through a.seen b.seen first (s.between, s.seen) begins
+
+-- a seat that was made
+pub desk_new : (home : Home Frame) (pass : PassView Entry Frame) → IsOf pass.place home → IsAtDesk home pass pass.seen None None
+desk_new home pass own = record { own = own; met = inl refl; known = tt; begins = starts_itself pass.seen }
+
+-- behind a look the pass is of the desk still, where the client was told the mark that was met, and what it has missed
+pub desk_seen : (home : Home Frame) (b a : PassView Entry Frame) (first : List Entry) (told told' : Option ℕ) (missed missed' : Option Bool) → IsAtDesk home b first told missed → IsSamePass b a → SeesMore whose b a → Met told' a.mark → IfSome missed' (λ m. m ≡ has_missed a.number a.seen)
+    → IsAtDesk home a first told' missed'
+desk_seen home b a first told told' missed missed' at same s met known = record {
+  own = subst (λ (p : DeskPlace Frame). IsOf p home) (sym same.place) at.own;
+  met = met;
+  known = known;
+  begins = starts_through a.seen b.seen first s.begins at.begins;
+}
+
+-- the same behind two looks
+pub desk_looked : (home : Home Frame) (b m a : PassView Entry Frame) (first : List Entry) (told told' : Option ℕ) (missed missed' : Option Bool) → IsAtDesk home b first told missed → IsSamePass b m → SeesMore whose b m → IsSamePass m a → SeesMore whose m a → Met told' a.mark → IfSome missed' (λ k. k ≡ has_missed a.number a.seen)
+    → IsAtDesk home a first told' missed'
+desk_looked home b m a first told told' missed missed' at same s same' t met known = record {
+  own = subst (λ (p : DeskPlace Frame). IsOf p home) (sym (same'.place ∙ same.place)) at.own;
+  met = met;
+  known = known;
+  begins = starts_through a.seen m.seen first t.begins (starts_through m.seen b.seen first s.begins at.begins);
+}
+
+-- and where nothing came, what the client has missed is the same
+pub desk_glanced : (home : Home Frame) (b a : PassView Entry Frame) (first : List Entry) (told : Option ℕ) (missed : Option Bool) → IsAtDesk home b first told missed → IsSamePass b a → SeesMore whose b a → length a.seen ≡ length b.seen → IsAtDesk home a first told missed
+desk_glanced home b a first told missed at same s count =
+    desk_seen home b a first told told missed missed at same s (met_through told b.mark a.mark at.met s.mark)
+    (subst (λ (n : ℕ). IfSome missed (λ m. m ≡ has_missed n a.seen)) (sym same.number) (subst (λ (h : List Entry). IfSome missed (λ m. m ≡ has_missed b.number h)) (sym nothing) at.known))
+  where
+    empty : (rest : List Entry) → length rest ≡ 0 → rest ≡ []
+    empty [] e = refl
+    empty (x ∷ rest) e = absurd (omega (arith, e))
+
+    none : s.begins.0 ≡ []
+    none = let both = ap length s.begins.1 ∙ length-append b.seen s.begins.0 in empty s.begins.0 (omega (arith, count, both))
+
+    nothing : a.seen ≡ b.seen
+    nothing = s.begins.1 ∙ ap (λ (rest : List Entry). b.seen ++ rest) none ∙ append-nil b.seen
+
+-- for the looks of a seat
+pub ruleset looking = (desk_seen, desk_looked, desk_glanced)
+
 -- behind a move that was taken, the pass is of the desk still, and it is known whether its client has missed something
-pub desk-taken : (home : Home Frame) (b a : PassView Entry Frame) (told : Option ℕ) (event : Event) (output : Output) (missed : Bool) {old : Option Bool} → IsAtDesk home b told old → IsSamePass b a → PassAdds whose (MoveAnswers home.frame) b a event output → missed ≡ missed_behind event
-    → IsAtDesk home a told (Some missed)
-desk-taken home b a told event output missed at same s m = record {
+pub desk-taken : (home : Home Frame) (b a : PassView Entry Frame) (first : List Entry) (told : Option ℕ) (event : Event) (output : Output) (missed : Bool) {old : Option Bool} → IsAtDesk home b first told old → IsSamePass b a → PassAdds whose (MoveAnswers home.frame) b a event output → missed ≡ missed_behind event
+    → IsAtDesk home a first told (Some missed)
+desk-taken home b a first told event output missed at same s m = record {
   own = subst (λ (p : DeskPlace Frame). IsOf p home) (sym same.place) at.own;
   met = inl (⊎_elim (λ (e : told ≡ None). e) (λ (e : told ≡ b.mark). e ∙ s.unmarked.0) at.met);
   known = m ∙ missed-own home.frame.limit (b.seen ++ s.between) None b.number event output a.seen None s.answer ∙ ap (λ (n : ℕ). has_missed n a.seen) (sym same.number);
+  begins = begins-taken home b a first event output s at.begins;
 }

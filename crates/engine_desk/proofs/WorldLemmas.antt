@@ -1,60 +1,23 @@
 -- The clients that are here, as an engine's world has them.
 use Rattle.std.proofs.Common.{◌≡◌, ℕ, ◌+◌, ◌<◌, ◌≤◌, Bool, true, false, List, [], ◌∷◌, ◌++◌, length, refl, sym, ap, ◌∙◌, subst, arith}
-use Rattle.std.specs.Prelude.{if◌then◌else◌, not, ◌&&◌, ◌==◌, filter, Some, None}
+use Rattle.std.specs.Prelude.{if◌then◌else◌, ◌&&◌, ◌==◌, Some, None}
 use Rattle.std.specs.List.{list_any}
 use Rattle.std.specs.declared.option.Option.{Option}
-use Rattle.std.proofs.lemmas.List.{map-append, length-map}
 use Rattle.session_events.specs.declared.event.Event.{Event}
-use Rattle.session_events.specs.declared.event.Event.TheVariants.{Join, Key as Struck, Refresh, Leave}
 use Rattle.session_events.specs.declared.event.Answered.{Answered}
 use Rattle.session_events.specs.declared.event.Entry.{Entry}
 use Rattle.session_events.specs.Entries.{is_join, entry_with}
 use Rattle.session_events.specs.Missing.{has_news, has_missed}
-use Rattle.kak_world.specs.declared.clients.Client.{Client}
 use Rattle.kak_world.specs.declared.world.TheConstants.{MAX_CLIENTS}
-use Rattle.kak_world.specs.Flat.{Flat, opening, is_of, joined_by, left_by_client}
-use Rattle.kak_world.specs.Keeping.{whos_of}
-use Rattle.kak_engine.specs.Steps.{after_entry, after_event, run_from, run}
 use Rattle.kak_engine.specs.Honesty.{Outside}
 use Rattle.kak_engine.specs.Held.{HeldEngine, refused_at, refused_by}
 use Rattle.kak_engine.specs.Seating.{WasHonest}
 use Rattle.kak_engine.proofs.SeatingLemmas.{honest-first}
-use Rattle.kak_engine.proofs.KeepingLaws.{keeps_key, keeps_refresh}
+use Rattle.kak_engine.proofs.HereLemmas.{here-count}
 use Rattle.kak_engine.proofs.LegalLemmas.{allowed}
-use Rattle.engine_desk.specs.Counting.{here_after, here_from, here_among, joined_among, comings}
+use Rattle.session_events.specs.Counting.{here_after, here_among, joined_among, comings}
 use Rattle.engine_desk.specs.Sharing.{IsBeside, new_shared, glimpse_of}
-use Rattle.engine_desk.proofs.CountingLemmas.{here-more, here-few, comings-more, here-present}
-
-whos-come : (who : ℕ) (flat : Flat) → whos_of (joined_by who flat).clients ≡ whos_of flat.clients ++ who ∷ []
-unfolding joined_by
-whos-come who flat = map-append (λ (c : Client). c.who) flat.clients _
-
-whos-left : (who : ℕ) (clients : List Client) → whos_of (filter (λ c. not (is_of who c)) clients) ≡ filter (λ number. not (number == who)) (whos_of clients)
-whos-left who [] = refl
-whos-left who (c ∷ clients) = by (c.who == who) (whos-left who clients)
-  where
-    by : (t : Bool) → whos_of (filter (λ c. not (is_of who c)) clients) ≡ filter (λ number. not (number == who)) (whos_of clients)
-        → whos_of (if not t then c ∷ filter (λ c. not (is_of who c)) clients else filter (λ c. not (is_of who c)) clients) ≡ (if not t then c.who ∷ filter (λ number. not (number == who)) (whos_of clients) else filter (λ number. not (number == who)) (whos_of clients))
-    by true e = e
-    by false e = ap (λ (numbers : List ℕ). c.who ∷ numbers) e
-
-whos-go : (who : ℕ) (flat : Flat) → whos_of (left_by_client who flat).clients ≡ filter (λ number. not (number == who)) (whos_of flat.clients)
-unfolding left_by_client
-whos-go who flat = whos-left who flat.clients
-
-whos-after : (who : ℕ) (event : Event) (answers : List Answered) (flat : Flat) → whos_of (after_event who event answers flat).clients ≡ here_after who event (whos_of flat.clients)
-whos-after who Join answers flat = whos-come who flat
-whos-after who (Struck key) answers flat = (keeps_key who key answers flat).whos
-whos-after who (Refresh asked) answers flat = (keeps_refresh who flat).whos
-whos-after who Leave answers flat = whos-go who flat
-
-whos-run : (flat : Flat) (history : List Entry) → whos_of (run_from flat history).clients ≡ here_from (whos_of flat.clients) history
-whos-run flat [] = refl
-whos-run flat (e ∷ history) = whos-run (after_entry e flat) history ∙ ap (λ (here : List ℕ). here_from here history) (whos-after e.who e.event e.answers flat)
-
--- as many clients are in the world as are here
-pub here-count : (history : List Entry) → length (here_among history) ≡ length (run history).clients
-here-count history = sym (ap length (whos-run opening history)) ∙ length-map (run history).clients (λ (c : Client). c.who)
+use Rattle.session_events.proofs.CountingLemmas.{here-more, here-few, comings-more, here-present}
 
 -- an engine that refuses nothing has no reason in its history
 refused-none : (mark : Option ℕ) (history : List Entry) (limit who : ℕ) (event : Event) → refused_at mark history limit who event ≡ None → refused_by history limit who event ≡ None

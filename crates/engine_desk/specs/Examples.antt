@@ -4,7 +4,7 @@ use Rattle.session_events.specs.declared.event.Event.TheVariants.{Join, Refresh,
 use Rattle.session_events.specs.declared.event.Entry.{Entry}
 use Rattle.session_events.specs.declared.fault.StepFault.TheVariants.{Broken, NoClient, NoMemory}
 use Rattle.session_events.specs.Entries.{entry_of}
-use Rattle.engine_desk.specs.Counting.{here_among, joined_among, comings}
+use Rattle.session_events.specs.Counting.{here_among, joined_among, comings}
 use Rattle.engine_desk.specs.Sharing.{glimpse_of, marked_behind}
 use Rattle.engine_desk.specs.Sitting.{told_behind}
 

@@ -1,4 +1,3 @@
-pub mod Counting
 pub mod Sharing
 pub mod Sitting
 pub mod Examples

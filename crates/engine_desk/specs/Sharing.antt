@@ -14,9 +14,10 @@ use Rattle.session_events.specs.Missing.{has_missed}
 use Rattle.kak_world.specs.declared.world.TheConstants.{MAX_CLIENTS}
 use Rattle.kak_engine.specs.Honesty.{Outside}
 use Rattle.kak_engine.specs.Held.{HeldEngine, refused_at, marked_by}
+use Rattle.kak_engine.specs.Seating.{WasHonest}
 use Rattle.kak_engine.specs.Steps.{run, given_by, AreAskedFor}
 use Rattle.engine_desk.specs.declared.glimpse.Glimpse.{Glimpse}
-use Rattle.engine_desk.specs.Counting.{here_among, joined_among, comings}
+use Rattle.session_events.specs.Counting.{here_among, joined_among, comings}
 
 -- what no move changes: how many entries the history may have, leavings aside, and the outside as it was at first
 pub record Frame : Type 0 where
@@ -37,6 +38,10 @@ new_shared outside limit = record {
   engine = record { history = []; mark = None; limit = limit; outside = outside };
   first = outside;
 }
+
+-- since an engine at a desk was made, its outside was asked for what its history says and for nothing else, and was honest
+abbrev pub WasAskedJustThat : Shared → Type 0
+WasAskedJustThat shared = WasHonest shared.engine.history shared.engine.mark shared.first shared.engine.outside
 
 -- What stands beside an engine is as its history and its mark say, with room for the numbers of all that may be here.
 pub record IsBeside (held : HeldEngine) (here : List ℕ) (room joins : ℕ) (mark : Option ℕ) : Type 0 where

@@ -1,21 +1,19 @@
 //! What no move on an engine changes.
 
 use kak_engine::Outside;
-use kak_files::Files;
-use regex_ports::PatternMaker;
 use std::marker::Model;
 
 /// How many entries the history may have, and the outside as it was at first. No value of it is made.
 #[derive(Drop)]
-pub struct EngineFrame<F: Files, M: PatternMaker> {
+pub struct EngineFrame<O: Outside> {
     limit: u64,
-    first: Outside<F, M>,
+    first: O,
 }
 
-impl<F: Files, M: PatternMaker> Model for EngineFrame<F, M> {
+impl<O: Outside> Model for EngineFrame<O> {
     ghost use Rattle.engine_desk.specs.Sharing.{Frame};
 
     ghost Value = { Frame };
 
-    ghost view = { λ f. record { limit = f.limit; first = f.first } };
+    ghost view = { λ f. record { limit = f.limit; first = O.seen f.first } };
 }

@@ -1,38 +1,39 @@
 //! The seat of one client at a desk.
 
 ghost use Rattle.std.specs.Prelude.{◌≡◌};
-ghost use Rattle.session_desk.specs.Histories.{Met};
+ghost use Rattle.session_desk.specs.Histories.{StartsWith, Met};
 ghost use Rattle.session_desk.specs.Tokens.{IsOf};
 ghost use Rattle.engine_desk.specs.Sitting.{new_seat, told_behind, missed_behind};
 
 use crate::shared::SharedEngine;
-use kak_files::Files;
-use regex_ports::PatternMaker;
+use kak_engine::Outside;
 use session_desk::{Desk, Pass};
 use session_events::{Event, LiveSeat, Missed, Output, Seat, StepFault, is_drawing, is_leave};
 use std::alloc::Global;
 use std::marker::Model;
+use std::snapshot::Snapshot;
 use std::sync::Wait;
 
-/// The seat of one client at a desk, at which others play too. Contracts see the desk, the client's pass, and the mark of the
-/// session where the client was told it.
+/// The seat of one client at a desk, at which others play too. Contracts see the desk, the client's pass, what this had seen
+/// when the seat was made, and the mark of the session where the client was told it.
 #[derive(Drop)]
-pub struct DeskSeat<'a, R: Wait, F: Files + Drop, M: PatternMaker + Drop> {
+pub struct DeskSeat<'a, R: Wait, O: Outside + Drop> {
     rt: &'a R,
-    desk: &'a Desk<SharedEngine<F, M>>,
-    pass: Pass<SharedEngine<F, M>>,
+    desk: &'a Desk<SharedEngine<O>>,
+    pass: Pass<SharedEngine<O>>,
+    first: Snapshot<Pass<SharedEngine<O>>>,
     told: Option<u64>,
     missed: Option<bool>,
 }
 
-impl<'a, R: Wait, F: Files + Drop, M: PatternMaker + Drop> Model for DeskSeat<'a, R, F, M> {
+impl<'a, R: Wait, O: Outside + Drop> Model for DeskSeat<'a, R, O> {
     ghost use Rattle.engine_desk.specs.Sitting.{DeskSeated, IsAtDesk};
 
     ghost Value = { DeskSeated };
 
-    ghost view = { λ s. record { home = s.desk.now; pass = s.pass; told = s.told } };
+    ghost view = { λ s. record { home = s.desk.now; pass = s.pass; first = s.first.value.seen; told = s.told } };
 
-    ghost invariant = { λ s. IsAtDesk s.desk.now s.pass s.told s.missed };
+    ghost invariant = { λ s. IsAtDesk s.desk.now s.pass s.first.value.seen s.told s.missed };
 }
 
 // The mark that the client was told, behind a refusal at so many entries.
@@ -53,35 +54,40 @@ fn misses(event: Event) -> bool
     !is_drawing(event) && !is_leave(event)
 }
 
-impl<'a, R: Wait, F: Files + Drop, M: PatternMaker + Drop> DeskSeat<'a, R, F, M> {
+impl<'a, R: Wait, O: Outside + Drop> DeskSeat<'a, R, O> {
     /// The seat of the client whose pass this is.
     pub fn new(
         rt: &'a R,
-        desk: &'a Desk<SharedEngine<F, M>>,
-        pass: Pass<SharedEngine<F, M>>,
-    ) -> DeskSeat<'a, R, F, M>
+        desk: &'a Desk<SharedEngine<O>>,
+        pass: Pass<SharedEngine<O>>,
+    ) -> DeskSeat<'a, R, O>
         requires { IsOf pass.place desk.now }
         ensures { result ≡ new_seat desk.now pass }
     {
+        let first = Snapshot::of(&pass);
         DeskSeat {
             rt,
             desk,
             pass,
+            first,
             told: None,
             missed: None,
         }
     }
 
-    /// The client's pass, to be given back to the keeper of the desk.
-    pub fn into_pass(self) -> Pass<SharedEngine<F, M>>
+    /// The client's pass, to be given back to the keeper of the desk. What it had seen when the seat was made stands in front of
+    /// what it has seen.
+    pub fn into_pass(self) -> Pass<SharedEngine<O>>
         ensures pass { result ≡ self.entry.pass }
         ensures own { IsOf result.place self.entry.home }
         ensures met { Met self.entry.told result.mark }
+        ensures sees { StartsWith result.seen self.entry.first }
     {
         let DeskSeat {
             rt: _,
             desk: _,
             pass,
+            first: _,
             told: _,
             missed: _,
         } = self;
@@ -89,7 +95,7 @@ impl<'a, R: Wait, F: Files + Drop, M: PatternMaker + Drop> DeskSeat<'a, R, F, M>
     }
 }
 
-impl<'a, R: Wait, F: Files + Drop, M: PatternMaker + Drop> Seat for DeskSeat<'a, R, F, M> {
+impl<'a, R: Wait, O: Outside + Drop> Seat for DeskSeat<'a, R, O> {
     ghost use Rattle.kak_engine.specs.Steps.{given_by, crowded_by};
     ghost use Rattle.engine_desk.specs.Sitting.{AtDesk, desk_seat_of, desk_of};
 
@@ -118,7 +124,8 @@ impl<'a, R: Wait, F: Files + Drop, M: PatternMaker + Drop> Seat for DeskSeat<'a,
     }
 }
 
-impl<'a, R: Wait, F: Files + Drop, M: PatternMaker + Drop> LiveSeat for DeskSeat<'a, R, F, M> {
+impl<'a, R: Wait, O: Outside + Drop> LiveSeat for DeskSeat<'a, R, O> {
+    #[tactic(auto, using(crate::proofs::SeatLemmas::looking))]
     fn look(&mut self) -> Missed {
         if let Some(at) = self.told {
             return Missed::Broken(at);

@@ -1,22 +1,20 @@
 //! An engine that is played at a desk.
 
-ghost use Rattle.std.specs.Prelude.{◌≡◌, ◌==◌, ◌<◌, ◌+◌, ◌^◌, ◌&&◌, if◌then◌else◌, IfOk, IfErr, None, true, vec_len, vec_capacity};
+ghost use Rattle.std.specs.Prelude.{◌≡◌, ◌==◌, ◌<◌, ◌+◌, ◌^◌, ◌&&◌, if◌then◌else◌, IfOk, IfErr, IfSome, None, true, length, vec_len, vec_capacity};
 ghost use Rattle.std.specs.List.{list_any};
 ghost use Rattle.session_events.specs.Entries.{is_join};
 ghost use Rattle.session_events.specs.Legal.{IsLegal};
 ghost use Rattle.session_events.specs.Missing.{has_news};
-ghost use Rattle.kak_engine.specs.Honesty.{outside_of, IsUntouched, IsKept};
+ghost use Rattle.kak_engine.specs.Honesty.{IsUntouched, IsKept};
 ghost use Rattle.kak_engine.specs.Seating.{WasHonest};
 ghost use Rattle.kak_engine.specs.Steps.{exchanges, AllAsked};
-ghost use Rattle.engine_desk.specs.Counting.{here_after};
-ghost use Rattle.engine_desk.specs.Sharing.{new_shared, marked_behind};
+ghost use Rattle.session_events.specs.Counting.{here_after};
+ghost use Rattle.engine_desk.specs.Sharing.{new_shared, marked_behind, WasAskedJustThat};
 
 use crate::frame::EngineFrame;
 use crate::glimpse::Glimpse;
-use kak_engine::{Engine, NoEngine};
-use kak_files::Files;
+use kak_engine::{Engine, NoEngine, Outside};
 use kak_world::MAX_CLIENTS;
-use regex_ports::PatternMaker;
 use session_desk::Played;
 use session_events::{Entry, Event, Output, StepFault, has_news};
 use std::alloc::Global;
@@ -25,15 +23,15 @@ use std::snapshot::Snapshot;
 
 /// An engine that is played at a desk. Contracts see what the engine holds, and the outside as it was when it was made.
 #[derive(Drop)]
-pub struct SharedEngine<F: Files, M: PatternMaker> {
-    engine: Engine<F, M>,
-    first: Snapshot<Engine<F, M>>,
+pub struct SharedEngine<O: Outside> {
+    engine: Engine<O>,
+    first: Snapshot<Engine<O>>,
     here: Vec<u32>,
     joins: u64,
     mark: Option<u64>,
 }
 
-impl<F: Files, M: PatternMaker> Model for SharedEngine<F, M> {
+impl<O: Outside> Model for SharedEngine<O> {
     ghost use Rattle.std.specs.Prelude.{vec_capacity};
     ghost use Rattle.kak_engine.specs.Seating.{WasHonest};
     ghost use Rattle.engine_desk.specs.Sharing.{Shared, IsBeside};
@@ -81,23 +79,18 @@ fn is_stale(here: &[u32], history: &[Entry], who: u32) -> bool
     here.contains(&who) && has_news(history, who)
 }
 
-impl<F: Files, M: PatternMaker> SharedEngine<F, M> {
-    /// An engine with an empty history, which may have so many entries (leaving aside), with files and a maker of patterns.
-    /// The files hold what they held when they were made, where that is told.
-    pub fn new(
-        alloc: Global,
-        files: F,
-        patterns: M,
-        limit: u64,
-    ) -> Result<SharedEngine<F, M>, NoEngine<F, M>>
-        requires { IsUntouched (F.shelf files).told }
-        ensures new { IfOk result (λ s. s ≡ new_shared (outside_of (F.shelf files) (M.refusals patterns)) limit) }
-        ensures none { IfErr result (λ none. (none.files ≡ files) × (none.patterns ≡ patterns)) }
+impl<O: Outside> SharedEngine<O> {
+    /// An engine with an empty history, which may have so many entries (leaving aside), with an outside. The outside's files
+    /// hold what they held when they were made, where that is told.
+    pub fn new(alloc: Global, outside: O, limit: u64) -> Result<SharedEngine<O>, NoEngine<O>>
+        requires { IsUntouched (O.seen outside).shelf.told }
+        ensures new { IfOk result (λ s. s ≡ new_shared (O.seen outside) limit) }
+        ensures none { IfErr result (λ none. none.outside ≡ outside) }
     {
         let Ok(here) = Vec::with_capacity(alloc, MAX_CLIENTS) else {
-            return Err(NoEngine { files, patterns });
+            return Err(NoEngine { outside });
         };
-        let engine = Engine::new(alloc, files, patterns, limit)?;
+        let engine = Engine::new(alloc, outside, limit)?;
         let first = Snapshot::of(&engine);
         Ok(SharedEngine {
             engine,
@@ -108,12 +101,12 @@ impl<F: Files, M: PatternMaker> SharedEngine<F, M> {
         })
     }
 
-    /// The files and the maker of patterns. In each entry the outside answered what it was asked for, and it was honest in
-    /// all of them: what was exchanged with the files led from what they held when the engine was made to what they hold
-    /// where they tell it, and their failures and the maker's refusals were counted.
-    pub fn into_outside(self) -> (F, M)
-        ensures honest { WasHonest self.engine.history self.engine.mark self.first (outside_of (F.shelf result.0) (M.refusals result.1)) }
-        ensures kept { self.engine.mark ≡ None → IsKept (exchanges self.engine.history) (F.shelf result.0) }
+    /// The outside. In each entry it answered what it was asked for, it was asked for nothing else, and it was honest in all of
+    /// them: what was exchanged with the files led from what they held when the engine was made to what they hold where they
+    /// tell it, and their failures and the maker's refusals were counted.
+    pub fn into_outside(self) -> O
+        ensures honest { WasHonest self.engine.history self.engine.mark self.first (O.seen result) }
+        ensures kept { self.engine.mark ≡ None → IsKept (exchanges self.engine.history) (O.seen result).shelf }
         ensures asked { AllAsked self.engine.history }
     {
         let SharedEngine {
@@ -126,18 +119,28 @@ impl<F: Files, M: PatternMaker> SharedEngine<F, M> {
         engine.into_outside()
     }
 
+    /// A law: since the engine was made, its outside was asked for just what the entries of its history ask for, and then, where
+    /// the engine is broken, for a beginning of what one event more asks for; and it was honest.
+    pub fn outside_was_asked(&self)
+        ensures { WasAskedJustThat self.now }
+    {
+        let _ = &self.engine;
+    }
+
     /// The entries, in order. Each client comes first and once, and makes nothing behind its going; behind as many entries
-    /// as there may be, there are leavings alone. In each the outside answered what it was asked for.
+    /// as there may be, there are leavings alone; and never are more than 64 clients here. In each the outside answered what it
+    /// was asked for. A mark is the number of the entries.
     pub fn history(&self) -> &[Entry]
         ensures value { result.now ≡ self.now.engine.history }
         ensures legal { IsLegal self.now.engine.limit self.now.engine.history }
         ensures asked { AllAsked self.now.engine.history }
+        ensures marked { IfSome self.now.engine.mark (λ at. at ≡ length self.now.engine.history) }
     {
         self.engine.history()
     }
 }
 
-impl<F: Files + Drop, M: PatternMaker + Drop> Played for SharedEngine<F, M> {
+impl<O: Outside + Drop> Played for SharedEngine<O> {
     ghost use Rattle.engine_desk.specs.Sharing.{frame_of, MoveAnswers, Shows};
 
     type Move = Event;
@@ -150,7 +153,7 @@ impl<F: Files + Drop, M: PatternMaker + Drop> Played for SharedEngine<F, M> {
 
     type Entry = Entry;
 
-    type Frame = EngineFrame<F, M>;
+    type Frame = EngineFrame<O>;
 
     ghost entries = { λ s. s.engine.history };
 

@@ -2,15 +2,13 @@
 
 use crate::engine_scripts::{Act, SCRIPTS, Script, Told};
 use drawings::{Drawing, DrawnLine};
-use kak_engine::Engine;
-use kak_files::NoFiles;
+use kak_engine::{Engine, NoOutside};
 use key_names::read_keys;
-use regex_ports::NoPatterns;
 use session_events::{Entry, Event, Output, StepFault};
 use std::alloc::{AllocError, Global};
 use std::test::Fail;
 
-type Played = Engine<NoFiles, NoPatterns>;
+type Played = Engine<NoOutside>;
 
 // What a client is shown: its lines, the column of its cursor, its mode line and its status.
 #[derive(Drop)]
@@ -46,7 +44,7 @@ fn count_keys_of(history: &[Entry], who: u32) -> usize {
 
 // A new engine at which so many clients have joined, by numbers from 0.
 fn engine_of(alloc: Global, limit: u64, clients: u32) -> Result<Played, Fail> {
-    let mut engine = Engine::new(alloc, NoFiles::new(), NoPatterns::new(), limit)?;
+    let mut engine = Engine::new(alloc, NoOutside::new(), limit)?;
     join_all(alloc, &mut engine, clients)?;
     Ok(engine)
 }

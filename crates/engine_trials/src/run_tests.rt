@@ -2,9 +2,8 @@
 
 use crate::client_lines::{EMPTY, INVALID, OPTIONS};
 use kak_app::{Status, run};
-use kak_files::NoFiles;
+use kak_engine::NoOutside;
 use kak_ports::{FailingCalls, MemSink, MemSource};
-use regex_ports::NoPatterns;
 use std::alloc::{AllocError, Global};
 use std::test::Fail;
 
@@ -118,13 +117,12 @@ fn play(alloc: Global, row: &Row) -> Result<Left, Fail> {
     let words = words(alloc)?;
     let mut source = source_of(alloc, row)?;
     let mut sink = MemSink::new(alloc, row.room, FailingCalls::none(alloc))?;
-    let (status, _files, _patterns) = run(
+    let (status, _outside) = run(
         alloc,
         words.as_slice(),
         &mut source,
         &mut sink,
-        NoFiles::new(),
-        NoPatterns::new(),
+        NoOutside::new(),
     );
     Ok(left_of(alloc, status, &sink)?)
 }

@@ -98,7 +98,7 @@ fn read_array(alloc: Global, items: &[Value]) -> Result<Request, LineError>
         return Err(LineError::Refused(Refusal::Params));
     }
     let keys = read_items(alloc, items)?;
-    Ok(Request::Keys(Keys::from_vec(keys)))
+    Ok(Request::Keys(Keys::of_vec(keys)))
 }
 
 // The request of the parameters of a request object.
@@ -108,7 +108,7 @@ fn read_parameters(alloc: Global, value: &Value) -> Result<Request, LineError>
     ensures error { IfErr result (λ e. IsLineError e (texts_request (texts_in (get (codes "params") (view value.now))))) }
 {
     let Some(parameters) = value.get("params") else {
-        return Ok(Request::Keys(Keys::from_vec(Vec::new(alloc))));
+        return Ok(Request::Keys(Keys::of_vec(Vec::new(alloc))));
     };
     let Some(items) = parameters.as_array() else {
         return Err(LineError::Refused(Refusal::Params));

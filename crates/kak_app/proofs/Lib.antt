@@ -1,2 +1,3 @@
+pub mod GenLemmas
 pub mod ReplayLemmas
 pub mod RunLemmas

@@ -1,13 +1,13 @@
 -- How a replay is what its status says.
-use Rattle.std.proofs.Common.{◌≡◌, ℕ, inl, inr, Bool, true, false, ◌==◌, List, [], ◌∷◌, ◌++◌, length, map, Ok, Err, None, subst, refl, sym, ap, ◌∙◌, arith}
+use Rattle.std.proofs.Common.{◌≡◌, ℕ, ◌+◌, ◌<◌, ◌≤◌, inl, inr, Bool, true, false, ◌==◌, List, [], ◌∷◌, ◌++◌, length, map, drop, get_or, Ok, Err, None, subst, refl, sym, ap, ◌∙◌, arith}
 use Rattle.std.proofs.lemmas.Bool.{eqb-true}
-use Rattle.std.specs.Prelude.{◌&&◌}
+use Rattle.std.specs.Prelude.{◌&&◌, nat_le}
 use Rattle.std.specs.List.{list_all, flat_map}
-use Rattle.std.proofs.lemmas.List.{length-map}
-use Rattle.std.proofs.lemmas.List.Folds.{list_all-map}
+use Rattle.std.proofs.lemmas.List.{length-map, drop_more, drop_all}
 use Rattle.std.specs.declared.result.Result.{Result}
 use Rattle.kak_ports.specs.Ports.{Inlet, Outlet}
-use Rattle.ui_board.specs.Told.{Kind, Told, Shown, report_of}
+use Rattle.ui_board.specs.declared.ui.Kind.{Kind}
+use Rattle.ui_board.specs.Told.{Told, Shown, report_of}
 use Rattle.session_replay.specs.Players.{told_by_all}
 use Rattle.session_events.specs.declared.event.Entry.{Entry}
 use Rattle.session_events.specs.Meaning.{Gives}
@@ -23,20 +23,20 @@ use Rattle.session_lines.specs.Stops.{StaysWhole}
 use Rattle.kak_engine.specs.Steps.{given_by, AllAsked}
 use Rattle.kak_engine.specs.Honesty.{Outside}
 use Rattle.kak_engine.specs.Seating.{WasHonest}
-use Rattle.kak_engine.proofs.HonestLemmas.{honest-none, stays-still}
+use Rattle.kak_engine.proofs.HonestLemmas.{honest-none, none-begun}
 use Rattle.session_events.specs.declared.limits.TheConstants.{MAX_ENTRIES}
 use Rattle.kak_app.specs.Runs.{Around}
-use Rattle.kak_app.specs.Replays.{Replayed, ReplayedOutside, is_kind, is_ui_count, is_replay_call}
+use Rattle.kak_app.specs.Replays.{Replayed, ReplayedOutside, says_kind, say_kinds, is_ui_count, is_replay_call}
 use Rattle.kak_app.proofs.RunLemmas.{nothing-legal, before, whole}
 
 -- nothing was played, since memory was wanting
-pub nothing-played : (kinds : List Kind) (a : Around) → Replayed kinds (Err stop.NoMemory) a a
-nothing-played kinds a = record {
+pub nothing-played : (kinds : List Kind) (boxes : ℕ → Option Shown) (a : Around) → Replayed kinds boxes (Err stop.NoMemory) a a
+nothing-played kinds boxes a = record {
   history = [];
   legal = nothing-legal MAX_ENTRIES;
-  replayed = nothing-replayed given_by MAX_ENTRIES kinds [] a.inlet a.outlet refl;
+  replayed = nothing-replayed given_by MAX_ENTRIES kinds boxes [] a.inlet a.outlet refl;
   asked = tt;
-  honest = record { behind = a.outside; honest = honest-none a.outside; stays = stays-still a.outside };
+  honest = record { behind = a.outside; honest = honest-none a.outside; begun = none-begun [] a.outside a.outside refl };
   fault = inl refl;
 }
 
@@ -49,12 +49,12 @@ outside-is (Err stop.NoMemory) was mark h first last none s w = before h mark fi
 outside-is (Err stop.WriteFault) was mark h first last none s w = whole h mark first last w (s none)
 
 -- lines were replayed
-pub lines-replayed : (kinds : List Kind) (r : Result ReplayEnd Stop) (limit after : ℕ) (was mark : Option ℕ) (h : List Entry) (a b : Around) → limit ≡ MAX_ENTRIES → was ≡ None → after ≡ limit → IsLegal after h
-    → WasReplayed given_by limit kinds h a.inlet b.inlet a.outlet b.outlet r → ReplayFaultIs r a.inlet b.inlet → StaysWhole r was mark → AllAsked h → WasHonest h mark a.outside b.outside → Replayed kinds r a b
-lines-replayed kinds r limit after was mark h a b most none same l w f s asked honest = record {
+pub lines-replayed : (kinds : List Kind) (boxes : ℕ → Option Shown) (r : Result ReplayEnd Stop) (limit after : ℕ) (was mark : Option ℕ) (h : List Entry) (a b : Around) → limit ≡ MAX_ENTRIES → was ≡ None → after ≡ limit → IsLegal after h
+    → WasReplayed given_by limit kinds boxes h a.inlet b.inlet a.outlet b.outlet r → ReplayFaultIs r a.inlet b.inlet → StaysWhole r was mark → AllAsked h → WasHonest h mark a.outside b.outside → Replayed kinds boxes r a b
+lines-replayed kinds boxes r limit after was mark h a b most none same l w f s asked honest = record {
   history = h;
   legal = subst (λ n. IsLegal n h) (same ∙ most) l;
-  replayed = subst (λ n. WasReplayed given_by n kinds h a.inlet b.inlet a.outlet b.outlet r) most w;
+  replayed = subst (λ n. WasReplayed given_by n kinds boxes h a.inlet b.inlet a.outlet b.outlet r) most w;
   asked = asked;
   honest = outside-is r was mark h a.outside b.outside none s honest;
   fault = f;
@@ -64,13 +64,13 @@ lines-replayed kinds r limit after was mark h a b most none same l w f s asked h
 lost-as : (replay : Replay) (at : ℕ) (left : Inlet) (bytes : List ℕ) → IsReplayed replay (Err (stop.Broken at)) left bytes → IsReplayed replay (Err stop.NoMemory) left bytes
 lost-as replay at left bytes r = record { first = r.first; order = r.order; strangers = r.strangers; ends = r.ends }
 
-broken-lost : (g : Gives) (limit : ℕ) (kinds : List Kind) (h : List Entry) (left rest : Inlet) (before now : Outlet) (at : ℕ) → WasReplayed g limit kinds h left rest before now (Err (stop.Broken at)) → WasReplayed g limit kinds h left rest before now (Err stop.NoMemory)
-broken-lost g limit kinds h left rest before now at w = by w.ended w.replayed w.reports
+broken-lost : (g : Gives) (limit : ℕ) (kinds : List Kind) (boxes : ℕ → Option Shown) (h : List Entry) (left rest : Inlet) (before now : Outlet) (at : ℕ) → WasReplayed g limit kinds boxes h left rest before now (Err (stop.Broken at)) → WasReplayed g limit kinds boxes h left rest before now (Err stop.NoMemory)
+broken-lost g limit kinds boxes h left rest before now at w = by w.ended w.replayed w.reports
   where
-    lost : (at : ℕ) → IsReplayed (record { gives = g; limit = limit; lines = w.lines; history = h; shown = w.shown }) (Err (stop.Broken at)) left w.bytes → now ≡ before → WasReplayed g limit kinds h left rest before now (Err stop.NoMemory)
-    lost at r same = record { bytes = w.bytes; takes = w.takes; few = w.few; lines = w.lines; shown = w.shown; kinds_are = w.kinds_are; ended = Err stop.NoMemory; replayed = lost-as _ at left w.bytes r; reports = (refl, same) }
+    lost : (at : ℕ) → IsReplayed (record { gives = g; limit = limit; lines = w.lines; history = h; shown = w.shown }) (Err (stop.Broken at)) left w.bytes → now ≡ before → WasReplayed g limit kinds boxes h left rest before now (Err stop.NoMemory)
+    lost at r same = record { bytes = w.bytes; takes = w.takes; few = w.few; lines = w.lines; shown = w.shown; kinds_are = w.kinds_are; ended = Err stop.NoMemory; boxes_are = tt; replayed = lost-as _ at left w.bytes r; reports = (refl, same) }
 
-    by : (ended : Result ReplayEnd Stop) → IsReplayed (record { gives = g; limit = limit; lines = w.lines; history = h; shown = w.shown }) ended left w.bytes → Reports ended (Err (stop.Broken at)) before now (flat_map report_of w.shown) → WasReplayed g limit kinds h left rest before now (Err stop.NoMemory)
+    by : (ended : Result ReplayEnd Stop) → IsReplayed (record { gives = g; limit = limit; lines = w.lines; history = h; shown = w.shown }) ended left w.bytes → Reports ended (Err (stop.Broken at)) before now (flat_map report_of w.shown) → WasReplayed g limit kinds boxes h left rest before now (Err stop.NoMemory)
     by (Err (stop.Broken at)) r q = lost at r q.1
     by (Err stop.NoMemory) r q = let e = q.0 in cc
     by (Err stop.HistoryFull) r (inl q) = let e = q.0 in cc
@@ -88,23 +88,54 @@ broken-lost g limit kinds h left rest before now at w = by w.ended w.replayed w.
     by (Ok ending.Full) r (inl q) = let e = q.0 in cc
     by (Ok ending.Full) r (inr q) = let e = q.0 in cc
 
-pub broken-replayed : (kinds : List Kind) (at : ℕ) (a b : Around) → Replayed kinds (Err (stop.Broken at)) a b → Replayed kinds (Err stop.NoMemory) a b
-broken-replayed kinds at a b r = record {
+pub broken-replayed : (kinds : List Kind) (boxes : ℕ → Option Shown) (at : ℕ) (a b : Around) → Replayed kinds boxes (Err (stop.Broken at)) a b → Replayed kinds boxes (Err stop.NoMemory) a b
+broken-replayed kinds boxes at a b r = record {
   history = r.history;
   legal = r.legal;
-  replayed = broken-lost given_by MAX_ENTRIES kinds r.history a.inlet b.inlet a.outlet b.outlet at r.replayed;
+  replayed = broken-lost given_by MAX_ENTRIES kinds boxes r.history a.inlet b.inlet a.outlet b.outlet at r.replayed;
   asked = r.asked;
   honest = r.honest;
   fault = r.fault;
 }
 
--- the program may be called by words that are all kinds, where their number fits, and by no others
-pub call-fits : {W : Type 0} (f : W → List ℕ) (words : List W) (count : ℕ) (r : Bool) → list_all (λ word. is_kind (f word)) words ≡ true → r ≡ is_ui_count count (length words) → r ≡ is_replay_call (map f words) count
-call-fits f words count r k e =
-    e ∙ ap (is_ui_count count) (sym (length-map words f)) ∙ ap (λ b. b && is_ui_count count (length (map f words))) (sym (list_all-map is_kind f words ∙ k))
+-- the program may be called by words that say the kinds of the user interfaces, where their number fits, and by no others
+module _ {W U : Type 0} (f : W → List ℕ) (k : U → Kind) (words : List W) (uis : List U) where
+  counts : is_ui_count (length uis) (length words) ≡ is_ui_count (length (map k uis)) (length (map f words))
+  counts = ap (λ n. is_ui_count n (length words)) (sym (length-map uis k)) ∙ ap (is_ui_count (length (map k uis))) (sym (length-map words f))
 
-pub call-fails : {W : Type 0} (f : W → List ℕ) (words : List W) (count : ℕ) → list_all (λ word. is_kind (f word)) words ≡ false → false ≡ is_replay_call (map f words) count
-call-fails f words count k = ap (λ b. b && is_ui_count count (length (map f words))) (sym (list_all-map is_kind f words ∙ k))
+  pub call-fits : (r : Bool) → true ≡ is_ui_count (length uis) (length words) → r ≡ say_kinds (map f words) (map k uis) → r ≡ is_replay_call (map f words) (map k uis)
+  call-fits r c e = e ∙ ap (λ b. b && say_kinds (map f words) (map k uis)) (c ∙ counts)
+
+  pub call-fails : false ≡ is_ui_count (length uis) (length words) → false ≡ is_replay_call (map f words) (map k uis)
+  call-fails c = ap (λ b. b && say_kinds (map f words) (map k uis)) (c ∙ counts)
+
+  module _ (n : ℕ) (x : W) (y : U) (i : n < length words) (j : n < length uis) (here : x ≡ get_or words n x) (there : y ≡ get_or uis n y) where
+    kinds-at : say_kinds (map f (drop n words)) (map k (drop n uis)) ≡ (says_kind (f x) (k y) && say_kinds (map f (drop (n + 1) words)) (map k (drop (n + 1) uis)))
+    kinds-at =
+        ap (λ ws. say_kinds (map f ws) (map k (drop n uis))) (drop_more words n x i ∙ ap (λ w. w ∷ drop (n + 1) words) (sym here))
+        ∙ ap (λ us. say_kinds (f x ∷ map f (drop (n + 1) words)) (map k us)) (drop_more uis n y j ∙ ap (λ u. u ∷ drop (n + 1) uis) (sym there))
+
+    -- one word more says the kind of its user interface, or doesn't
+    pub kinds-more : says_kind (f x) (k y) ≡ true → say_kinds (map f (drop n words)) (map k (drop n uis)) ≡ say_kinds (map f words) (map k uis)
+        → say_kinds (map f (drop (n + 1) words)) (map k (drop (n + 1) uis)) ≡ say_kinds (map f words) (map k uis)
+    kinds-more said h = sym (kinds-at ∙ ap (λ b. b && say_kinds (map f (drop (n + 1) words)) (map k (drop (n + 1) uis))) said) ∙ h
+
+    pub kinds-differ : says_kind (f x) (k y) ≡ false → say_kinds (map f (drop n words)) (map k (drop n uis)) ≡ say_kinds (map f words) (map k uis) → false ≡ say_kinds (map f words) (map k uis)
+    kinds-differ said h = sym (kinds-at ∙ ap (λ b. b && say_kinds (map f (drop (n + 1) words)) (map k (drop (n + 1) uis))) said) ∙ h
+
+  -- no word is left
+  pub kinds-last : (n : ℕ) → length words ≤ n → length uis ≡ length words → say_kinds (map f (drop n words)) (map k (drop n uis)) ≡ say_kinds (map f words) (map k uis) → true ≡ say_kinds (map f words) (map k uis)
+  kinds-last n le same h =
+      sym (ap (λ ws. say_kinds (map f ws) (map k (drop n uis))) (drop_all n words le) ∙ ap (λ us. say_kinds [] (map k us)) (drop_all n uis (omega (arith, le, same)))) ∙ h
+
+-- a number that fits is that of the words
+same-count : (a b : Bool) (count words : ℕ) → (a && b && count == words) ≡ true → count ≡ words
+same-count true true count words e = eqb-true count words e
+same-count true false count words e = let no : false ≡ true = e in cc
+same-count false b count words e = let no : false ≡ true = e in cc
+
+pub count-fits : (count words : ℕ) → true ≡ is_ui_count count words → count ≡ words
+count-fits count words e = same-count (nat_le 1 words) (nat_le words 64) count words (sym e)
 
 new-front : (t : Bool) (told : List Told) (rest : List Told) → (length told == 0) ≡ t → (t ≡ true → rest ≡ []) → t ≡ true → told ++ rest ≡ []
 new-front t told rest is later e = ap (λ q. q ++ rest) (by told (eqb-true (length told) 0 (is ∙ e))) ∙ later e

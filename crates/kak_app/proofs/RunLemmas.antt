@@ -27,16 +27,16 @@ use Rattle.session_lines.specs.Stops.{StaysWhole}
 use Rattle.session_lines.specs.Reading.{FaultIs}
 use Rattle.session_lines.specs.Serving.{service}
 use Rattle.session_lines.specs.Connections.{WasServed, EndCauses}
-use Rattle.kak_engine.specs.Steps.{given_by, exchanges, answers_in, AllAsked}
+use Rattle.kak_engine.specs.Steps.{given_by, asked_in, answers_in, AllAsked}
 use Rattle.kak_engine.specs.Honesty.{Outside, IsHonest}
 use Rattle.kak_engine.specs.Seating.{WasHonest}
-use Rattle.kak_engine.proofs.HonestLemmas.{honest-none, stays-still}
+use Rattle.kak_engine.proofs.HonestLemmas.{honest-none, none-begun}
 use Rattle.session_events.specs.declared.limits.TheConstants.{MAX_ENTRIES}
 use Rattle.kak_app.specs.Runs.{Around, WasHonestBefore, OutsideIs, Ran, IsHistoryFull, ReadsAre, WritesAre}
 
 -- without an entry a history is one that there can be
 pub nothing-legal : (limit : ℕ) → IsLegal limit []
-nothing-legal limit = record { lives = λ who. refl; within = none limit }
+nothing-legal limit = record { lives = λ who. refl; within = none limit; few = omega arith }
   where
     none : (n : ℕ) → AreLeavings (drop n [])
     none zero = tt
@@ -63,7 +63,7 @@ nothing-ran keys a = record {
     end_is = tt;
   };
   asked = tt;
-  honest = record { behind = a.outside; honest = honest-none a.outside; stays = stays-still a.outside };
+  honest = record { behind = a.outside; honest = honest-none a.outside; begun = none-begun [] a.outside a.outside refl };
   full = tt;
   reads = inl refl;
   writes = refl;
@@ -147,10 +147,10 @@ nobody-else x z a b same none = ap told (sym b ∙ same.others ∙ a ∙ ap (λ 
 
 -- how the outside was left, by how playing ended
 pub before : (history : List Entry) (mark : Option ℕ) (first last : Outside) → WasHonest history mark first last → WasHonestBefore history first last
-before history mark first last w = record { behind = w.behind; honest = w.honest; stays = w.stays }
+before history mark first last w = record { behind = w.behind; honest = w.honest; begun = w.begun }
 
-pub whole : (history : List Entry) (mark : Option ℕ) (first last : Outside) → WasHonest history mark first last → mark ≡ None → IsHonest (answers_in history) (exchanges history) first last
-whole history mark first last w none = subst (λ (o : Outside). IsHonest (answers_in history) (exchanges history) first o) (sym (w.alone none)) w.honest
+pub whole : (history : List Entry) (mark : Option ℕ) (first last : Outside) → WasHonest history mark first last → mark ≡ None → IsHonest (answers_in history) (asked_in history) first last
+whole history mark first last w none = subst (λ (o : Outside). IsHonest (answers_in history) (asked_in history) first o) (sym (w.alone none)) w.honest
 
 outside-is : (r : Result InputEnd Stop) (x z : Seated) (first last : Outside) → x.mark ≡ None → StaysWhole r x.mark z.mark → WasHonest z.seen z.mark first last → OutsideIs r z.seen first last
 outside-is (Ok ending) x z first last none s w = whole z.seen z.mark first last w (s none)

@@ -1,9 +1,8 @@
--- What a run of the program did: the promise of `kak`.
+-- What a run of the program for a client did: the promise of `kak -ui json`.
 use Rattle.std.specs.Prelude.{◌≡◌, ℕ, ◌+◌, ◌⊎◌, Bool, false, ◌&&◌, List, [], ◌∷◌, length, codes, ⊤, Ok, Err}
 use Rattle.std.specs.Str.{bytes_eq, chars}
 use Rattle.std.specs.declared.result.Result.{Result}
 use Rattle.kak_ports.specs.Ports.{Inlet, Outlet, Rose}
-use Rattle.kak_files.specs.Files.{Shelf}
 use Rattle.key_names.specs.declared.key.Key.{Key}
 use Rattle.program_words.specs.Files.{is_file_name, edit_keys}
 use Rattle.session_events.specs.declared.event.Entry.{Entry}
@@ -16,8 +15,8 @@ use Rattle.session_lines.specs.declared.reading.InputEnd.TheVariants as ending
 use Rattle.session_lines.specs.Serving.{service}
 use Rattle.session_lines.specs.Stops.{NoneFailed}
 use Rattle.session_lines.specs.Connections.{WasServed}
-use Rattle.kak_engine.specs.Steps.{given_by, exchanges, answers_in, AllAsked}
-use Rattle.kak_engine.specs.Honesty.{Outside, outside_of, OutsideStays, IsHonest}
+use Rattle.kak_engine.specs.Steps.{given_by, asked_in, answers_in, AllAsked, IsBegunBehind}
+use Rattle.kak_engine.specs.Honesty.{Outside, IsHonest}
 use Rattle.session_events.specs.declared.limits.TheConstants.{MAX_ENTRIES}
 use Rattle.kak_app.specs.declared.program.Status.{Status}
 use Rattle.kak_app.specs.declared.program.Status.TheVariants.{Done, Usage, ReadFault, WriteFault, NoMemory, HistoryFull, InputFull, BadClient}
@@ -37,11 +36,11 @@ code_of BadClient = 7
 abbrev pub is_ui_json : List ℕ → List ℕ → Bool
 is_ui_json kind form = bytes_eq kind (codes "-ui") && bytes_eq form (codes "json")
 
--- whether the program may be called by these words: `-ui json`, and a file's name, if there is one
-abbrev pub is_call : List (List ℕ) → Bool
-is_call (kind ∷ form ∷ []) = is_ui_json kind form
-is_call (kind ∷ form ∷ file ∷ []) = is_ui_json kind form && is_file_name (chars file)
-is_call _ = false
+-- whether these are the words for a client: `-ui json`, and a file's name, if there is one
+abbrev pub is_client_call : List (List ℕ) → Bool
+is_client_call (kind ∷ form ∷ []) = is_ui_json kind form
+is_client_call (kind ∷ form ∷ file ∷ []) = is_ui_json kind form && is_file_name (chars file)
+is_client_call _ = false
 
 -- the keys that are struck before the first drawing: those that open the file that is named, if one is
 abbrev pub keys_at_start : List (List ℕ) → List Key
@@ -66,32 +65,33 @@ abbrev pub WritesAre : Result InputEnd Stop → Outlet → Outlet → Type 0
 WritesAre (Err stop.WriteFault) before now = Rose before.faults now.faults
 WritesAre _ before now = NoneFailed before now
 
--- What is around a run: its input, its output, and its files with its maker of patterns.
+-- What is around a run: its input, its output, and its outside.
 pub record Around : Type 0 where
   pub inlet : Inlet
   pub outlet : Outlet
   pub outside : Outside
 
-abbrev pub around_run : Inlet → Outlet → Shelf → ℕ → Around
-around_run inlet outlet shelf refusals = record { inlet = inlet; outlet = outlet; outside = outside_of shelf refusals }
+abbrev pub around_run : Inlet → Outlet → Outside → Around
+around_run inlet outlet outside = record { inlet = inlet; outlet = outlet; outside = outside }
 
--- The outside was honest in a history, as far as to a step that memory was wanting for: that step has no entry, and behind
--- the last one no count fell, and what the files held when they were made stayed.
+-- The outside was asked for what a history says, and was honest, as far as to a step that memory was wanting for: that step has
+-- no entry, and in it the outside was asked for a beginning of what the step asks for.
 pub record WasHonestBefore (history : List Entry) (first last : Outside) : Type 0 where
   pub behind : Outside
-  pub honest : IsHonest (answers_in history) (exchanges history) first behind
-  pub stays : OutsideStays behind last
+  pub honest : IsHonest (answers_in history) (asked_in history) first behind
+  pub begun : IsBegunBehind history behind last
 
--- how the outside was left: it was honest in the whole history, or where memory was wanting, as far as to that step
+-- how the outside was left: it was asked for what the whole history says and was honest, or where memory was wanting, as far as
+-- to that step
 abbrev pub OutsideIs : Result InputEnd Stop → List Entry → Outside → Outside → Type 0
 OutsideIs (Err stop.NoMemory) history first last = WasHonestBefore history first last
 OutsideIs (Err (stop.Broken at)) history first last = WasHonestBefore history first last
-OutsideIs _ history first last = IsHonest (answers_in history) (exchanges history) first last
+OutsideIs _ history first last = IsHonest (answers_in history) (asked_in history) first last
 
 -- Client 0 was served, with these keys before its first drawing: there is a history that there can be, with no entry of
 -- anybody else, and what was read, what stands in that history and what was written belong together as they do at the end of
--- a connection. In each entry the outside answered what it was asked for, and it was honest: each read was answered by what
--- the files held, what they hold is what the writes left, and each failure was counted.
+-- a connection. In each entry the outside answered what it was asked for, it was asked for nothing else, and it was honest:
+-- each read was answered by what the files held, what they hold is what the writes left, and each failure was counted.
 pub record Ran (keys : List Key) (result : Result InputEnd Stop) (old new : Around) : Type 0 where
   pub history : List Entry
   pub alone : AreOf 0 history

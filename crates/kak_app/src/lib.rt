@@ -1,6 +1,9 @@
-//! The whole of the program for one client: `kak -ui json [file]`.
+//! The whole of the programs `kak`, for one client (`kak -ui json [file]`) and for a generated session (`kak gen CLIENTS KEYS SEED`),
+//! and `kakreplay`.
 #![tactic(auto)]
 
+pub mod examples;
+pub mod generating;
 pub mod limits;
 pub mod program;
 pub mod replaying;

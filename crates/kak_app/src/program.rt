@@ -1,4 +1,4 @@
-//! The run of the program: one client, from its first drawing to its leaving.
+//! The run of the program: one client, from its first drawing to its leaving; or a generated session.
 
 ghost use Rattle.std.specs.Prelude.{◌≡◌, List, [], map, string_bytes, true, false, IfOk};
 ghost use Rattle.key_names.specs.declared.key.Key.{Key};
@@ -8,14 +8,15 @@ ghost use Rattle.session_lines.specs.Connections.{WasServed, EndCauses};
 ghost use Rattle.session_lines.specs.Reading.{FaultIs};
 ghost use Rattle.session_lines.specs.Serving.{service};
 ghost use Rattle.session_lines.specs.Stops.{StaysWhole};
-ghost use Rattle.kak_app.specs.Runs.{Around, around_run, Ran, code_of, is_ui_json, is_call, keys_at_start, RunAnswers};
+ghost use Rattle.program_words.specs.GenWords.{gen_words};
+ghost use Rattle.kak_app.specs.Runs.{Around, around_run, Ran, code_of, is_ui_json, is_client_call, keys_at_start, RunAnswers};
+ghost use Rattle.kak_app.specs.Generated.{is_call, CallAnswers};
 
-use kak_engine::{EngineSeats, NoEngine};
-use kak_files::Files;
+use crate::generating::generate;
+use kak_engine::{EngineSeats, NoEngine, Outside};
 use kak_ports::{Sink, Source};
 use key_names::Key;
-use program_words::{edit_keys, is_file_name};
-use regex_ports::PatternMaker;
+use program_words::{edit_keys, is_file_name, read_gen_words};
 use session_events::{Event, MAX_ENTRIES, Seat};
 use session_lines::{InputEnd, Stop, serve};
 use std::alloc::{AllocError, Global};
@@ -23,9 +24,9 @@ use std::alloc::{AllocError, Global};
 /// How a run of the program ended.
 #[derive(Clone, Copy, PartialEq, Eq, Debug)]
 pub enum Status {
-    /// The client was let go, or the input was read to its end.
+    /// The client was let go, or the input was read to its end; or the summary of a generated session was written.
     Done,
-    /// The words aren't `-ui json`, or these and a file's name. Nothing was read or written.
+    /// The words aren't those of the program. Nothing was read or written.
     Usage,
     /// The input failed. What was read before is answered.
     ReadFault,
@@ -66,9 +67,9 @@ fn is_ui_json(kind: &str, form: &str) -> bool
     kind == "-ui" && form == "json"
 }
 
-// Whether the program may be called by these words.
-fn is_call(words: &[String]) -> bool
-    ensures { result ≡ is_call (map (λ word. string_bytes word) words.now) }
+// Whether these are the words for a client.
+fn is_client_call(words: &[String]) -> bool
+    ensures { result ≡ is_client_call (map (λ word. string_bytes word) words.now) }
 {
     match words {
         [kind, form] => is_ui_json(kind.as_str(), form.as_str()),
@@ -112,25 +113,23 @@ fn attend<S: Seat, I: Source, K: Sink>(
     }
 }
 
-// Serves the one client of a new session, with keys before its first drawing. Gives back the files and the maker of patterns.
-fn serve_client<I: Source, K: Sink, F: Files, M: PatternMaker>(
+// Serves the one client of a new session, with keys before its first drawing. Gives back the outside.
+fn serve_client<I: Source, K: Sink, O: Outside>(
     alloc: Global,
     keys: &[Key],
     input: &mut I,
     output: &mut K,
-    files: F,
-    patterns: M,
-) -> (Result<InputEnd, Stop>, F, M)
-    requires { IsUntouched (F.shelf files).told }
-    ensures { Ran keys.now result.0 (around_run (I.inlet input.old) (K.outlet output.old) (F.shelf files) (M.refusals patterns)) (around_run (I.inlet input.new) (K.outlet output.new) (F.shelf result.1) (M.refusals result.2)) }
+    outside: O,
+) -> (Result<InputEnd, Stop>, O)
+    requires { IsUntouched (O.seen outside).shelf.told }
+    ensures { Ran keys.now result.0 (around_run (I.inlet input.old) (K.outlet output.old) (O.seen outside)) (around_run (I.inlet input.new) (K.outlet output.new) (O.seen result.1)) }
 {
-    match EngineSeats::new(alloc, files, patterns, MAX_ENTRIES, 0) {
+    match EngineSeats::new(alloc, outside, MAX_ENTRIES, 0) {
         Ok(mut seats) => {
             let ended = attend(alloc, &mut seats, input, output, keys);
-            let (files, patterns) = seats.into_outside();
-            (ended, files, patterns)
+            (ended, seats.into_outside())
         }
-        Err(NoEngine { files, patterns }) => (Err(Stop::NoMemory), files, patterns),
+        Err(NoEngine { outside }) => (Err(Stop::NoMemory), outside),
     }
 }
 
@@ -151,38 +150,50 @@ fn status_of(ended: Result<InputEnd, Stop>) -> Status
     }
 }
 
-/// Runs the program: its words are to be `-ui json`, with a file's name behind them where one is to be opened first, its
-/// input has the client's lines, and its output is sent what the client is shown and refused. The client has the number 0.
-/// The files, which hold what they held when they were made where they tell it, and the maker of patterns are given back as
-/// what the history says of them left them.
-pub fn run<I: Source, K: Sink, F: Files, M: PatternMaker>(
+// Runs the program for a client.
+fn run_client<I: Source, K: Sink, O: Outside>(
     alloc: Global,
     words: &[String],
     input: &mut I,
     output: &mut K,
-    files: F,
-    patterns: M,
-) -> (Status, F, M)
-    requires { IsUntouched (F.shelf files).told }
-    ensures refused { is_call (map (λ word. string_bytes word) words.now) ≡ false → result.0 ≡ Status.Usage }
-    ensures taken { is_call (map (λ word. string_bytes word) words.now) ≡ true → result.0 ≡ Status.Usage → ⊥ }
-    ensures answers { RunAnswers (keys_at_start (map (λ word. string_bytes word) words.now)) result.0 (around_run (I.inlet input.old) (K.outlet output.old) (F.shelf files) (M.refusals patterns)) (around_run (I.inlet input.new) (K.outlet output.new) (F.shelf result.1) (M.refusals result.2)) }
+    outside: O,
+) -> (Status, O)
+    requires { IsUntouched (O.seen outside).shelf.told }
+    ensures refused { is_client_call (map (λ word. string_bytes word) words.now) ≡ false → result.0 ≡ Status.Usage }
+    ensures taken { is_client_call (map (λ word. string_bytes word) words.now) ≡ true → result.0 ≡ Status.Usage → ⊥ }
+    ensures answers { RunAnswers (keys_at_start (map (λ word. string_bytes word) words.now)) result.0 (around_run (I.inlet input.old) (K.outlet output.old) (O.seen outside)) (around_run (I.inlet input.new) (K.outlet output.new) (O.seen result.1)) }
 {
-    if !is_call(words) {
-        return (Status::Usage, files, patterns);
+    if !is_client_call(words) {
+        return (Status::Usage, outside);
     }
     match opening_keys(alloc, words) {
         Ok(keys) => {
-            let (ended, files, patterns) = serve_client(
-                alloc,
-                keys.as_slice(),
-                input,
-                output,
-                files,
-                patterns,
-            );
-            (status_of(ended), files, patterns)
+            let (ended, outside) = serve_client(alloc, keys.as_slice(), input, output, outside);
+            (status_of(ended), outside)
         }
-        Err(_error) => (Status::NoMemory, files, patterns),
+        Err(_error) => (Status::NoMemory, outside),
+    }
+}
+
+/// Runs the program. Its words are to be `-ui json`, with a file's name behind them where one is to be opened first: then its
+/// input has the client's lines, and its output is sent what the client is shown and refused. The client has the number 0. Or
+/// they are `gen` and three numbers: then a generated session is played, of which its output is sent the summary, and nothing
+/// is read. The outside, whose files hold what they held when they were made where they tell it, is given back as what the
+/// history says of it left it: it was asked for that and for nothing else.
+pub fn run<I: Source, K: Sink, O: Outside>(
+    alloc: Global,
+    words: &[String],
+    input: &mut I,
+    output: &mut K,
+    outside: O,
+) -> (Status, O)
+    requires { IsUntouched (O.seen outside).shelf.told }
+    ensures refused { is_call (map (λ word. string_bytes word) words.now) ≡ false → result.0 ≡ Status.Usage }
+    ensures taken { is_call (map (λ word. string_bytes word) words.now) ≡ true → result.0 ≡ Status.Usage → ⊥ }
+    ensures answers { CallAnswers (gen_words (map (λ word. string_bytes word) words.now)) (map (λ word. string_bytes word) words.now) result.0 (around_run (I.inlet input.old) (K.outlet output.old) (O.seen outside)) (around_run (I.inlet input.new) (K.outlet output.new) (O.seen result.1)) }
+{
+    match read_gen_words(words) {
+        Some(session) => generate(alloc, session, output, outside),
+        None => run_client(alloc, words, input, output, outside),
     }
 }

@@ -1,39 +1,47 @@
 //! The run of the replaying program: lines of many clients, in the order in which they are written.
 
-ghost use Rattle.std.specs.Prelude.{◌≡◌, ◌≢◌, ◌==◌, List, [], length, map, string_bytes, true, false, Err};
+ghost use Rattle.std.specs.Prelude.{◌≡◌, ◌≢◌, ◌==◌, [], length, map, string_bytes, true, false, Err};
 ghost use Rattle.std.specs.List.{list_all};
-ghost use Rattle.ui_board.specs.Told.{Kind};
+ghost use Rattle.ui_board.specs.Boards.{shown_at};
 ghost use Rattle.session_replay.specs.Players.{kinds_of, told_by_all};
 ghost use Rattle.kak_engine.specs.Honesty.{IsUntouched};
-ghost use Rattle.kak_app.specs.Runs.{Around, around_run};
-ghost use Rattle.kak_app.specs.Replays.{is_kind, is_ui_count, is_replay_call, Replayed, ReplayAnswers};
+ghost use Rattle.kak_app.specs.Runs.{around_run};
+ghost use Rattle.kak_app.specs.Replays.{says_kind, say_kinds, is_ui_count, is_call_for, ReplayAnswers, StatusSays};
 
 use crate::program::Status;
-use kak_engine::{EngineSeats, NoEngine};
-use kak_files::Files;
+use kak_engine::{EngineSeats, NoEngine, Outside};
 use kak_ports::{Sink, Source};
-use regex_ports::PatternMaker;
 use session_events::MAX_ENTRIES;
 use session_lines::Stop;
 use session_replay::{ReplayEnd, replay_session};
 use std::alloc::Global;
-use ui_board::Ui;
+use ui_board::{Board, Kind, Ui};
 
 /// How many clients a replay may have: 64.
 pub const MAX_UIS: usize = 64;
 
-// Whether a word is a kind of user interface.
-fn is_kind(word: &str) -> bool
-    ensures { result ≡ is_kind word.now }
+// Whether a word says a kind of user interface.
+fn says_kind(word: &str, kind: Kind) -> bool
+    ensures { result ≡ says_kind word.now kind }
 {
-    word == "json" || word == "silent"
+    match kind {
+        Kind::Json => word == "json",
+        Kind::Silent => word == "silent",
+        Kind::Screen => word == "screen",
+    }
 }
 
-// Whether each word is a kind of user interface.
-fn are_kinds(words: &[String]) -> bool
-    ensures { result ≡ list_all (λ word. is_kind (string_bytes word)) words.now }
+// Whether each word says the kind of one user interface, in their order.
+fn say_kinds<U: Ui>(words: &[String], uis: &[U]) -> bool
+    requires { length uis.now ≡ length words.now }
+    ensures { result ≡ say_kinds (map (λ word. string_bytes word) words.now) (kinds_of U.shown uis.now) }
 {
-    words.iter().all(|word| is_kind(word.as_str()))
+    for n in 0..words.len() {
+        if !says_kind(words[n].as_str(), uis[n].kind()) {
+            return false;
+        }
+    }
+    true
 }
 
 // Whether there is one user interface for each of 1 to 64 words.
@@ -43,11 +51,11 @@ fn is_ui_count(count: usize, words: usize) -> bool
     0 < words && words <= MAX_UIS && count == words
 }
 
-// Whether the program may be called by these words, with so many user interfaces.
-fn is_replay_call(words: &[String], count: usize) -> bool
-    ensures { result ≡ is_replay_call (map (λ word. string_bytes word) words.now) count }
+// Whether the program may be called by these words, with these user interfaces.
+fn is_replay_call<U: Ui>(words: &[String], uis: &[U]) -> bool
+    ensures { result ≡ is_call_for U.shown (map (λ word. string_bytes word) words.now) uis.now }
 {
-    are_kinds(words) && is_ui_count(count, words.len())
+    is_ui_count(uis.len(), words.len()) && say_kinds(words, uis)
 }
 
 // Whether each user interface is new.
@@ -67,7 +75,7 @@ fn are_new<U: Ui>(uis: &[U]) -> bool
 
 // The status of a replay that was stopped.
 fn stop_status(stop: Stop) -> Status
-    ensures answers { (kinds : List Kind) (old new : Around) → Replayed kinds (Err stop) old new → ReplayAnswers kinds result old new }
+    ensures answers { StatusSays (Err stop) result }
     ensures used { result ≡ Status.Usage → ⊥ }
 {
     match stop {
@@ -80,7 +88,7 @@ fn stop_status(stop: Stop) -> Status
 
 // The status of a replay, by how it ended.
 fn replay_status(ended: Result<ReplayEnd, Stop>) -> Status
-    ensures answers { (kinds : List Kind) (old new : Around) → Replayed kinds ended old new → ReplayAnswers kinds result old new }
+    ensures answers { StatusSays ended result }
     ensures used { result ≡ Status.Usage → ⊥ }
 {
     match ended {
@@ -95,36 +103,36 @@ fn replay_status(ended: Result<ReplayEnd, Stop>) -> Status
 
 /// Replays the lines of an input, each with the number of its client and a space before it, on one session; the words are
 /// the kinds of the clients' user interfaces, which are handed in, in the order of the clients' numbers. At the end the
-/// output is sent the reports of all of them, in that order. One that was told something before is no user interface for a
-/// replay, and the answer is then `Usage`. The files and the maker of patterns are given back as what the
-/// history says of them left them.
-pub fn replay<I: Source, K: Sink, F: Files, M: PatternMaker>(
+/// output is sent the reports of all of them, in that order. Where they are of other kinds than the words say, or one was told
+/// something before, the answer is `Usage`. The board at which they sit at the end is given back, unless memory was wanting;
+/// where the answer is `Usage` it is empty. The outside is given back as what the history says of it left it: it was asked for
+/// that and for nothing else.
+pub fn replay<I: Source, K: Sink, O: Outside>(
     alloc: Global,
     words: &[String],
     input: &mut I,
     output: &mut K,
-    files: F,
-    patterns: M,
+    outside: O,
     uis: Vec<Box<dyn Ui>>,
-) -> (Status, F, M)
-    requires opening { IsUntouched (F.shelf files).told }
-    ensures refused { is_replay_call (map (λ word. string_bytes word) words.now) (length uis.items) ≡ false → result.0 ≡ Status.Usage }
+) -> (Status, O, Board)
+    requires opening { IsUntouched (O.seen outside).shelf.told }
+    ensures refused { is_call_for ⟦<Box<dyn Ui> as Ui>⟧.shown (map (λ word. string_bytes word) words.now) uis.items ≡ false → result.0 ≡ Status.Usage }
     ensures used { told_by_all ⟦<Box<dyn Ui> as Ui>⟧.shown uis.items ≢ [] → result.0 ≡ Status.Usage }
-    ensures taken { is_replay_call (map (λ word. string_bytes word) words.now) (length uis.items) ≡ true → told_by_all ⟦<Box<dyn Ui> as Ui>⟧.shown uis.items ≡ [] → result.0 ≡ Status.Usage → ⊥ }
-    ensures answers { ReplayAnswers (kinds_of ⟦<Box<dyn Ui> as Ui>⟧.shown uis.items) result.0 (around_run (I.inlet input.old) (K.outlet output.old) (F.shelf files) (M.refusals patterns)) (around_run (I.inlet input.new) (K.outlet output.new) (F.shelf result.1) (M.refusals result.2)) }
+    ensures taken { is_call_for ⟦<Box<dyn Ui> as Ui>⟧.shown (map (λ word. string_bytes word) words.now) uis.items ≡ true → told_by_all ⟦<Box<dyn Ui> as Ui>⟧.shown uis.items ≡ [] → result.0 ≡ Status.Usage → ⊥ }
+    ensures answers { ReplayAnswers (kinds_of ⟦<Box<dyn Ui> as Ui>⟧.shown uis.items) (λ who. shown_at ⟦<Box<dyn Ui> as Ui>⟧.shown who result.2.seats.items) result.0 (around_run (I.inlet input.old) (K.outlet output.old) (O.seen outside)) (around_run (I.inlet input.new) (K.outlet output.new) (O.seen result.1)) }
 {
-    if !is_replay_call(words, uis.len()) {
-        return (Status::Usage, files, patterns);
+    let boxes = uis.as_slice();
+    if !is_replay_call(words, boxes) {
+        return (Status::Usage, outside, Board::new(alloc));
     }
-    if !are_new(uis.as_slice()) {
-        return (Status::Usage, files, patterns);
+    if !are_new(boxes) {
+        return (Status::Usage, outside, Board::new(alloc));
     }
-    match EngineSeats::new(alloc, files, patterns, MAX_ENTRIES, 0) {
+    match EngineSeats::new(alloc, outside, MAX_ENTRIES, 0) {
         Ok(seats) => {
-            let (ended, seats) = replay_session(alloc, seats, uis, input, output);
-            let (files, patterns) = seats.into_outside();
-            (replay_status(ended), files, patterns)
+            let (ended, seats, board) = replay_session(alloc, seats, uis, input, output);
+            (replay_status(ended), seats.into_outside(), board)
         }
-        Err(NoEngine { files, patterns }) => (Status::NoMemory, files, patterns),
+        Err(NoEngine { outside }) => (Status::NoMemory, outside, Board::new(alloc)),
     }
 }

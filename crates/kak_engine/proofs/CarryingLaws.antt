@@ -1,10 +1,9 @@
 -- What every row that is done leaves as it was, is so after all that a row asks for.
 use Rattle.std.proofs.Common.{◌≡◌, ℕ, zero, suc, List, [], ◌∷◌, refl}
-use Rattle.std.specs.Prelude.{Some, None, Ok, Err}
+use Rattle.std.specs.Prelude.{Some, None, Ok, Err, encode_utf8_all}
 use Rattle.std.specs.declared.option.Option.{Option}
 use Rattle.std.specs.declared.result.Result.{Result}
 use Rattle.kak_files.specs.declared.files.FileRead.{FileRead}
-use Rattle.kak_files.specs.Exchanges.{Exchange}
 use Rattle.kak_ports.specs.declared.sink.Put.{Put}
 use Rattle.kak_words.specs.declared.parts.Command.{Command}
 use Rattle.kak_world.specs.declared.ask.Ask.{Ask}
@@ -20,7 +19,8 @@ use Rattle.command_set.specs.Files.{row_read, row_saved}
 use Rattle.command_set.specs.Finishing.{row_finish}
 use Rattle.session_events.specs.declared.event.Answered.{Answered}
 use Rattle.kak_engine.specs.Answering.{as_read, as_put}
-use Rattle.kak_engine.specs.Doing.{DoingEnd, Fine, Failed, GivenUp, Moment, Outcome, Part, DoingPlace, Go, in_world, next_after, and_then, each, unit_of, with_unit, go_on, run_command, run_read, taken_as, next_as, exchanging, go_back, by_making, by_reading, by_writing, granted, do_ask, row_body, depth_of, do_within, Do}
+use Rattle.kak_engine.specs.Asking.{Asked}
+use Rattle.kak_engine.specs.Doing.{DoingEnd, Fine, Failed, GivenUp, Moment, Outcome, Part, DoingPlace, Go, in_world, next_after, and_then, each, unit_of, with_unit, go_on, run_command, run_read, taken_as, next_as, asking, go_back, by_making, by_reading, by_writing, granted, do_ask, row_body, depth_of, do_within, Do}
 
 -- A relation of worlds before and after that holds of every row which may come in a step behind that of its key.
 pub record IsCarried (who : ℕ) (R : Flat → Flat → Type 0) : Type 0 where
@@ -79,15 +79,15 @@ keeps-next : (who : ℕ) (R : Flat → Flat → Type 0) → IsCarried who R → 
 keeps-next who R c kind part [] k m = c.same m.world
 keeps-next who R c kind part (answer ∷ later) k m = keeps-taken who R c (kind answer) part later k m
 
-keeps-back : (who : ℕ) (R : Flat → Flat → Type 0) → IsCarried who R → {A : Type 0} (go : Go) (p : DoingPlace) (exchange : A → Flat → List Exchange) (row : A → Flat → RowEnd) → KeepsAll R go → ((x : A) (flat : Flat) → R flat (row x flat).world)
-    → (x : A) → Keeps R (go_back go p exchange row x)
-keeps-back who R c go p exchange row all k x m = keeps-row who R c go p (row x m.world) (exchanging (exchange x m.world) m) all (k x m.world)
+keeps-back : (who : ℕ) (R : Flat → Flat → Type 0) → IsCarried who R → {A : Type 0} (go : Go) (p : DoingPlace) (what : A → Flat → Asked) (row : A → Flat → RowEnd) → KeepsAll R go → ((x : A) (flat : Flat) → R flat (row x flat).world)
+    → (x : A) → Keeps R (go_back go p what row x)
+keeps-back who R c go p what row all k x m = keeps-row who R c go p (row x m.world) (asking (what x m.world) m) all (k x m.world)
 
 keeps-ask : (who : ℕ) (R : Flat → Flat → Type 0) → IsCarried who R → (go : Go) (p : DoingPlace) (ask : Ask) → KeepsAll R go → Keeps R (do_ask go who p ask)
 keeps-ask who R c go p Nothing all m = c.same m.world
 keeps-ask who R c go p (Commands text) all m = keeps-read who R c go p (commands_told text) all m
 keeps-ask who R c go p (Make wanted) all m =
-    keeps-next who R c _ (go_back go p by_making (λ made flat. row_finish wanted.then made who flat)) m.answers (keeps-back who R c go p by_making (λ made flat. row_finish wanted.then made who flat) all (λ made flat. c.finishes wanted.then made flat)) m
+    keeps-next who R c _ (go_back go p (by_making (encode_utf8_all wanted.pattern)) (λ made flat. row_finish wanted.then made who flat)) m.answers (keeps-back who R c go p (by_making (encode_utf8_all wanted.pattern)) (λ made flat. row_finish wanted.then made who flat) all (λ made flat. c.finishes wanted.then made flat)) m
 keeps-ask who R c go p (Read name) all m =
     keeps-next who R c as_read (go_back go p (by_reading name) (λ read flat. row_read name read who flat)) m.answers (keeps-back who R c go p (by_reading name) (λ read flat. row_read name read who flat) all (λ read flat. c.reads name read flat)) m
 keeps-ask who R c go p (Write saving) all m =

@@ -1,9 +1,8 @@
 -- What rows ask for is done as deep as it goes, and a bound above how deep they may nest makes no difference.
 use Rattle.std.proofs.Common.{◌≡◌, ℕ, zero, suc, ◌+◌, ◌*◌, ◌<◌, ◌≤◌, List, [], ◌∷◌, refl, ap, ◌∙◌, arith}
-use Rattle.std.specs.Prelude.{Some, None, Ok, Err}
+use Rattle.std.specs.Prelude.{Some, None, Ok, Err, encode_utf8_all}
 use Rattle.std.specs.declared.option.Option.{Option}
 use Rattle.std.specs.declared.result.Result.{Result}
-use Rattle.kak_files.specs.Exchanges.{Exchange}
 use Rattle.kak_words.specs.declared.parts.Command.{Command}
 use Rattle.kak_world.specs.declared.ask.Ask.TheVariants.{Nothing, Commands, Make, Read, Write, Leave}
 use Rattle.kak_world.specs.declared.ask.EditError.{EditError}
@@ -19,7 +18,8 @@ use Rattle.command_set.proofs.FileLaws.{read_falls, saved_falls}
 use Rattle.command_set.proofs.FinishLaws.{finish_falls}
 use Rattle.session_events.specs.declared.event.Answered.{Answered}
 use Rattle.kak_engine.specs.Answering.{as_read, as_put}
-use Rattle.kak_engine.specs.Doing.{DoingEnd, Fine, Failed, GivenUp, Moment, Outcome, Part, DoingPlace, Go, in_world, next_after, and_then, each, unit_of, go_on, run_command, run_read, taken_as, next_as, exchanging, go_back, by_making, by_reading, by_writing, row_body, depth_of, do_within, Do}
+use Rattle.kak_engine.specs.Asking.{Asked}
+use Rattle.kak_engine.specs.Doing.{DoingEnd, Fine, Failed, GivenUp, Moment, Outcome, Part, DoingPlace, Go, in_world, next_after, and_then, each, unit_of, go_on, run_command, run_read, taken_as, next_as, asking, go_back, by_making, by_reading, by_writing, row_body, depth_of, do_within, Do}
 use Rattle.kak_engine.proofs.CarryingLaws.{KeepsAll, keeps-command, carried-within}
 use Rattle.kak_engine.proofs.KeepingLaws.{TakesUnits, units-carried}
 use Rattle.kak_engine.proofs.StageLemmas.{few-stages}
@@ -61,13 +61,13 @@ taken-one : {A : Type 0} (o : Option A) (x y : A → Part) (later : List Answere
 taken-one (Some a) x y later m h = h a
 taken-one None x y later m h = refl
 
-next-one : {A : Type 0} (f g : Go) (p : DoingPlace) (kind : Answered → Option A) (exchange : A → Flat → List Exchange) (row : A → Flat → RowEnd) (answers : List Answered) (m : Moment) → AreOne (3 * units_of m.world + 1) f g
+next-one : {A : Type 0} (f g : Go) (p : DoingPlace) (kind : Answered → Option A) (what : A → Flat → Asked) (row : A → Flat → RowEnd) (answers : List Answered) (m : Moment) → AreOne (3 * units_of m.world + 1) f g
     → ((a : A) → depth_of (row a m.world).row (row a m.world).world < 3 * units_of m.world + 1)
-    → next_as kind (go_back f p exchange row) answers m ≡ next_as kind (go_back g p exchange row) answers m
-next-one f g p kind exchange row [] m one falls = refl
-next-one f g p kind exchange row (answer ∷ later) m one falls =
-    taken-one (kind answer) (go_back f p exchange row) (go_back g p exchange row) later m
-    (λ a. one p (row a m.world).row (in_world (row a m.world).world (exchanging (exchange a m.world) (record m { answers = later }))) (falls a))
+    → next_as kind (go_back f p what row) answers m ≡ next_as kind (go_back g p what row) answers m
+next-one f g p kind what row [] m one falls = refl
+next-one f g p kind what row (answer ∷ later) m one falls =
+    taken-one (kind answer) (go_back f p what row) (go_back g p what row) later m
+    (λ a. one p (row a m.world).row (in_world (row a m.world).world (asking (what a m.world) (record m { answers = later }))) (falls a))
 
 -- what a row asks for
 body-one : (f g : Go) (who : ℕ) (p : DoingPlace) (row : Row) (m : Moment) → KeepsAll TakesUnits f → AreOne (depth_of row m.world) f g → row_body f who p row m ≡ row_body g who p row m
@@ -76,7 +76,7 @@ body-one f g who p GivesUp m falls one = refl
 body-one f g who p (Asks Nothing) m falls one = refl
 body-one f g who p (Asks Leave) m falls one = refl
 body-one f g who p (Asks (Commands text)) m falls one = read-one f g who p (commands_told text) m falls (λ q row n low. one q row n (omega (arith, low)))
-body-one f g who p (Asks (Make wanted)) m falls one = next-one f g p _ by_making (λ made flat. row_finish wanted.then made who flat) m.answers m one (λ made. finish_falls wanted.then made who m.world)
+body-one f g who p (Asks (Make wanted)) m falls one = next-one f g p _ (by_making (encode_utf8_all wanted.pattern)) (λ made flat. row_finish wanted.then made who flat) m.answers m one (λ made. finish_falls wanted.then made who m.world)
 body-one f g who p (Asks (Read name)) m falls one = next-one f g p as_read (by_reading name) (λ read flat. row_read name read who flat) m.answers m one (λ read. read_falls name read who m.world)
 body-one f g who p (Asks (Write saving)) m falls one = next-one f g p as_put (by_writing saving) (λ put flat. row_saved saving put who flat) m.answers m one (λ put. saved_falls saving put who m.world)
 

@@ -1,21 +1,33 @@
 -- How the outside stands behind one answer after another.
-use Rattle.std.proofs.Common.{◌≡◌, ℕ, ◌+◌, ◌-◌, ◌^◌, ◌≤◌, Bool, true, false, ◌||◌, List, [], ◌∷◌, ◌++◌, refl, sym, ap, ◌∙◌, subst, arith}
+use Rattle.std.proofs.Common.{◌≡◌, ℕ, ◌+◌, ◌-◌, ◌^◌, ◌≤◌, Bool, true, false, ◌||◌, List, [], ◌∷◌, ◌++◌, refl, sym, ap, ◌∙◌, subst, append-nil, arith}
 use Rattle.std.specs.Prelude.{min, nat_le}
 use Rattle.std.specs.List.{list_any}
 use Rattle.std.proofs.lemmas.Bool.{leb-true, leb-false}
+use Rattle.std.proofs.lemmas.List.{append_assoc}
 use Rattle.std.proofs.lemmas.List.Folds.{list_any-append}
 use Rattle.std.proofs.Math.Nat.{min-le_left, min-le_right, le-min, min-eq_left, min-eq_right}
 use Rattle.std.specs.Prelude.{Some, None}
 use Rattle.std.specs.declared.option.Option.{Option}
-use Rattle.kak_files.specs.Files.{FileRow, Shelf, ToldFiles}
-use Rattle.kak_files.specs.Exchanges.{Exchange, Leads}
+use Rattle.kak_files.specs.declared.files.FileRead.{FileRead}
+use Rattle.kak_files.specs.declared.files.FileRead.TheVariants as file
+use Rattle.kak_files.specs.declared.files.TheConstants.{MAX_FILE}
+use Rattle.kak_files.specs.Files.{FileRow, Shelf, ToldFiles, Reads, ReadIsCounted, Writes, WriteIsCounted}
+use Rattle.kak_files.specs.Exchanges.{Exchange, Read as WasRead, Written, Leads, Passed}
+use Rattle.kak_ports.specs.declared.sink.Put.{Put}
+use Rattle.kak_ports.specs.declared.sink.Put.TheVariants as put
+use Rattle.session_events.specs.declared.event.Event.{Event}
+use Rattle.session_events.specs.declared.event.Event.TheVariants.{Join}
+use Rattle.session_events.specs.declared.event.Entry.{Entry}
+use Rattle.kak_world.specs.Flat.{Flat}
 use Rattle.regex_ports.specs.Making.{Rose, IsCounted}
 use Rattle.regex_ports.specs.declared.maker.Made.{Made}
 use Rattle.regex_ports.specs.declared.maker.Made.TheVariants as maker
 use Rattle.session_events.specs.declared.event.Answered.{Answered}
-use Rattle.kak_engine.specs.Answering.{made_told}
-use Rattle.kak_engine.specs.Honesty.{Outside, at_opening, is_refused, Stood, CountsRefusal, OutsideStays, IsHonest, IsKept}
-use Rattle.kak_files.proofs.ExchangeLemmas.{leads-none, leads-trans, passed-none, passed-same, passed-trans}
+use Rattle.kak_engine.specs.Answering.{made_told, is_built, read_told, put_told}
+use Rattle.kak_engine.specs.Asking.{Asked, OfPattern, OfFile, files_in}
+use Rattle.kak_engine.specs.Honesty.{Outside, at_opening, is_refused, Stood, CountsRefusal, IsHonest, MakesPattern, ReadsFile, WritesFile, IsKept}
+use Rattle.kak_engine.specs.Steps.{asked_by, IsStepCutShort, IsBegunBehind}
+use Rattle.kak_files.proofs.ExchangeLemmas.{leads-none, leads-trans, passed-none, passed-trans, passed-read, passed-written}
 
 -- a count that stands still, and one that doesn't fall
 pub stood-same : (n : ℕ) → Stood n n
@@ -84,15 +96,25 @@ counts-behind : (s t : Bool) (a b c : ℕ) → CountsRefusal s a b → CountsRef
 counts-behind true t a b c h k = rose-then a b c h (counts-stood t b c k)
 counts-behind false t a b c h k = stood-counts t a b c h k
 
+-- what was exchanged with the files in two parts
+pub files_in-append : (a b : List Asked) → files_in (a ++ b) ≡ files_in a ++ files_in b
+files_in-append [] b = refl
+files_in-append (OfPattern text built ∷ a) b = files_in-append a b
+files_in-append (OfFile exchange ∷ a) b = ap (λ (x : List Exchange). exchange ∷ x) (files_in-append a b)
+
 -- the outside, where it was asked for nothing
 pub honest-none : (o : Outside) → IsHonest [] [] o o
-honest-none o = record { refusals = stood-same o.refusals; files = passed-none o.shelf }
+honest-none o = record { refusals = stood-same o.refusals; files = passed-none o.shelf; trace = sym (append-nil o.asked) }
+
+pub honest-same : (x y : Outside) → y ≡ x → IsHonest [] [] x y
+honest-same x y same = subst (λ (o : Outside). IsHonest [] [] x o) (sym same) (honest-none x)
 
 -- and where it was asked for something, and then for more
-pub honest-behind : (a b : List Answered) (d e : List Exchange) (x y z : Outside) → IsHonest a d x y → IsHonest b e y z → IsHonest (a ++ b) (d ++ e) x z
+pub honest-behind : (a b : List Answered) (d e : List Asked) (x y z : Outside) → IsHonest a d x y → IsHonest b e y z → IsHonest (a ++ b) (d ++ e) x z
 honest-behind a b d e x y z h k = record {
   refusals = subst (λ t. CountsRefusal t x.refusals z.refusals) (sym (list_any-append is_refused a b)) (counts-behind (list_any is_refused a) (list_any is_refused b) x.refusals y.refusals z.refusals h.refusals k.refusals);
-  files = passed-trans d e x.shelf y.shelf z.shelf h.files k.files;
+  files = subst (λ (q : List Exchange). Passed q x.shelf z.shelf) (sym (files_in-append d e)) (passed-trans (files_in d) (files_in e) x.shelf y.shelf z.shelf h.files k.files);
+  trace = k.trace ∙ ap (λ (q : List Asked). q ++ e) h.trace ∙ append_assoc x.asked d e;
 }
 
 -- what files held when they were made stays
@@ -105,31 +127,26 @@ opening-same exchanges (Some old) (Some new) l = ap (λ o. opened o new.spare) l
 opening-same exchanges None (Some new) l = absurd l
 opening-same exchanges (Some old) None l = absurd l
 
--- the outside is the same still
-pub stays-same : (x y : Outside) → y.shelf ≡ x.shelf → Stood x.refusals y.refusals → OutsideStays x y
-stays-same x y same stood = record { refusals = stood; files = ([], passed-same x.shelf y.shelf same) }
+-- an event behind which memory was wanting, and one that was cut short before the outside was asked
+pub cut-behind : (who : ℕ) (event : Event) (answers : List Answered) (flat : Flat) (x y : Outside) → IsHonest answers (asked_by who event answers flat) x y → IsStepCutShort who event flat x y
+cut-behind who event answers flat x y h = record { answers = answers; asked = asked_by who event answers flat; begins = ([], sym (append-nil (asked_by who event answers flat))); honest = h }
 
-pub stays-still : (o : Outside) → OutsideStays o o
-stays-still o = stays-same o o refl (stood-same o.refusals)
+pub cut-before : (who : ℕ) (event : Event) (flat : Flat) (x y : Outside) → y ≡ x → IsStepCutShort who event flat x y
+cut-before who event flat x y same = record { answers = []; asked = []; begins = (asked_by who event [] flat, refl); honest = honest-same x y same }
 
-pub stays-behind : (x y z : Outside) → OutsideStays x y → OutsideStays y z → OutsideStays x z
-stays-behind x y z h k = record {
-  refusals = stood-stood x.refusals y.refusals z.refusals h.refusals k.refusals;
-  files = (h.files.0 ++ k.files.0, passed-trans h.files.0 k.files.0 x.shelf y.shelf z.shelf h.files.1 k.files.1);
-}
+pub cut-still : (who : ℕ) (event : Event) (flat : Flat) (o : Outside) → IsStepCutShort who event flat o o
+cut-still who event flat o = cut-before who event flat o o refl
 
-pub honest-stays : (answers : List Answered) (exchanges : List Exchange) (x y : Outside) → IsHonest answers exchanges x y → OutsideStays x y
-honest-stays answers exchanges x y h = record {
-  refusals = counts-stood (list_any is_refused answers) x.refusals y.refusals h.refusals;
-  files = (exchanges, h.files);
-}
+-- no event was begun
+pub none-begun : (history : List Entry) (x y : Outside) → y ≡ x → IsBegunBehind history x y
+none-begun history x y same = record { who = 0; event = Join; here = λ no. let e : true ≡ false = no in cc; cut = cut-before 0 Join _ x y same }
 
 -- more exchanges lead on from what the files hold
 kept-behind : (d e : List Exchange) (x y : Option ToldFiles) → Leads d (at_opening x) x → Leads e x y → Leads (d ++ e) (at_opening y) y
 kept-behind d e x y h k = subst (λ (o : Option ToldFiles). Leads (d ++ e) o y) (sym (opening-same e x y k)) (leads-trans d e (at_opening x) x y h k)
 
-pub kept-more : (answers : List Answered) (d e : List Exchange) (x y : Outside) → IsKept d x.shelf → IsHonest answers e x y → IsKept (d ++ e) y.shelf
-kept-more answers d e x y h k = kept-behind d e x.shelf.told y.shelf.told h k.files.told
+pub kept-more : (answers : List Answered) (d : List Exchange) (e : List Asked) (x y : Outside) → IsKept d x.shelf → IsHonest answers e x y → IsKept (d ++ files_in e) y.shelf
+kept-more answers d e x y h k = kept-behind d (files_in e) x.shelf.told y.shelf.told h k.files.told
 
 -- files that hold what they held when they were made
 pub kept-first : (told : Option ToldFiles) → told ≡ at_opening told → Leads [] (at_opening told) told
@@ -140,5 +157,25 @@ pub made-counts : {P : Type 0} (made : Made P) (a b : ℕ) → IsCounted made a 
 made-counts (maker.Built p) a b c = stood-le a b c
 made-counts maker.Refused a b c = c
 
-pub made-honest : {P : Type 0} (made : Made P) (shelf : Shelf) (a b : ℕ) → IsCounted made a b → IsHonest (made_told made ∷ []) [] (record { shelf = shelf; refusals = a }) (record { shelf = shelf; refusals = b })
-made-honest made shelf a b c = record { refusals = made-counts made a b c; files = passed-none shelf }
+pub made-honest : {P : Type 0} (made : Made P) (text : List ℕ) (shelf : Shelf) (a b : ℕ) (was now : List Asked) → IsCounted made a b → now ≡ was ++ OfPattern text (is_built made) ∷ []
+    → MakesPattern made text (record { shelf = shelf; refusals = a; asked = was }) (record { shelf = shelf; refusals = b; asked = now })
+made-honest made text shelf a b was now c t = record { refusals = made-counts made a b c; files = passed-none shelf; trace = t }
+
+-- and files that were read or written, while the maker was asked for nothing
+read-counts : (read : FileRead) (n : ℕ) → CountsRefusal (list_any is_refused (read_told read ∷ [])) n n
+read-counts (file.Bytes bytes) n = stood-same n
+read-counts file.NotThere n = stood-same n
+read-counts file.TooBig n = stood-same n
+read-counts file.Failed n = stood-same n
+
+pub read-honest : (read : FileRead) (name : List ℕ) (x y : Shelf) (n : ℕ) (was now : List Asked) → Reads read name MAX_FILE x.told → y.told ≡ x.told → ReadIsCounted read x.faults y.faults → now ≡ was ++ OfFile (WasRead name read) ∷ []
+    → ReadsFile read name (record { shelf = x; refusals = n; asked = was }) (record { shelf = y; refusals = n; asked = now })
+read-honest read name x y n was now reads keeps counted t = record { refusals = read-counts read n; files = passed-read name read x y reads keeps counted; trace = t }
+
+put-counts : (put : Put) (n : ℕ) → CountsRefusal (list_any is_refused (put_told put ∷ [])) n n
+put-counts put.Done n = stood-same n
+put-counts put.Failed n = stood-same n
+
+pub put-honest : (put : Put) (name bytes : List ℕ) (x y : Shelf) (n : ℕ) (was now : List Asked) → Writes put name bytes x.told y.told → WriteIsCounted put x.faults y.faults → now ≡ was ++ OfFile (Written name bytes put) ∷ []
+    → WritesFile put name bytes (record { shelf = x; refusals = n; asked = was }) (record { shelf = y; refusals = n; asked = now })
+put-honest put name bytes x y n was now writes counted t = record { refusals = put-counts put n; files = passed-written name bytes put x y writes counted; trace = t }

@@ -1,7 +1,10 @@
+pub mod AskingLaws
 pub mod CarryingLaws
+pub mod CountLemmas
 pub mod DoingLemmas
 pub mod EndLemmas
 pub mod ExampleLemmas
+pub mod HereLemmas
 pub mod HonestLemmas
 pub mod KeepingLaws
 pub mod KeyLemmas
@@ -11,3 +14,4 @@ pub mod PresenceLemmas
 pub mod RunLemmas
 pub mod SeatingLemmas
 pub mod StageLemmas
+pub mod Walks

@@ -1,50 +1,73 @@
 -- How the commands of a text are run, one after another.
 use Rattle.std.proofs.Common.{◌≡◌, ℕ, ◌≤◌, ◌+◌, ◌<◌, true, List, [], ◌∷◌, ◌++◌, length, drop, get_or, refl, sym, ap, ◌∙◌, subst, arith}
 use Rattle.std.proofs.lemmas.List.{append_assoc, drop_more, drop_all}
-use Rattle.kak_files.specs.Exchanges.{Exchange}
 use Rattle.kak_words.specs.declared.parts.Command.{Command}
 use Rattle.kak_world.specs.Dropping.{KeepsJoined}
 use Rattle.kak_world.specs.Flat.{is_joined, units_of}
+use Rattle.session_turns.specs.Growth.{Begins}
 use Rattle.session_events.specs.declared.event.Answered.{Answered}
 use Rattle.kak_engine.specs.declared.doing.Ending.{Ending}
 use Rattle.kak_engine.specs.declared.doing.Ending.TheVariants as code
+use Rattle.kak_engine.specs.Asking.{Asked}
 use Rattle.kak_engine.specs.Doing.{DoingEnd, Fine, Failed, GivenUp, Outcome, Part, and_then, each, run_command, Do, top, budget_spent}
-use Rattle.kak_engine.specs.Honesty.{OutsideStays}
-use Rattle.kak_engine.specs.Seen.{Does, end_seen, moment_of, UnderWay}
+use Rattle.kak_engine.specs.Seen.{Does, IsCutShort, end_seen, moment_of, UnderWay}
+use Rattle.kak_engine.proofs.AskingLaws.{begins-behind, Grows, grows-then, grows-commands, grows-do}
 use Rattle.kak_engine.proofs.CarryingLaws.{keeps-command, carried-do}
 use Rattle.kak_engine.proofs.EndLemmas.{does-alone, does-keeps}
-use Rattle.kak_engine.proofs.HonestLemmas.{honest-behind, honest-stays, stays-still, stays-behind}
+use Rattle.kak_engine.proofs.HonestLemmas.{honest-behind}
 use Rattle.kak_engine.proofs.KeepingLaws.{TakesUnits, units-carried, joined-carried}
 
--- A part is under way: where the rest of it is done from here on, the whole was done from the start.
+-- A part is under way: where the rest of it is done from here on, or is cut short, the whole was from the start.
 pub record LeadsOn (rest whole : Part) (start now : UnderWay) : Type 0 where
   pub on : (new : UnderWay) (end : DoingEnd) → Does rest now new end → Does whole start new end
-  pub stays : OutsideStays start.outside now.outside
+  pub cut : (new : UnderWay) → IsCutShort rest now new → IsCutShort whole start new
 
 pub leads-first : (whole : Part) (start : UnderWay) → LeadsOn whole whole start start
-leads-first whole start = record { on = λ new end d. d; stays = stays-still start.outside }
+leads-first whole start = record { on = λ new end d. d; cut = λ new d. d }
 
 -- one part that ended well, and one behind it
 then-does : (first next : Part) (old mid new : UnderWay) (end : DoingEnd) → Does first old mid Fine → Does next mid new end → Does (λ m. and_then (first m) next) old new end
 then-does first next old mid new end d e = record {
   used = d.used ++ e.used;
-  exchanged = d.exchanged ++ e.exchanged;
+  asked = d.asked ++ e.asked;
   kept = e.kept ∙ ap (λ (q : List Answered). q ++ e.used) d.kept ∙ append_assoc old.had d.used e.used;
   leads = λ before later.
       ap (λ (q : List Answered). and_then (first (moment_of before q old.world)) next) (append_assoc d.used e.used later)
       ∙ ap (λ (o : Outcome). and_then o next) (d.leads before (e.used ++ later))
-      ∙ e.leads (before ++ d.exchanged) later
-      ∙ ap (λ (q : List Exchange). let o : Outcome = record { moment = moment_of q later new.world; end = end } in o) (append_assoc before d.exchanged e.exchanged);
-  honest = honest-behind d.used e.used d.exchanged e.exchanged old.outside mid.outside new.outside d.honest e.honest;
+      ∙ e.leads (before ++ d.asked) later
+      ∙ ap (λ (q : List Asked). let o : Outcome = record { moment = moment_of q later new.world; end = end } in o) (append_assoc before d.asked e.asked);
+  honest = honest-behind d.used e.used d.asked e.asked old.outside mid.outside new.outside d.honest e.honest;
+}
+
+-- one part that ended well, and one behind it that was cut short
+then-cut : (first next : Part) (old mid new : UnderWay) → Does first old mid Fine → IsCutShort next mid new → IsCutShort (λ m. and_then (first m) next) old new
+then-cut first next old mid new d e = record {
+  used = d.used ++ e.used;
+  asked = d.asked ++ e.asked;
+  begins = λ before.
+      subst (λ (o : Outcome). Begins (and_then o next).moment.asked (before ++ (d.asked ++ e.asked))) (sym (d.leads before e.used))
+      (subst (λ (q : List Asked). Begins (next (moment_of (before ++ d.asked) e.used mid.world)).moment.asked q) (append_assoc before d.asked e.asked) (e.begins (before ++ d.asked)));
+  honest = honest-behind d.used e.used d.asked e.asked old.outside mid.outside new.outside d.honest e.honest;
+}
+
+-- one that was cut short, behind which nothing comes
+first-cut : (first next : Part) (old new : UnderWay) → Grows next → IsCutShort first old new → IsCutShort (λ m. and_then (first m) next) old new
+first-cut first next old new g d = record {
+  used = d.used;
+  asked = d.asked;
+  begins = λ before.
+      let o : Outcome = first (moment_of before d.used old.world) in
+      begins-behind (before ++ d.asked) o.moment.asked (and_then o next).moment.asked (d.begins before) (grows-then o next g);
+  honest = d.honest;
 }
 
 -- one that didn't, behind which nothing comes
 stopped : (first next : Part) (old new : UnderWay) (end : DoingEnd) → ((m : Outcome) → m.end ≡ end → and_then m next ≡ m) → Does first old new end → Does (λ m. and_then (first m) next) old new end
 stopped first next old new end h d = record {
   used = d.used;
-  exchanged = d.exchanged;
+  asked = d.asked;
   kept = d.kept;
-  leads = λ before later. ap (λ (o : Outcome). and_then o next) (d.leads before later) ∙ h (record { moment = moment_of (before ++ d.exchanged) later new.world; end = end }) refl;
+  leads = λ before later. ap (λ (o : Outcome). and_then o next) (d.leads before later) ∙ h (record { moment = moment_of (before ++ d.asked) later new.world; end = end }) refl;
   honest = d.honest;
 }
 
@@ -58,12 +81,12 @@ given-up-stops first next old new text d = stopped first next old new (GivenUp t
 pub leads-more : {A : Type 0} (f : A → Part) (x : A) (xs ys : List A) (whole : Part) (start now mid : UnderWay) → ys ≡ x ∷ xs → LeadsOn (each f ys) whole start now → Does (f x) now mid Fine → LeadsOn (each f xs) whole start mid
 leads-more f x xs ys whole start now mid e l d = record {
   on = λ new end rest. l.on new end (subst (λ (q : List _). Does (each f q) now new end) (sym e) (then-does (f x) (each f xs) now mid new end d rest));
-  stays = stays-behind start.outside now.outside mid.outside l.stays (honest-stays d.used d.exchanged now.outside mid.outside d.honest);
+  cut = λ new rest. l.cut new (subst (λ (q : List _). IsCutShort (each f q) now new) (sym e) (then-cut (f x) (each f xs) now mid new d rest));
 }
 
 -- no item is left
 pub leads-last : {A : Type 0} (f : A → Part) (ys : List A) (whole : Part) (start now : UnderWay) → ys ≡ [] → LeadsOn (each f ys) whole start now → Does whole start now Fine
-leads-last f ys whole start now e l = l.on now Fine (subst (λ (q : List _). Does (each f q) now now Fine) (sym e) (does-alone (each f []) now.world now.world now.had now.outside Fine (λ exchanges answers. refl)))
+leads-last f ys whole start now e l = l.on now Fine (subst (λ (q : List _). Does (each f q) now now Fine) (sym e) (does-alone (each f []) now.world now.world now.had now.outside Fine (λ asked answers. refl)))
 
 -- an item that failed, or was given up
 pub leads-failed : {A : Type 0} (f : A → Part) (x : A) (xs ys : List A) (whole : Part) (start now new : UnderWay) (text : List ℕ) → ys ≡ x ∷ xs → LeadsOn (each f ys) whole start now → Does (f x) now new (Failed text) → Does whole start new (Failed text)
@@ -71,6 +94,10 @@ leads-failed f x xs ys whole start now new text e l d = l.on new (Failed text) (
 
 pub leads-given-up : {A : Type 0} (f : A → Part) (x : A) (xs ys : List A) (whole : Part) (start now new : UnderWay) (text : List ℕ) → ys ≡ x ∷ xs → LeadsOn (each f ys) whole start now → Does (f x) now new (GivenUp text) → Does whole start new (GivenUp text)
 leads-given-up f x xs ys whole start now new text e l d = l.on new (GivenUp text) (subst (λ (q : List _). Does (each f q) now new (GivenUp text)) (sym e) (given-up-stops (f x) (each f xs) now new text d))
+
+-- an item that was cut short
+leads-cut : {A : Type 0} (f : A → Part) (x : A) (xs ys : List A) (whole : Part) (start now new : UnderWay) → ys ≡ x ∷ xs → Grows (each f xs) → LeadsOn (each f ys) whole start now → IsCutShort (f x) now new → IsCutShort whole start new
+leads-cut f x xs ys whole start now new e g l d = l.cut new (subst (λ (q : List _). IsCutShort (each f q) now new) (sym e) (first-cut (f x) (each f xs) now new g d))
 
 next-of : {A : Type 0} (xs : List A) (i : ℕ) (d x : A) → x ≡ get_or xs i d → i < length xs → drop i xs ≡ x ∷ drop (i + 1) xs
 next-of xs i d x is lt = drop_more xs i d lt ∙ ap (λ y. y ∷ drop (i + 1) xs) (sym is)
@@ -112,6 +139,12 @@ pub one-given-up : (who : ℕ) (commands : List Command) (i : ℕ) (d x : Comman
 one-given-up who commands i d x start now new ending is lt a spent did =
     leads-given-up (run_command (Do who) who top) x (drop (i + 1) commands) (drop i commands) (each (run_command (Do who) who top) commands) start now new budget_spent (next-of commands i d x is lt) a.leads
     (subst (λ e. Does (run_command (Do who) who top x) now new (end_seen e)) spent did)
+
+pub one-cut : (who : ℕ) (commands : List Command) (i : ℕ) (d x : Command) (start now new : UnderWay) → x ≡ get_or commands i d → i < length commands → AreRun who commands i start now → IsCutShort (run_command (Do who) who top x) now new
+    → IsCutShort (each (run_command (Do who) who top) commands) start new
+one-cut who commands i d x start now new is lt a cut =
+    leads-cut (run_command (Do who) who top) x (drop (i + 1) commands) (drop i commands) (each (run_command (Do who) who top) commands) start now new (next-of commands i d x is lt)
+    (grows-commands (Do who) who top (drop (i + 1) commands) (grows-do who)) a.leads cut
 
 pub all-run : (who : ℕ) (commands : List Command) (i : ℕ) (start now : UnderWay) → length commands ≤ i → AreRun who commands i start now → Does (each (run_command (Do who) who top) commands) start now Fine
 all-run who commands i start now le a = leads-last (run_command (Do who) who top) (drop i commands) (each (run_command (Do who) who top) commands) start now (drop_all i commands le) a.leads

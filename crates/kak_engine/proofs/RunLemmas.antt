@@ -1,6 +1,6 @@
 -- The world after one more entry.
 use Rattle.std.proofs.Common.{◌≡◌, ℕ, zero, suc, ◌≤◌, true, false, List, [], ◌∷◌, ◌++◌, length, drop, refl, sym, ap, ◌∙◌, subst, arith, append-nil}
-use Rattle.std.specs.Prelude.{Some, None, ◌==◌}
+use Rattle.std.specs.Prelude.{Some, None, IfSome, ◌==◌}
 use Rattle.std.specs.declared.option.Option.{Option}
 use Rattle.std.proofs.lemmas.List.{append_assoc}
 use Rattle.kak_files.specs.Files.{Shelf}
@@ -13,10 +13,12 @@ use Rattle.session_events.specs.declared.event.Answered.{Answered}
 use Rattle.session_events.specs.declared.event.Entry.{Entry}
 use Rattle.session_events.specs.Entries.{is_join, is_leave, entry_of, entry_with}
 use Rattle.session_events.specs.Legal.{Away, is_here, presence_from, AreLeavings, IsLegal}
-use Rattle.kak_engine.specs.Steps.{after_entry, after_event, exchanged, exchanges_from, exchanges, run_from, run, AreAskedFor, AllAskedFrom, AllAsked}
+use Rattle.kak_engine.specs.Asking.{Asked, files_in}
+use Rattle.kak_engine.specs.Steps.{after_entry, after_event, asked_by, asked_from, asked_in, exchanges, run_from, run, AreAskedFor, AllAskedFrom, AllAsked, IsStepCutShort}
 use Rattle.kak_engine.specs.Held.{EngineStands, CanRun, refused_at, refused_by}
 use Rattle.kak_engine.specs.Honesty.{Outside, IsUntouched, IsHonest, IsKept}
-use Rattle.kak_engine.proofs.HonestLemmas.{honest-none, kept-first, kept-more}
+use Rattle.kak_engine.proofs.HereLemmas.{few-more}
+use Rattle.kak_engine.proofs.HonestLemmas.{files_in-append, honest-none, kept-first, kept-more}
 use Rattle.kak_engine.proofs.LegalLemmas.{allowed, can-run, lives-more, within-more, presence-more, in-behind}
 use Rattle.kak_engine.proofs.PresenceLemmas.{there_after, presence-after, here-after, joined-after, few-after}
 
@@ -37,7 +39,7 @@ pub mark-none : (mark : Option ℕ) (history : List Entry) (limit who : ℕ) (ev
 mark-none None history limit who event e = refl
 mark-none (Some at) history limit who event e = cc
 
-refused-none : (mark : Option ℕ) (history : List Entry) (limit who : ℕ) (event : Event) → refused_at mark history limit who event ≡ None → refused_by history limit who event ≡ None
+pub refused-none : (mark : Option ℕ) (history : List Entry) (limit who : ℕ) (event : Event) → refused_at mark history limit who event ≡ None → refused_by history limit who event ≡ None
 refused-none None history limit who event e = e
 refused-none (Some at) history limit who event e = cc
 
@@ -55,13 +57,13 @@ nobody-joined : (who : ℕ) → is_joined who opening ≡ false
 unfolding is_joined
 nobody-joined who = refl
 
--- what was exchanged with the files behind one more entry
-pub exchanges-more : (flat : Flat) (history : List Entry) (who : ℕ) (event : Event) (answers : List Answered)
-    → exchanges_from flat (history ++ entry_with who event answers ∷ []) ≡ exchanges_from flat history ++ exchanged who event answers (run_from flat history)
-exchanges-more flat [] who event answers = append-nil (exchanged who event answers flat)
-exchanges-more flat (e ∷ history) who event answers =
-    ap (λ (x : List Exchange). exchanged e.who e.event e.answers flat ++ x) (exchanges-more (after_entry e flat) history who event answers)
-    ∙ sym (append_assoc (exchanged e.who e.event e.answers flat) (exchanges_from (after_entry e flat) history) (exchanged who event answers (run_from (after_entry e flat) history)))
+-- what the outside was asked for behind one more entry
+pub asked_in-more : (flat : Flat) (history : List Entry) (who : ℕ) (event : Event) (answers : List Answered)
+    → asked_from flat (history ++ entry_with who event answers ∷ []) ≡ asked_from flat history ++ asked_by who event answers (run_from flat history)
+asked_in-more flat [] who event answers = append-nil (asked_by who event answers flat)
+asked_in-more flat (e ∷ history) who event answers =
+    ap (λ (x : List Asked). asked_by e.who e.event e.answers flat ++ x) (asked_in-more (after_entry e flat) history who event answers)
+    ∙ sym (append_assoc (asked_by e.who e.event e.answers flat) (asked_from (after_entry e flat) history) (asked_by who event answers (run_from (after_entry e flat) history)))
 
 -- an engine to which nothing happened stands
 pub stands-first : (flat : Flat) (history : List Entry) (limit : ℕ) (shelf : Shelf) → flat ≡ opening → history ≡ [] → IsUntouched shelf.told → EngineStands flat history None limit shelf
@@ -71,13 +73,14 @@ stands-first flat history limit shelf e k fresh = record {
   here = λ m q. ap (λ f. is_among q f.clients) e ∙ ap (λ h. is_here (presence_from q Away h)) (sym k);
   few = λ m. subst (λ f. length f.clients ≤ MAX_CLIENTS) (sym e) (omega arith);
   kept = λ m. subst (λ h. IsKept (exchanges h) shelf) (sym k) (kept-first shelf.told fresh);
-  legal = subst (IsLegal limit) (sym k) (record { lives = λ q. refl; within = no-leavings limit });
+  legal = subst (IsLegal limit) (sym k) (record { lives = λ q. refl; within = no-leavings limit; few = omega arith });
   asked = subst AllAsked (sym k) tt;
+  marked = tt;
 }
 
 -- an engine goes on to stand
 pub stands-more : (before now : Flat) (history new : List Entry) (mark : Option ℕ) (limit : ℕ) (x y : Outside) (who : ℕ) (event : Event) (answers : List Answered) → EngineStands before history mark limit x.shelf → refused_at mark history limit who event ≡ None
-    → (is_join event ≡ true → is_joined who now ≡ true) → now ≡ after_event who event answers before → AreAskedFor who event answers before → IsHonest answers (exchanged who event answers before) x y → new ≡ history ++ entry_with who event answers ∷ []
+    → (is_join event ≡ true → is_joined who now ≡ true) → now ≡ after_event who event answers before → AreAskedFor who event answers before → IsHonest answers (asked_by who event answers before) x y → new ≡ history ++ entry_with who event answers ∷ []
     → EngineStands now new mark limit y.shelf
 stands-more before now history new mark limit x y who event answers s r came n asks honest k =
     let free : mark ≡ None = mark-none mark history limit who event r in
@@ -89,25 +92,31 @@ stands-more before now history new mark limit x y who event answers s r came n a
       known = λ m q. ap (is_joined q) n ∙ joined-after q who event answers before (s.known free q ∙ sym (s.here free q)) came_after ∙ ap (there_after event (who == q)) (s.known free q) ∙ behind q;
       here = λ m q. ap (λ f. is_among q f.clients) n ∙ here-after q who event answers before ∙ ap (there_after event (who == q)) (s.here free q) ∙ behind q;
       few = λ m. subst (λ f. length f.clients ≤ MAX_CLIENTS) (sym n) (few-after who event answers before (can-step before history mark limit x.shelf who event s r) (s.few free));
-      kept = λ m. subst (λ (e : List Exchange). IsKept e y.shelf) (all same) (kept-more answers (exchanges history) (exchanged who event answers before) x y (s.kept free) honest);
+      kept = λ m. subst (λ (e : List Exchange). IsKept e y.shelf) (all same) (kept-more answers (exchanges history) (asked_by who event answers before) x y (s.kept free) honest);
       legal = subst (IsLegal limit) (sym k) (record {
         lives = lives-more history limit who event answers s.legal.lives a;
         within = within-more history limit who event answers s.legal.within a;
+        few = few-more history who event answers s.legal.few a.seat;
       });
       asked = subst AllAsked (sym k) (asked-more opening history (entry_with who event answers) s.asked (subst (AreAskedFor who event answers) same asks));
+      marked = subst (λ (m : Option ℕ). IfSome m (λ at. at ≡ length new)) (sym free) tt;
     }
   where
     behind : (q : ℕ) → there_after event (who == q) (is_here (presence_from q Away history)) ≡ is_here (presence_from q Away new)
     behind q = sym (presence-after event (who == q) (presence_from q Away history)) ∙ ap is_here (sym (presence-more q who history event answers)) ∙ ap (λ h. is_here (presence_from q Away h)) (sym k)
 
-    all : before ≡ run history → exchanges history ++ exchanged who event answers before ≡ exchanges new
-    all same = ap (λ f. exchanges history ++ exchanged who event answers f) same ∙ sym (exchanges-more opening history who event answers) ∙ ap exchanges (sym k)
+    all : before ≡ run history → exchanges history ++ files_in (asked_by who event answers before) ≡ exchanges new
+    all same =
+        ap (λ f. exchanges history ++ files_in (asked_by who event answers f)) same
+        ∙ sym (files_in-append (asked_in history) (asked_by who event answers (run history)))
+        ∙ ap files_in (sym (asked_in-more opening history who event answers))
+        ∙ ap exchanges (sym k)
 
 -- behind a going
 pub left-stands : (before now : Flat) (history new : List Entry) (mark : Option ℕ) (limit : ℕ) (shelf : Shelf) (who : ℕ) (event : Event) → EngineStands before history mark limit shelf → refused_at mark history limit who event ≡ None
     → is_leave event ≡ true → now ≡ after_event who Leave [] before → new ≡ history ++ entry_of who Leave ∷ [] → EngineStands now new mark limit shelf
 left-stands before now history new mark limit shelf who Leave s r goes n k =
-    let o : Outside = record { shelf = shelf; refusals = 0 } in
+    let o : Outside = record { shelf = shelf; refusals = 0; asked = [] } in
     stands-more before now history new mark limit o o who Leave [] s r (λ j. let no : false ≡ true = j in cc) n refl (honest-none o) k
 left-stands before now history new mark limit shelf who Join s r goes n k = cc
 left-stands before now history new mark limit shelf who (Struck key) s r goes n k = cc
@@ -121,9 +130,14 @@ leaver-joined who (Struck key) flat goes can = cc
 leaver-joined who (Refresh asked) flat goes can = cc
 
 -- an engine that broke
-pub stands-broken : (flat now : Flat) (history new : List Entry) (mark : Option ℕ) (limit at : ℕ) (x y : Shelf) → EngineStands flat history mark limit x → new ≡ history → EngineStands now new (Some at) limit y
-stands-broken flat now history new mark limit at x y s e = record { world = λ m. cc; known = λ m. cc; here = λ m. cc; few = λ m. cc; kept = λ m. cc; legal = subst (IsLegal limit) (sym e) s.legal; asked = subst AllAsked (sym e) s.asked }
+pub stands-broken : (flat now : Flat) (history new : List Entry) (mark : Option ℕ) (limit at : ℕ) (x y : Shelf) → EngineStands flat history mark limit x → new ≡ history → at ≡ length new → EngineStands now new (Some at) limit y
+stands-broken flat now history new mark limit at x y s e count = record { world = λ m. cc; known = λ m. cc; here = λ m. cc; few = λ m. cc; kept = λ m. cc; legal = subst (IsLegal limit) (sym e) s.legal; asked = subst AllAsked (sym e) s.asked; marked = count }
 
 -- a client that made an event, and didn't leave by it, is here behind the longer history
 pub in-more : (history new : List Entry) (mark : Option ℕ) (limit who : ℕ) (event : Event) (answers : List Answered) → refused_at mark history limit who event ≡ None → new ≡ history ++ entry_with who event answers ∷ [] → is_leave event ≡ false → is_here (presence_from who Away new) ≡ true
 in-more history new mark limit who event answers r = in-behind history new limit who event answers (refused-none mark history limit who event r)
+
+-- an event that was cut short, on the world that the history led to
+pub cut-known : (flat : Flat) (history : List Entry) (mark : Option ℕ) (limit : ℕ) (shelf : Shelf) (who : ℕ) (event : Event) (x y : Outside) → EngineStands flat history mark limit shelf → refused_at mark history limit who event ≡ None
+    → IsStepCutShort who event flat x y → IsStepCutShort who event (run history) x y
+cut-known flat history mark limit shelf who event x y s r cut = subst (λ f. IsStepCutShort who event f x y) (s.world (mark-none mark history limit who event r)) cut

@@ -5,7 +5,6 @@ use Rattle.std.specs.declared.result.Result.{Result}
 use Rattle.std.specs.declared.option.Option.{Option}
 use Rattle.std.proofs.lemmas.Bool.{eq-eqb}
 use Rattle.std.proofs.lemmas.List.{append_assoc}
-use Rattle.kak_files.specs.Exchanges.{Exchange}
 use Rattle.kak_world.specs.Flat.{opening}
 use Rattle.session_events.specs.declared.event.Event.{Event}
 use Rattle.session_events.specs.declared.event.Answered.{Answered}
@@ -15,12 +14,14 @@ use Rattle.session_events.specs.declared.fault.StepFault.{StepFault}
 use Rattle.session_events.specs.declared.fault.StepFault.TheVariants.{Broken, NoClient, Joined, HistoryFull, Full, NoMemory}
 use Rattle.session_events.specs.Entries.{is_leave, entry_with, others_of}
 use Rattle.session_events.specs.Seats.{Steps, StaysUnbroken}
-use Rattle.kak_engine.specs.Steps.{output_of, exchanged, exchanges, answers_in, run, given_by}
-use Rattle.kak_engine.specs.Honesty.{Outside, OutsideStays, IsHonest}
-use Rattle.kak_engine.specs.Held.{HeldEngine, TakesEvent, refused_at, event_refusal, marked_by, marked_after}
+use Rattle.kak_engine.specs.Asking.{Asked}
+use Rattle.kak_engine.specs.Steps.{output_of, asked_by, asked_in, answers_in, run, given_by, IsStepCutShort, IsBegunBehind}
+use Rattle.kak_engine.specs.Honesty.{Outside, IsHonest}
+use Rattle.kak_engine.specs.Held.{HeldEngine, TakesEvent, CutsEvent, refused_at, event_refusal, marked_by, marked_after}
 use Rattle.kak_engine.specs.Seating.{seat_of, WasHonest}
-use Rattle.kak_engine.proofs.HonestLemmas.{honest-none, honest-behind, stays-still, stays-behind}
-use Rattle.kak_engine.proofs.RunLemmas.{exchanges-more, mark-none}
+use Rattle.kak_engine.proofs.HonestLemmas.{honest-none, honest-behind, none-begun}
+use Rattle.kak_engine.proofs.LegalLemmas.{allowed}
+use Rattle.kak_engine.proofs.RunLemmas.{asked_in-more, mark-none, refused-none}
 
 abbrev taken : Output → Result Output StepFault
 taken o = Ok o
@@ -43,9 +44,9 @@ others-own who (x ∷ h) event answers = by (x.who == who) (others-own who h eve
 
 module _ (who : ℕ) (event : Event) (x y : HeldEngine) where
   -- no entry of another came
-  pub others-same : (r : Result Output StepFault) → IfOk r (λ o. TakesEvent who event x y o) → OnErr r ((y.history ≡ x.history) × OutsideStays x.outside y.outside) → Some (others_of who y.history) ≡ Some (others_of who x.history)
+  pub others-same : (r : Result Output StepFault) → IfOk r (λ o. TakesEvent who event x y o) → OnErr r (y.history ≡ x.history) → Some (others_of who y.history) ≡ Some (others_of who x.history)
   others-same (Ok o) t e = ap (λ h. Some (others_of who h)) t.keeps ∙ ap Some (others-own who x.history event t.answers)
-  others-same (Err f) t e = ap (λ h. Some (others_of who h)) e.0
+  others-same (Err f) t e = ap (λ h. Some (others_of who h)) e
 
   -- the client's step, as a seat tells it
   pub alone-steps : (r : Result Output StepFault) (first : Outside) → IfOk r (λ o. TakesEvent who event x y o)
@@ -80,26 +81,26 @@ answers-more (x ∷ h) who event answers = ap (λ (r : List Answered). x.answers
 
 -- nothing was asked for at first
 pub honest-first : (outside : Outside) → WasHonest [] None outside outside
-honest-first outside = record { behind = outside; honest = honest-none outside; alone = λ m. refl; stays = stays-still outside }
+honest-first outside = record { behind = outside; honest = honest-none outside; alone = λ m. refl; begun = none-begun [] outside outside refl }
 
 module _ (first : Outside) (who : ℕ) (event : Event) (x y : HeldEngine) (was : WasHonest x.history x.mark first x.outside) where
   -- the outside was honest in one entry more
   takes-honest : (o : Output) → x.mark ≡ None → TakesEvent who event x y o → WasHonest y.history y.mark first y.outside
   takes-honest o free t = record {
     behind = y.outside;
-    honest = subst (λ h. IsHonest (answers_in h) (exchanges h) first y.outside) (sym t.keeps) (
-        subst (λ (a : List Answered). IsHonest a (exchanges longer) first y.outside) (sym (answers-more x.history who event t.answers)) (
-        subst (λ (e : List Exchange). IsHonest (answers_in x.history ++ t.answers) e first y.outside) (sym (exchanges-more opening x.history who event t.answers)) (
-        honest-behind (answers_in x.history) t.answers (exchanges x.history) (exchanged who event t.answers (run x.history)) first x.outside y.outside before t.honest)));
+    honest = subst (λ h. IsHonest (answers_in h) (asked_in h) first y.outside) (sym t.keeps) (
+        subst (λ (a : List Answered). IsHonest a (asked_in longer) first y.outside) (sym (answers-more x.history who event t.answers)) (
+        subst (λ (e : List Asked). IsHonest (answers_in x.history ++ t.answers) e first y.outside) (sym (asked_in-more opening x.history who event t.answers)) (
+        honest-behind (answers_in x.history) t.answers (asked_in x.history) (asked_by who event t.answers (run x.history)) first x.outside y.outside before t.honest)));
     alone = λ m. refl;
-    stays = stays-still y.outside;
+    begun = none-begun y.history y.outside y.outside refl;
   }
     where
       longer : List Entry
       longer = x.history ++ entry_with who event t.answers ∷ []
 
-      before : IsHonest (answers_in x.history) (exchanges x.history) first x.outside
-      before = subst (λ (q : Outside). IsHonest (answers_in x.history) (exchanges x.history) first q) (sym (was.alone free)) was.honest
+      before : IsHonest (answers_in x.history) (asked_in x.history) first x.outside
+      before = subst (λ (q : Outside). IsHonest (answers_in x.history) (asked_in x.history) first q) (sym (was.alone free)) was.honest
 
   -- an engine that isn't broken refused an event, and left the outside alone
   refused-honest : (r : Result Output StepFault) (refusal : Option StepFault) → IfSome refusal (λ fault. (r ≡ Err fault) × (y.outside ≡ x.outside)) → (refusal ≡ None → ⊥) → x.mark ≡ None → y.outside ≡ was.behind
@@ -122,13 +123,24 @@ module _ (first : Outside) (who : ℕ) (event : Event) (x y : HeldEngine) (was :
   granted-none o None refused = refl
   granted-none o (Some fault) refused = let no : taken o ≡ Err fault = refused.0 in cc
 
+  -- behind the history a step was begun: this one, or, where it was refused, the one that broke the engine, if one did
+  begun-behind : (r : Result Output StepFault) (refusal : Option StepFault) → refusal ≡ event_refusal x who event → IfSome refusal (λ fault. (r ≡ Err fault) × (y.outside ≡ x.outside)) → (refusal ≡ None → CutsEvent who event x y)
+      → IsBegunBehind x.history was.behind y.outside
+  begun-behind r (Some fault) is refused cut = subst (λ (q : Outside). IsBegunBehind x.history was.behind q) (sym refused.1) was.begun
+  begun-behind r None is refused cut = record {
+    who = who;
+    event = event;
+    here = (allowed x.history x.limit who event (refused-none x.mark x.history x.limit who event (sym is))).joined;
+    cut = subst (λ (q : Outside). IsStepCutShort who event (run x.history) q y.outside) (was.alone (mark-none x.mark x.history x.limit who event (sym is))) (cut refl);
+  }
+
   -- the outside was honest still behind a step
   pub step-honest : (r : Result Output StepFault) → IfSome (event_refusal x who event) (λ fault. (r ≡ Err fault) × (y.outside ≡ x.outside)) → (event_refusal x who event ≡ None → IfErr r (λ fault. (fault ≡ NoMemory) × (is_leave event ≡ false)))
-      → IfOk r (λ o. TakesEvent who event x y o) → OnErr r ((y.history ≡ x.history) × OutsideStays x.outside y.outside) → y.mark ≡ marked_after r x → WasHonest y.history y.mark first y.outside
-  step-honest (Ok o) refused answered t e m = takes-honest o (mark-none x.mark x.history x.limit who event (granted-none o (event_refusal x who event) refused)) t
-  step-honest (Err f) refused answered t e m = record {
+      → IfOk r (λ o. TakesEvent who event x y o) → OnErr r (y.history ≡ x.history) → (event_refusal x who event ≡ None → OnErr r (CutsEvent who event x y)) → y.mark ≡ marked_after r x → WasHonest y.history y.mark first y.outside
+  step-honest (Ok o) refused answered t e cut m = takes-honest o (mark-none x.mark x.history x.limit who event (granted-none o (event_refusal x who event) refused)) t
+  step-honest (Err f) refused answered t e cut m = record {
     behind = was.behind;
-    honest = subst (λ h. IsHonest (answers_in h) (exchanges h) first was.behind) (sym e.0) was.honest;
+    honest = subst (λ h. IsHonest (answers_in h) (asked_in h) first was.behind) (sym e) was.honest;
     alone = λ free. alone-still f (event_refusal x who event) refused (λ n. (answered n).0) (sym m ∙ free);
-    stays = stays-behind was.behind x.outside y.outside was.stays e.1;
+    begun = subst (λ h. IsBegunBehind h was.behind y.outside) (sym e) (begun-behind (Err f) (event_refusal x who event) refl refused cut);
   }

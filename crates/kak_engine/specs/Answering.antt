@@ -1,5 +1,5 @@
 -- What the outside answered, as those take it who asked, and as a history has it.
-use Rattle.std.specs.Prelude.{ℕ, List, Some, None}
+use Rattle.std.specs.Prelude.{ℕ, Bool, true, false, List, Some, None}
 use Rattle.std.specs.declared.option.Option.{Option}
 use Rattle.kak_files.specs.declared.files.FileRead.{FileRead}
 use Rattle.kak_files.specs.declared.files.FileRead.TheVariants as file
@@ -34,6 +34,11 @@ as_put _ = None
 abbrev pub made_told : {P : Type 0} → Made P → Answered
 made_told (maker.Built pattern) = Built
 made_told maker.Refused = Refused
+
+-- whether a maker of patterns built one
+abbrev pub is_built : {P : Type 0} → Made P → Bool
+is_built (maker.Built pattern) = true
+is_built maker.Refused = false
 
 -- what was answered about a file that was read, and about one that was written
 abbrev pub read_told : FileRead → Answered

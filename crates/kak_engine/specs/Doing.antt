@@ -1,11 +1,11 @@
 -- What a row asks for is done: the one recursion of the editor, bounded by the units that are left.
-use Rattle.std.specs.Prelude.{ℕ, zero, suc, ◌+◌, ◌*◌, Bool, true, false, List, [], ◌∷◌, ◌++◌, encode_utf8_all, Some, None, Ok, Err}
+use Rattle.std.specs.Prelude.{ℕ, zero, suc, ◌+◌, ◌*◌, Bool, true, false, List, [], ◌∷◌, ◌++◌, encode_utf8_all, Some, None, is_some, Ok, Err}
 use Rattle.std.specs.declared.option.Option.{Option}
 use Rattle.std.specs.declared.result.Result.{Result}
 use Rattle.key_names.specs.declared.key.Key.{Key}
 use Rattle.kak_words.specs.declared.parts.Command.{Command}
 use Rattle.kak_files.specs.declared.files.FileRead.{FileRead}
-use Rattle.kak_files.specs.Exchanges.{Exchange, Read as WasRead, Written}
+use Rattle.kak_files.specs.Exchanges.{Read as WasRead, Written}
 use Rattle.kak_ports.specs.declared.sink.Put.{Put}
 use Rattle.kak_world.specs.declared.ask.Ask.{Ask}
 use Rattle.kak_world.specs.declared.ask.Ask.TheVariants.{Nothing, Commands, Make, Read, Write, Leave}
@@ -24,6 +24,7 @@ use Rattle.command_set.specs.Files.{row_read, saved_bytes, row_saved}
 use Rattle.command_set.specs.Finishing.{row_finish}
 use Rattle.session_events.specs.declared.event.Answered.{Answered}
 use Rattle.kak_engine.specs.Answering.{as_made, as_read, as_put}
+use Rattle.kak_engine.specs.Asking.{Asked, OfPattern, OfFile}
 
 -- How doing something ended: well, with an error, or given up. Errors and giving up have a status text.
 pub data DoingEnd : Type 0 where
@@ -32,12 +33,12 @@ pub data DoingEnd : Type 0 where
   GivenUp : List ℕ → DoingEnd
 
 -- a moment of a step: the world, the outside's answers that are still to come, whether each so far was of the kind that
--- was asked for, and what was exchanged with the files so far, in order
+-- was asked for, and what the outside was asked for so far, in order
 pub record Moment : Type 0 where
   pub world : Flat
   pub answers : List Answered
   pub fit : Bool
-  pub exchanges : List Exchange
+  pub asked : List Asked
 
 -- the moment after something, and how it ended
 pub record Outcome : Type 0 where
@@ -121,23 +122,23 @@ abbrev pub next_as : {A : Type 0} → (Answered → Option A) → (A → Part) �
 next_as kind part [] m = done_as Fine (record m { fit = false })
 next_as kind part (answer ∷ later) m = taken_as (kind answer) part later m
 
--- a moment behind more exchanges with the files
-abbrev pub exchanging : List Exchange → Moment → Moment
-exchanging exchanges m = record m { exchanges = m.exchanges ++ exchanges }
+-- a moment behind one thing more that the outside was asked for
+abbrev pub asking : Asked → Moment → Moment
+asking what m = record m { asked = m.asked ++ what ∷ [] }
 
--- the row that goes on with an answer, behind what was exchanged with the files by it
-abbrev pub go_back : {A : Type 0} → Go → DoingPlace → (A → Flat → List Exchange) → (A → Flat → RowEnd) → A → Part
-go_back go p exchange row answer m = go_on go p (row answer m.world) (exchanging (exchange answer m.world) m)
+-- the row that goes on with an answer, behind what the outside was asked for by it
+abbrev pub go_back : {A : Type 0} → Go → DoingPlace → (A → Flat → Asked) → (A → Flat → RowEnd) → A → Part
+go_back go p what row answer m = go_on go p (row answer m.world) (asking (what answer m.world) m)
 
--- what is exchanged with the files where a pattern is made, a file is read, and one is written
-abbrev pub by_making : {A : Type 0} → A → Flat → List Exchange
-by_making made flat = []
+-- what the outside was asked for where a pattern is made, a file is read, and one is written
+abbrev pub by_making : List ℕ → Option (List ℕ) → Flat → Asked
+by_making text made flat = OfPattern text (is_some made)
 
-abbrev pub by_reading : List ℕ → FileRead → Flat → List Exchange
-by_reading name read flat = WasRead name read ∷ []
+abbrev pub by_reading : List ℕ → FileRead → Flat → Asked
+by_reading name read flat = OfFile (WasRead name read)
 
-abbrev pub by_writing : Saving → Put → Flat → List Exchange
-by_writing saving put flat = Written saving.file (saved_bytes saving flat) put ∷ []
+abbrev pub by_writing : Saving → Put → Flat → Asked
+by_writing saving put flat = OfFile (Written saving.file (saved_bytes saving flat) put)
 
 -- the client is granted to leave
 abbrev pub granted : ℕ → Flat → Flat
@@ -147,7 +148,7 @@ granted who flat = with_own who (λ o. record o { leaving = true }) flat
 abbrev pub do_ask : Go → ℕ → DoingPlace → Ask → Part
 do_ask go who p Nothing m = done_as Fine m
 do_ask go who p (Commands text) m = run_text go who p text m
-do_ask go who p (Make wanted) m = next_as (as_made (encode_utf8_all wanted.pattern)) (go_back go p by_making (λ made flat. row_finish wanted.then made who flat)) m.answers m
+do_ask go who p (Make wanted) m = next_as (as_made (encode_utf8_all wanted.pattern)) (go_back go p (by_making (encode_utf8_all wanted.pattern)) (λ made flat. row_finish wanted.then made who flat)) m.answers m
 do_ask go who p (Read name) m = next_as as_read (go_back go p (by_reading name) (λ read flat. row_read name read who flat)) m.answers m
 do_ask go who p (Write saving) m = next_as as_put (go_back go p (by_writing saving) (λ put flat. row_saved saving put who flat)) m.answers m
 do_ask go who p Leave m = done_as Fine (in_world (granted who m.world) m)

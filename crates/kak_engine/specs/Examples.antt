@@ -1,42 +1,51 @@
 -- Worked examples of rows that ask the outside for something.
-use Rattle.std.specs.Prelude.{◌≡◌, ℕ, false, List, [], ◌∷◌, Some, None, encode_utf8_all}
+use Rattle.std.specs.Prelude.{◌≡◌, ℕ, Bool, true, false, List, [], ◌∷◌, Some, None, encode_utf8_all}
 use Rattle.kak_files.specs.declared.files.FileRead.TheVariants as file
-use Rattle.kak_files.specs.Exchanges.{Read as WasRead, Written}
+use Rattle.kak_files.specs.Exchanges.{Exchange, Read as WasRead, Written}
 use Rattle.kak_ports.specs.declared.sink.Put.TheVariants as put
-use Rattle.kak_world.specs.declared.ask.Ask.TheVariants.{Make, Read as ToRead, Write}
+use Rattle.kak_world.specs.declared.ask.Ask.TheVariants.{Nothing, Make, Read as ToRead, Write}
 use Rattle.kak_world.specs.declared.ask.Saving.{Saving}
 use Rattle.kak_world.specs.declared.purpose.PatternUse.{PatternUse}
 use Rattle.kak_world.specs.Flat.{Flat}
 use Rattle.kak_world.specs.Rows.{Asks}
 use Rattle.command_set.specs.Files.{row_read, saved_bytes, row_saved}
 use Rattle.command_set.specs.Finishing.{row_finish}
+use Rattle.session_turns.specs.Growth.{Begins}
 use Rattle.session_events.specs.declared.event.Answered.{Answered}
 use Rattle.session_events.specs.declared.event.Answered.TheVariants.{Read, NotThere, Wrote, WriteFailed, Built, Refused}
+use Rattle.kak_engine.specs.Asking.{Asked, OfPattern, OfFile, files_in}
 use Rattle.kak_engine.specs.Doing.{Fine, done_as, go_on, Do, top}
 use Rattle.kak_engine.specs.Seen.{moment_of}
 
 pub record Examples : Type 0 where
-  -- a row that asks for a pattern takes the next answer: one that was built is made use of
+  -- of what was asked for, what was exchanged with the files, in order
+  pub files : (text : List ℕ) (built : Bool) (one other : Exchange) → files_in (OfFile one ∷ OfPattern text built ∷ OfFile other ∷ []) ≡ one ∷ other ∷ []
+  -- a row that asks for a pattern takes the next answer: one that was built is made use of, and stands among what was asked for
   pub built : (who : ℕ) (wanted : PatternUse) (flat : Flat) (later : List Answered)
       → Do who top (Asks (Make wanted)) (moment_of [] (Built ∷ later) flat)
-      ≡ go_on (Do who) top (row_finish wanted.then (Some (encode_utf8_all wanted.pattern)) who flat) (moment_of [] later flat)
+      ≡ go_on (Do who) top (row_finish wanted.then (Some (encode_utf8_all wanted.pattern)) who flat) (moment_of (OfPattern (encode_utf8_all wanted.pattern) true ∷ []) later flat)
   -- one that was refused is told
   pub refused : (who : ℕ) (wanted : PatternUse) (flat : Flat) (later : List Answered)
       → Do who top (Asks (Make wanted)) (moment_of [] (Refused ∷ later) flat)
-      ≡ go_on (Do who) top (row_finish wanted.then None who flat) (moment_of [] later flat)
+      ≡ go_on (Do who) top (row_finish wanted.then None who flat) (moment_of (OfPattern (encode_utf8_all wanted.pattern) false ∷ []) later flat)
   -- with no answer, or one of another kind, the answers don't fit what was asked for
   pub wanting : (who : ℕ) (wanted : PatternUse) (flat : Flat)
-      → Do who top (Asks (Make wanted)) (moment_of [] [] flat) ≡ done_as Fine (record { world = flat; answers = []; fit = false; exchanges = [] })
+      → Do who top (Asks (Make wanted)) (moment_of [] [] flat) ≡ done_as Fine (record { world = flat; answers = []; fit = false; asked = [] })
   pub another : (who : ℕ) (wanted : PatternUse) (flat : Flat) (later : List Answered)
-      → Do who top (Asks (Make wanted)) (moment_of [] (Wrote ∷ later) flat) ≡ done_as Fine (record { world = flat; answers = Wrote ∷ later; fit = false; exchanges = [] })
-  -- a row that asks for a file goes on with what it was read as, which stands among what was exchanged with the files
+      → Do who top (Asks (Make wanted)) (moment_of [] (Wrote ∷ later) flat) ≡ done_as Fine (record { world = flat; answers = Wrote ∷ later; fit = false; asked = [] })
+  -- a row that asks for a file goes on with what it was read as, which stands among what was asked for
   pub read : (who : ℕ) (name bytes : List ℕ) (flat : Flat) (later : List Answered)
       → Do who top (Asks (ToRead name)) (moment_of [] (Read bytes ∷ later) flat)
-      ≡ go_on (Do who) top (row_read name (file.Bytes bytes) who flat) (moment_of (WasRead name (file.Bytes bytes) ∷ []) later flat)
+      ≡ go_on (Do who) top (row_read name (file.Bytes bytes) who flat) (moment_of (OfFile (WasRead name (file.Bytes bytes)) ∷ []) later flat)
   -- and one that has a file written goes on with whether it was
   pub unwritten : (who : ℕ) (saving : Saving) (flat : Flat) (later : List Answered)
       → Do who top (Asks (Write saving)) (moment_of [] (WriteFailed ∷ later) flat)
-      ≡ go_on (Do who) top (row_saved saving put.Failed who flat) (moment_of (Written saving.file (saved_bytes saving flat) put.Failed ∷ []) later flat)
+      ≡ go_on (Do who) top (row_saved saving put.Failed who flat) (moment_of (OfFile (Written saving.file (saved_bytes saving flat) put.Failed) ∷ []) later flat)
   -- what is answered where a file is read says nothing of one that is written
   pub not_written : (who : ℕ) (saving : Saving) (flat : Flat) (later : List Answered)
-      → Do who top (Asks (Write saving)) (moment_of [] (NotThere ∷ later) flat) ≡ done_as Fine (record { world = flat; answers = NotThere ∷ later; fit = false; exchanges = [] })
+      → Do who top (Asks (Write saving)) (moment_of [] (NotThere ∷ later) flat) ≡ done_as Fine (record { world = flat; answers = NotThere ∷ later; fit = false; asked = [] })
+  -- where memory was wanting behind a file that was read, that read is a beginning of what the row asks for
+  pub begun : (who : ℕ) (name bytes : List ℕ) (flat : Flat)
+      → Begins (Do who top (Asks (ToRead name)) (moment_of [] (Read bytes ∷ []) flat)).moment.asked (OfFile (WasRead name (file.Bytes bytes)) ∷ [])
+  -- and whatever is answered, nothing is a beginning of what a row asks for that asks for nothing
+  pub unasked : (who : ℕ) (answers : List Answered) (what : Asked) (flat : Flat) → Begins (Do who top (Asks Nothing) (moment_of [] answers flat)).moment.asked (what ∷ []) → ⊥

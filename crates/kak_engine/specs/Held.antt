@@ -1,5 +1,5 @@
 -- What an engine holds, and which events it refuses.
-use Rattle.std.specs.Prelude.{◌≡◌, ◌≤◌, ◌<◌, ◌+◌, ℕ, true, false, not, ◌&&◌, nat_le, if◌then◌else◌, List, [], ◌∷◌, ◌++◌, length, None, Some, Err}
+use Rattle.std.specs.Prelude.{◌≡◌, ◌≤◌, ◌<◌, ◌+◌, ℕ, true, false, not, ◌&&◌, nat_le, if◌then◌else◌, List, [], ◌∷◌, ◌++◌, length, IfSome, None, Some, Err}
 use Rattle.std.specs.declared.option.Option.{Option}
 use Rattle.std.specs.declared.result.Result.{Result}
 use Rattle.session_events.specs.declared.event.Event.{Event}
@@ -14,7 +14,7 @@ use Rattle.session_events.specs.Legal.{Away, presence_from, is_here, IsLegal}
 use Rattle.kak_files.specs.Files.{Shelf}
 use Rattle.kak_world.specs.declared.world.TheConstants.{MAX_CLIENTS}
 use Rattle.kak_world.specs.Flat.{Flat, is_here as is_among, is_joined}
-use Rattle.kak_engine.specs.Steps.{run, output_of, exchanged, exchanges, is_session_full, AreAskedFor, AllAsked}
+use Rattle.kak_engine.specs.Steps.{run, output_of, asked_by, exchanges, is_session_full, AreAskedFor, AllAsked, IsStepCutShort}
 use Rattle.kak_engine.specs.Honesty.{Outside, IsHonest, IsKept}
 
 -- an engine: its history, the number of entries that stood when it broke, if it did, how many it may have, and its outside
@@ -26,7 +26,7 @@ pub record HeldEngine : Type 0 where
 
 -- An engine that isn't broken has the world that its history leads to, in which those clients are, and have joined, that
 -- have come and not gone, and no more than there may be. What was exchanged with its files in its history is what led to
--- what they hold. Its history is one that there can be.
+-- what they hold. Its history is one that there can be. One that is broken has the number of its entries as its mark.
 pub record EngineStands (flat : Flat) (history : List Entry) (mark : Option ℕ) (limit : ℕ) (shelf : Shelf) : Type 0 where
   pub world : mark ≡ None → flat ≡ run history
   pub known : mark ≡ None → (who : ℕ) → is_joined who flat ≡ is_here (presence_from who Away history)
@@ -35,6 +35,7 @@ pub record EngineStands (flat : Flat) (history : List Entry) (mark : Option ℕ)
   pub kept : mark ≡ None → IsKept (exchanges history) shelf
   pub legal : IsLegal limit history
   pub asked : AllAsked history
+  pub marked : IfSome mark (λ at. at ≡ length history)
 
 -- a place is kept for the going of each client that is here, in a history of so many entries, with room for so many
 abbrev pub KeepsPlaces : Option ℕ → Flat → ℕ → ℕ → Type 0
@@ -78,10 +79,14 @@ CanRun Join who flat = CanCome who flat
 CanRun _ who flat = is_joined who flat ≡ true
 
 -- An event of a client was taken: its entry was added with what the outside answered, which is what was asked for, and the
--- output is what it gives on the world that the history led to. The outside was honest in it.
+-- output is what it gives on the world that the history led to. The outside was asked for just that, and was honest in it.
 pub record TakesEvent (who : ℕ) (event : Event) (old new : HeldEngine) (output : Output) : Type 0 where
   pub answers : List Answered
   pub keeps : new.history ≡ old.history ++ entry_with who event answers ∷ []
   pub gives : output ≡ output_of who event answers (run old.history)
   pub asked : AreAskedFor who event answers (run old.history)
-  pub honest : IsHonest answers (exchanged who event answers (run old.history)) old.outside new.outside
+  pub honest : IsHonest answers (asked_by who event answers (run old.history)) old.outside new.outside
+
+-- an event of a client was begun, and memory was wanting: in it the outside was asked for a beginning of what it asks for
+abbrev pub CutsEvent : ℕ → Event → HeldEngine → HeldEngine → Type 0
+CutsEvent who event old new = IsStepCutShort who event (run old.history) old.outside new.outside

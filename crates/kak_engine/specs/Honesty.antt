@@ -1,12 +1,17 @@
--- How the answers of a step, what was exchanged with the files in it, and the outside belong together.
-use Rattle.std.specs.Prelude.{◌≡◌, ◌≤◌, ◌-◌, ◌^◌, ℕ, Bool, true, false, List, min, Some, None}
+-- How the answers of a step, what the outside was asked for in it, and the outside belong together.
+use Rattle.std.specs.Prelude.{◌≡◌, ◌≤◌, ◌-◌, ◌^◌, ℕ, Bool, true, false, List, [], ◌∷◌, ◌++◌, min, Some, None}
 use Rattle.std.specs.declared.option.Option.{Option}
 use Rattle.std.specs.List.{list_any}
 use Rattle.kak_files.specs.Files.{Shelf, ToldFiles}
-use Rattle.kak_files.specs.Exchanges.{Exchange, Leads, Passed}
+use Rattle.kak_files.specs.declared.files.FileRead.{FileRead}
+use Rattle.kak_files.specs.Exchanges.{Exchange, Read as WasRead, Written, Leads, Passed}
+use Rattle.kak_ports.specs.declared.sink.Put.{Put}
+use Rattle.regex_ports.specs.declared.maker.Made.{Made}
 use Rattle.regex_ports.specs.Making.{Rose}
 use Rattle.session_events.specs.declared.event.Answered.{Answered}
 use Rattle.session_events.specs.declared.event.Answered.TheVariants.{Refused}
+use Rattle.kak_engine.specs.Answering.{made_told, is_built, read_told, put_told}
+use Rattle.kak_engine.specs.Asking.{Asked, OfPattern, OfFile, files_in}
 
 -- The outside of an engine.
 pub record Outside : Type 0 where
@@ -14,9 +19,16 @@ pub record Outside : Type 0 where
   pub shelf : Shelf
   -- how often its maker of patterns has refused
   pub refusals : ℕ
+  -- all that it was asked for so far, in order
+  pub asked : List Asked
 
+-- files and a maker of patterns that were asked for nothing yet
 abbrev pub outside_of : Shelf → ℕ → Outside
-outside_of shelf refusals = record { shelf = shelf; refusals = refusals }
+outside_of shelf refusals = record { shelf = shelf; refusals = refusals; asked = [] }
+
+-- an outside without files, which was asked for nothing yet
+abbrev pub no_outside : Outside
+no_outside = outside_of (record { told = Some (record { opening = []; held = []; spare = true }); faults = 0 }) 0
 
 -- what files held when they were made, as what they hold
 abbrev pub at_opening : Option ToldFiles → Option ToldFiles
@@ -41,22 +53,23 @@ abbrev pub CountsRefusal : Bool → ℕ → ℕ → Type 0
 CountsRefusal true before now = Rose before now
 CountsRefusal false before now = Stood before now
 
--- some exchanges were all that passed between two moments of files; which they were isn't told
-abbrev pub SomePassed : Shelf → Shelf → Type 0
-SomePassed before now = (exchanges : List Exchange) × Passed exchanges before now
-
--- The outside is the same still: the maker's count has not fallen, and the files are as some exchanges left them, which
--- leave what they held when they were made.
-pub record OutsideStays (before now : Outside) : Type 0 where
-  pub refusals : Stood before.refusals now.refusals
-  pub files : SomePassed before.shelf now.shelf
-
 -- Among the answers is one that a pattern was refused only where the maker's count rose. What was exchanged with the files
 -- is all that passed there: they were read and written so, and in that order, and their count rose once for each call that
--- failed.
-pub record IsHonest (answers : List Answered) (exchanges : List Exchange) (before now : Outside) : Type 0 where
+-- failed. The outside was asked for this, in this order, and for nothing else.
+pub record IsHonest (answers : List Answered) (asked : List Asked) (before now : Outside) : Type 0 where
   pub refusals : CountsRefusal (list_any is_refused answers) before.refusals now.refusals
-  pub files : Passed exchanges before.shelf now.shelf
+  pub files : Passed (files_in asked) before.shelf now.shelf
+  pub trace : now.asked ≡ before.asked ++ asked
+
+-- the outside was asked for the pattern of a text, for a file to be read, and for one to be written, and answered this
+abbrev pub MakesPattern : {P : Type 0} → Made P → List ℕ → Outside → Outside → Type 0
+MakesPattern made text before now = IsHonest (made_told made ∷ []) (OfPattern text (is_built made) ∷ []) before now
+
+abbrev pub ReadsFile : FileRead → List ℕ → Outside → Outside → Type 0
+ReadsFile read name before now = IsHonest (read_told read ∷ []) (OfFile (WasRead name read) ∷ []) before now
+
+abbrev pub WritesFile : Put → List ℕ → List ℕ → Outside → Outside → Type 0
+WritesFile put name bytes before now = IsHonest (put_told put ∷ []) (OfFile (Written name bytes put) ∷ []) before now
 
 -- Some exchanges led from what the files held when they were made to what they hold, where that is told: each read was
 -- answered by what was held behind the exchanges before it, and each name stands for what the last of its writes left.

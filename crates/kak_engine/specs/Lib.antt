@@ -1,4 +1,6 @@
 pub mod Answering
+pub mod Asking
+pub mod Noting
 pub mod Doing
 pub mod Steps
 pub mod Honesty

@@ -1,11 +1,11 @@
--- What the seats of an engine keep: the outside was honest since they were made.
+-- What the seats of an engine keep: what the outside was asked for since they were made, and that it was honest.
 use Rattle.std.specs.Prelude.{◌≡◌, ℕ, List, [], None, Some}
 use Rattle.std.specs.declared.option.Option.{Option}
 use Rattle.session_events.specs.declared.event.Entry.{Entry}
 use Rattle.session_events.specs.Entries.{others_of}
 use Rattle.session_events.specs.Seats.{Seated}
-use Rattle.kak_engine.specs.Steps.{exchanges, answers_in}
-use Rattle.kak_engine.specs.Honesty.{Outside, OutsideStays, IsHonest}
+use Rattle.kak_engine.specs.Steps.{asked_in, answers_in, IsBegunBehind}
+use Rattle.kak_engine.specs.Honesty.{Outside, IsHonest}
 use Rattle.kak_engine.specs.Held.{HeldEngine}
 
 -- The seats of an engine.
@@ -35,11 +35,11 @@ seat_of seats = record {
   others = Some (others_of seats.who seats.engine.history);
 }
 
--- The outside was honest in the whole of a history: it led from how the outside was at first to how it was behind the last
--- entry. From there on an engine that isn't broken left it alone. A step that broke one has no entry; behind it the outside
--- is the same still.
+-- The outside was asked for just what the entries of a history ask for, and was honest in the whole of it: it led from how
+-- the outside was at first to how it was behind the last entry. From there on an engine that isn't broken left it alone. A
+-- step that broke one has no entry; in it the outside was asked for a beginning of what that step asks for.
 pub record WasHonest (history : List Entry) (mark : Option ℕ) (first now : Outside) : Type 0 where
   pub behind : Outside
-  pub honest : IsHonest (answers_in history) (exchanges history) first behind
+  pub honest : IsHonest (answers_in history) (asked_in history) first behind
   pub alone : mark ≡ None → now ≡ behind
-  pub stays : OutsideStays behind now
+  pub begun : IsBegunBehind history behind now

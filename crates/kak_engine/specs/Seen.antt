@@ -2,13 +2,14 @@
 use Rattle.std.specs.Prelude.{◌≡◌, true, List, ◌++◌, Ok, Err}
 use Rattle.std.specs.declared.result.Result.{Result}
 use Rattle.std.specs.declared.alloc.AllocError.{AllocError}
-use Rattle.kak_files.specs.Exchanges.{Exchange}
 use Rattle.kak_world.specs.Flat.{Flat}
+use Rattle.session_turns.specs.Growth.{Begins}
 use Rattle.session_events.specs.declared.event.Answered.{Answered}
 use Rattle.kak_engine.specs.declared.doing.Ending.{Ending}
 use Rattle.kak_engine.specs.declared.doing.Ending.TheVariants as code
+use Rattle.kak_engine.specs.Asking.{Asked}
 use Rattle.kak_engine.specs.Doing.{DoingEnd, Fine, Failed, GivenUp, Moment, Part, budget_spent}
-use Rattle.kak_engine.specs.Honesty.{Outside, OutsideStays, IsHonest}
+use Rattle.kak_engine.specs.Honesty.{Outside, IsHonest}
 
 -- how something ended
 abbrev pub end_seen : Ending → DoingEnd
@@ -17,8 +18,8 @@ end_seen (code.Failed text) = Failed text
 end_seen code.GivenUp = GivenUp budget_spent
 
 -- a moment of a step whose answers so far were of the kind that was asked for
-abbrev pub moment_of : List Exchange → List Answered → Flat → Moment
-moment_of exchanges answers flat = record { world = flat; answers = answers; fit = true; exchanges = exchanges }
+abbrev pub moment_of : List Asked → List Answered → Flat → Moment
+moment_of asked answers flat = record { world = flat; answers = answers; fit = true; asked = asked }
 
 -- a step under way: the world, what the outside answered so far, and the outside
 pub record UnderWay : Type 0 where
@@ -33,12 +34,20 @@ under_way world had outside = record { world = world; had = had; outside = outsi
 -- was honest in it.
 pub record Does (part : Part) (old new : UnderWay) (end : DoingEnd) : Type 0 where
   pub used : List Answered
-  pub exchanged : List Exchange
+  pub asked : List Asked
   pub kept : new.had ≡ old.had ++ used
-  pub leads : (before : List Exchange) (later : List Answered) → part (moment_of before (used ++ later) old.world) ≡ record { moment = moment_of (before ++ exchanged) later new.world; end = end }
-  pub honest : IsHonest used exchanged old.outside new.outside
+  pub leads : (before : List Asked) (later : List Answered) → part (moment_of before (used ++ later) old.world) ≡ record { moment = moment_of (before ++ asked) later new.world; end = end }
+  pub honest : IsHonest used asked old.outside new.outside
 
--- unless memory was wanting, the part was done and ended as was answered; the outside is the same still
+-- A part was begun, and memory was wanting: what the outside was asked for in it is a beginning of what the part asks for
+-- with the answers that came, and the outside was honest in it.
+pub record IsCutShort (part : Part) (old new : UnderWay) : Type 0 where
+  pub used : List Answered
+  pub asked : List Asked
+  pub begins : (before : List Asked) → Begins (part (moment_of before used old.world)).moment.asked (before ++ asked)
+  pub honest : IsHonest used asked old.outside new.outside
+
+-- unless memory was wanting, the part was done and ended as was answered; else it was cut short
 abbrev pub PartEnds : Result Ending AllocError → Part → UnderWay → UnderWay → Type 0
-PartEnds (Err e) part old new = OutsideStays old.outside new.outside
+PartEnds (Err e) part old new = IsCutShort part old new
 PartEnds (Ok ending) part old new = Does part old new (end_seen ending)

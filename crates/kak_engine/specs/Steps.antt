@@ -1,6 +1,7 @@
 -- The steps of a session: what each entry of its history does to the world, and what it gives its client.
 use Rattle.std.specs.Prelude.{◌≡◌, ℕ, Bool, true, false, not, ◌&&◌, nat_le, if◌then◌else◌, List, [], ◌∷◌, ◌++◌, length, None, Some, ⊤}
 use Rattle.kak_files.specs.Exchanges.{Exchange}
+use Rattle.session_turns.specs.Growth.{Begins}
 use Rattle.key_names.specs.declared.key.Key.{Key}
 use Rattle.kak_world.specs.declared.own.Mode.{Mode}
 use Rattle.kak_world.specs.declared.own.Mode.TheVariants.{Normal, Insert, Prompt}
@@ -14,7 +15,11 @@ use Rattle.session_events.specs.declared.event.Event.TheVariants.{Join, Key as S
 use Rattle.session_events.specs.declared.event.Answered.{Answered}
 use Rattle.session_events.specs.declared.event.Entry.{Entry}
 use Rattle.session_events.specs.declared.event.Output.{Output}
+use Rattle.session_events.specs.Entries.{is_join}
+use Rattle.session_events.specs.Legal.{Away, is_here, presence_from}
+use Rattle.kak_engine.specs.Asking.{Asked, files_in}
 use Rattle.kak_engine.specs.Doing.{DoingEnd, Fine, Failed, GivenUp, Moment, Outcome, strike, top}
+use Rattle.kak_engine.specs.Honesty.{Outside, IsHonest}
 
 -- a client is told why its key was refused
 abbrev pub refused : ℕ → List ℕ → Flat → Flat
@@ -32,7 +37,7 @@ begun who flat = with_units 4096 (with_own who (λ o. record o { status = Quiet 
 
 -- the moment when a key begins
 abbrev pub first_moment : ℕ → Flat → List Answered → Moment
-first_moment who flat answers = record { world = begun who flat; answers = answers; fit = true; exchanges = [] }
+first_moment who flat answers = record { world = begun who flat; answers = answers; fit = true; asked = [] }
 
 -- what is pending of a client whose key ends in a mode: outside insert mode it is committed
 abbrev pub ends_group : Mode → ℕ → Flat → Flat
@@ -56,15 +61,15 @@ unfoldable pub after_key : ℕ → Key → List Answered → Flat → Flat
 after_key who key answers flat =
     if is_client_leaving who flat then flat else key_ended who (struck who key answers flat)
 
--- what is exchanged with the files by a key, in order
-unfoldable pub exchanged_by_key : ℕ → Key → List Answered → Flat → List Exchange
-exchanged_by_key who key answers flat =
-    if is_client_leaving who flat then [] else (struck who key answers flat).moment.exchanges
+-- what the outside is asked for by a key, in order
+unfoldable pub asked_by_key : ℕ → Key → List Answered → Flat → List Asked
+asked_by_key who key answers flat =
+    if is_client_leaving who flat then [] else (struck who key answers flat).moment.asked
 
--- what is exchanged with the files by an event; only a key has them read or written
-abbrev pub exchanged : ℕ → Event → List Answered → Flat → List Exchange
-exchanged who (Struck key) answers flat = exchanged_by_key who key answers flat
-exchanged who _ answers flat = []
+-- what the outside is asked for by an event; nothing but a key asks it for anything
+abbrev pub asked_by : ℕ → Event → List Answered → Flat → List Asked
+asked_by who (Struck key) answers flat = asked_by_key who key answers flat
+asked_by who _ answers flat = []
 
 -- a client was drawn
 abbrev pub noted_drawn : ℕ → Flat → Flat
@@ -95,13 +100,17 @@ run_from flat (entry ∷ entries) = run_from (after_entry entry flat) entries
 abbrev pub run : List Entry → Flat
 run history = run_from opening history
 
--- what is exchanged with the files by the entries of a history, in order
-abbrev pub exchanges_from : Flat → List Entry → List Exchange
-exchanges_from flat [] = []
-exchanges_from flat (entry ∷ entries) = exchanged entry.who entry.event entry.answers flat ++ exchanges_from (after_entry entry flat) entries
+-- what the outside is asked for by the entries of a history, in order
+abbrev pub asked_from : Flat → List Entry → List Asked
+asked_from flat [] = []
+asked_from flat (entry ∷ entries) = asked_by entry.who entry.event entry.answers flat ++ asked_from (after_entry entry flat) entries
 
+abbrev pub asked_in : List Entry → List Asked
+asked_in history = asked_from opening history
+
+-- what is exchanged with the files by them
 abbrev pub exchanges : List Entry → List Exchange
-exchanges history = exchanges_from opening history
+exchanges history = files_in (asked_in history)
 
 -- what the outside answered in the entries of a history, in order
 abbrev pub answers_in : List Entry → List Answered
@@ -142,3 +151,19 @@ given_by before entry = output_of entry.who entry.event entry.answers (run befor
 -- whether no further client may come, behind some entries
 abbrev pub crowded_by : List Entry → Bool
 crowded_by history = is_session_full (run history)
+
+-- An event of a client was begun, and memory was wanting: what the outside was asked for in it is a beginning of what the
+-- event asks for with the answers that came, and the outside was honest in it.
+pub record IsStepCutShort (who : ℕ) (event : Event) (flat : Flat) (before now : Outside) : Type 0 where
+  pub answers : List Answered
+  pub asked : List Asked
+  pub begins : Begins (asked_by who event answers flat) asked
+  pub honest : IsHonest answers asked before now
+
+-- Behind a history an event was begun that has no entry, since memory was wanting for it: of a client that is here then, or a
+-- coming. (A coming asks for nothing, so that it stands for none, too.)
+pub record IsBegunBehind (history : List Entry) (before now : Outside) : Type 0 where
+  pub who : ℕ
+  pub event : Event
+  pub here : is_join event ≡ false → is_here (presence_from who Away history) ≡ true
+  pub cut : IsStepCutShort who event (run history) before now

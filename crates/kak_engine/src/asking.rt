@@ -1,25 +1,24 @@
-//! What the outside is asked for in a step: each answer is kept.
+//! What the outside is asked for in a step, and how its answers are kept.
 #![tactic(auto)]
 
-ghost use Rattle.std.specs.Prelude.{◌≡◌, ◌∷◌, ◌++◌, [], encode_utf8_all, IfOk, OnErr};
-ghost use Rattle.kak_files.specs.Exchanges.{Written};
+ghost use Rattle.std.specs.Prelude.{◌≡◌, encode_utf8_all, IfOk, OnErr};
 ghost use Rattle.regex_ports.specs.Making.{IfBuilt};
 ghost use Rattle.command_set.specs.Files.{saved_bytes};
 ghost use Rattle.kak_engine.specs.Answering.{made_told, read_told, put_told};
-ghost use Rattle.kak_engine.specs.Honesty.{OutsideStays, IsHonest};
+ghost use Rattle.kak_engine.specs.Honesty.{MakesPattern, WritesFile};
 
 use crate::outside::Outside;
 use command_set::bytes_saved;
-use kak_files::{FileRead, Files};
+use kak_files::FileRead;
 use kak_ports::Put;
 use kak_world::{Saving, World};
 use key_rows::string_of;
-use regex_ports::{Made, Pattern, PatternMaker};
-use session_events::{Answered, Answers};
+use regex_ports::{Made, Pattern};
+use session_events::Answered;
 use std::alloc::{AllocError, Global};
 
 // What a maker of patterns answered, as a history has it.
-fn made_told<P: Pattern>(made: &Made<P>) -> Answered
+pub(crate) fn made_told<P: Pattern>(made: &Made<P>) -> Answered
     ensures { result ≡ made_told made.now }
 {
     match made {
@@ -41,7 +40,7 @@ pub(crate) fn read_told(read: FileRead) -> Answered
 }
 
 // What was answered about a file that was written, as a history has it.
-fn put_told(put: Put) -> Answered
+pub(crate) fn put_told(put: Put) -> Answered
     ensures { result ≡ put_told put }
 {
     match put {
@@ -50,38 +49,30 @@ fn put_told(put: Put) -> Answered
     }
 }
 
-// Has the pattern of a text made, and keeps what the maker answered.
-pub(crate) fn make<F: Files, M: PatternMaker>(
+// Has the pattern of a text made.
+pub(crate) fn make<O: Outside>(
     alloc: Global,
-    outside: &mut Outside<F, M>,
-    answers: &mut Answers,
+    outside: &mut O,
     pattern: &[char],
-) -> Result<Made<M::P>, AllocError>
-    ensures built { IfOk result (λ made. IfBuilt made (λ p. M.P.source p ≡ encode_utf8_all pattern.now)) }
-    ensures honest { IfOk result (λ made. IsHonest (made_told made ∷ []) [] outside.old outside.new) }
-    ensures kept { IfOk result (λ made. answers.new ≡ answers.old ++ made_told made ∷ []) }
-    ensures err { OnErr result (OutsideStays outside.old outside.new) }
+) -> Result<Made<O::P>, AllocError>
+    ensures built { IfOk result (λ made. IfBuilt made (λ p. O.P.source p ≡ encode_utf8_all pattern.now)) }
+    ensures honest { IfOk result (λ made. MakesPattern made (encode_utf8_all pattern.now) (O.seen outside.old) (O.seen outside.new)) }
+    ensures err { OnErr result (O.seen outside.new ≡ O.seen outside.old) }
 {
     let text = string_of(alloc, pattern)?;
-    let made = outside.make(alloc, text.as_str())?;
-    answers.push(made_told(&made))?;
-    Ok(made)
+    outside.make(alloc, text.as_str())
 }
 
-// Has a buffer's text written to its file, and keeps what the files answered.
-pub(crate) fn write<F: Files, M: PatternMaker>(
+// Has a buffer's text written to its file.
+pub(crate) fn write<O: Outside>(
     alloc: Global,
     world: &World,
-    outside: &mut Outside<F, M>,
-    answers: &mut Answers,
+    outside: &mut O,
     saving: &Saving,
 ) -> Result<Put, AllocError>
-    ensures honest { IfOk result (λ put. IsHonest (put_told put ∷ []) (Written saving.now.file (saved_bytes saving.now world.now.flat) put ∷ []) outside.old outside.new) }
-    ensures kept { IfOk result (λ put. answers.new ≡ answers.old ++ put_told put ∷ []) }
-    ensures err { OnErr result (OutsideStays outside.old outside.new) }
+    ensures honest { IfOk result (λ put. WritesFile put saving.now.file (saved_bytes saving.now world.now.flat) (O.seen outside.old) (O.seen outside.new)) }
+    ensures err { OnErr result (O.seen outside.new ≡ O.seen outside.old) }
 {
     let bytes = bytes_saved(alloc, world, saving)?;
-    let put = outside.write(saving.file.as_str(), bytes.as_slice());
-    answers.push(put_told(put))?;
-    Ok(put)
+    Ok(outside.write(saving.file.as_str(), bytes.as_slice()))
 }

@@ -8,18 +8,16 @@ ghost use Rattle.kak_world.specs.declared.ask.Ask.TheVariants.{Make, Read, Write
 ghost use Rattle.kak_engine.specs.Doing.{Do, each, strike as strike_part, granted, row_key, run_text, run_command as one, go_on as rest_of, end_by_error, top};
 ghost use Rattle.kak_engine.specs.Seen.{PartEnds, end_seen, under_way};
 
-use crate::asking::{make, read_told, write};
+use crate::asking::{made_told, make, put_told, read_told, write};
 use crate::outside::Outside;
 use byte_texts::Utf8Text;
 use command_set::{finish, note_saved, open_read, read, run_command};
 use insert_prompt::{insert_key, prompt_key};
-use kak_files::Files;
 use kak_text::Chars;
 use kak_words::Command;
 use kak_world::{Ask, EditError, Mode, PatternUse, Saving, World};
 use key_names::Key;
 use normal_keys::normal_key;
-use regex_ports::PatternMaker;
 use session_events::Answers;
 use std::alloc::{AllocError, Global};
 
@@ -68,16 +66,16 @@ fn grant_leave(world: &mut World, who: u32)
 
 // Does what a row asks for, or ends with its error.
 #[cycle(nested)]
-fn go_on<F: Files, M: PatternMaker>(
+fn go_on<O: Outside>(
     alloc: Global,
     world: &mut World,
-    outside: &mut Outside<F, M>,
+    outside: &mut O,
     answers: &mut Answers,
     who: u32,
     row: Result<Ask, EditError>,
 ) -> Result<Ending, AllocError>
     requires { OnOk row (is_joined who world.old.flat ≡ true) }
-    ensures does { (before : Flat) (end : RowEnd) → GivesRow row world.old.flat end → PartEnds result (λ m. rest_of (Do who) top end m) (under_way before answers.old outside.old) (under_way world.new.flat answers.new outside.new) }
+    ensures does { (before : Flat) (end : RowEnd) → GivesRow row world.old.flat end → PartEnds result (λ m. rest_of (Do who) top end m) (under_way before answers.old (O.seen outside.old)) (under_way world.new.flat answers.new (O.seen outside.new)) }
 {
     match row {
         Ok(ask) => do_ask(alloc, world, outside, answers, who, ask),
@@ -87,16 +85,16 @@ fn go_on<F: Files, M: PatternMaker>(
 
 // Does what an ask says.
 #[cycle(nested)]
-fn do_ask<F: Files, M: PatternMaker>(
+fn do_ask<O: Outside>(
     alloc: Global,
     world: &mut World,
-    outside: &mut Outside<F, M>,
+    outside: &mut O,
     answers: &mut Answers,
     who: u32,
     ask: Ask,
 ) -> Result<Ending, AllocError>
     requires { is_joined who world.old.flat ≡ true }
-    ensures does { PartEnds result (λ m. Do who top (Asks ask) m) (under_way world.old.flat answers.old outside.old) (under_way world.new.flat answers.new outside.new) }
+    ensures does { PartEnds result (λ m. Do who top (Asks ask) m) (under_way world.old.flat answers.old (O.seen outside.old)) (under_way world.new.flat answers.new (O.seen outside.new)) }
 {
     match ask {
         Ask::Nothing => Ok(Ending::Fine),
@@ -113,34 +111,35 @@ fn do_ask<F: Files, M: PatternMaker>(
 
 // Has a pattern made, and goes on with the use of it that is wanted.
 #[cycle(nested)]
-fn make_and_use<F: Files, M: PatternMaker>(
+fn make_and_use<O: Outside>(
     alloc: Global,
     world: &mut World,
-    outside: &mut Outside<F, M>,
+    outside: &mut O,
     answers: &mut Answers,
     who: u32,
     wanted: PatternUse,
 ) -> Result<Ending, AllocError>
     requires { is_joined who world.old.flat ≡ true }
-    ensures does { PartEnds result (λ m. Do who top (Asks (Make wanted)) m) (under_way world.old.flat answers.old outside.old) (under_way world.new.flat answers.new outside.new) }
+    ensures does { PartEnds result (λ m. Do who top (Asks (Make wanted)) m) (under_way world.old.flat answers.old (O.seen outside.old)) (under_way world.new.flat answers.new (O.seen outside.new)) }
 {
-    let made = make(alloc, outside, answers, wanted.pattern.as_slice())?;
+    let made = make(alloc, outside, wanted.pattern.as_slice())?;
+    answers.push(made_told(&made))?;
     let row = finish(alloc, world, who, wanted.then, made);
     go_on(alloc, world, outside, answers, who, row)
 }
 
 // Has a file read, and shows it. What was read is shown first and kept then, so that its bytes aren't copied.
 #[cycle(nested)]
-fn read_and_show<F: Files, M: PatternMaker>(
+fn read_and_show<O: Outside>(
     alloc: Global,
     world: &mut World,
-    outside: &mut Outside<F, M>,
+    outside: &mut O,
     answers: &mut Answers,
     who: u32,
     name: Utf8Text,
 ) -> Result<Ending, AllocError>
     requires { is_joined who world.old.flat ≡ true }
-    ensures does { PartEnds result (λ m. Do who top (Asks (Read name)) m) (under_way world.old.flat answers.old outside.old) (under_way world.new.flat answers.new outside.new) }
+    ensures does { PartEnds result (λ m. Do who top (Asks (Read name)) m) (under_way world.old.flat answers.old (O.seen outside.old)) (under_way world.new.flat answers.new (O.seen outside.new)) }
 {
     let read = outside.read(alloc, name.as_str())?;
     let row = open_read(alloc, world, who, name, &read);
@@ -150,34 +149,35 @@ fn read_and_show<F: Files, M: PatternMaker>(
 
 // Has a buffer written to a file, and goes on with whether it was.
 #[cycle(nested)]
-fn write_and_note<F: Files, M: PatternMaker>(
+fn write_and_note<O: Outside>(
     alloc: Global,
     world: &mut World,
-    outside: &mut Outside<F, M>,
+    outside: &mut O,
     answers: &mut Answers,
     who: u32,
     saving: Saving,
 ) -> Result<Ending, AllocError>
     requires { is_joined who world.old.flat ≡ true }
-    ensures does { PartEnds result (λ m. Do who top (Asks (Write saving)) m) (under_way world.old.flat answers.old outside.old) (under_way world.new.flat answers.new outside.new) }
+    ensures does { PartEnds result (λ m. Do who top (Asks (Write saving)) m) (under_way world.old.flat answers.old (O.seen outside.old)) (under_way world.new.flat answers.new (O.seen outside.new)) }
 {
-    let put = write(alloc, world, outside, answers, &saving)?;
+    let put = write(alloc, world, outside, &saving)?;
+    answers.push(put_told(put))?;
     let row = note_saved(alloc, world, who, saving, put);
     go_on(alloc, world, outside, answers, who, row)
 }
 
 // Runs one command.
 #[cycle(nested)]
-fn run_one<F: Files, M: PatternMaker>(
+fn run_one<O: Outside>(
     alloc: Global,
     world: &mut World,
-    outside: &mut Outside<F, M>,
+    outside: &mut O,
     answers: &mut Answers,
     who: u32,
     command: &Command,
 ) -> Result<Ending, AllocError>
     requires { is_joined who world.old.flat ≡ true }
-    ensures does { PartEnds result (λ m. one (Do who) who top command.now m) (under_way world.old.flat answers.old outside.old) (under_way world.new.flat answers.new outside.new) }
+    ensures does { PartEnds result (λ m. one (Do who) who top command.now m) (under_way world.old.flat answers.old (O.seen outside.old)) (under_way world.new.flat answers.new (O.seen outside.new)) }
 {
     if !world.take_unit() {
         return Ok(Ending::GivenUp);
@@ -188,16 +188,16 @@ fn run_one<F: Files, M: PatternMaker>(
 
 // Runs commands, up to the first that doesn't end well.
 #[cycle(nested)]
-fn run_each<F: Files, M: PatternMaker>(
+fn run_each<O: Outside>(
     alloc: Global,
     world: &mut World,
-    outside: &mut Outside<F, M>,
+    outside: &mut O,
     answers: &mut Answers,
     who: u32,
     commands: &[Command],
 ) -> Result<Ending, AllocError>
     requires { is_joined who world.old.flat ≡ true }
-    ensures does { PartEnds result (λ m. each (one (Do who) who top) commands.now m) (under_way world.old.flat answers.old outside.old) (under_way world.new.flat answers.new outside.new) }
+    ensures does { PartEnds result (λ m. each (one (Do who) who top) commands.now m) (under_way world.old.flat answers.old (O.seen outside.old)) (under_way world.new.flat answers.new (O.seen outside.new)) }
 {
     for command in commands {
         match run_one(alloc, world, outside, answers, who, command)? {
@@ -211,16 +211,16 @@ fn run_each<F: Files, M: PatternMaker>(
 
 // Runs a text as commands.
 #[cycle(nested)]
-fn run_text<F: Files, M: PatternMaker>(
+fn run_text<O: Outside>(
     alloc: Global,
     world: &mut World,
-    outside: &mut Outside<F, M>,
+    outside: &mut O,
     answers: &mut Answers,
     who: u32,
     text: &[char],
 ) -> Result<Ending, AllocError>
     requires { is_joined who world.old.flat ≡ true }
-    ensures does { PartEnds result (λ m. run_text (Do who) who top text.now m) (under_way world.old.flat answers.old outside.old) (under_way world.new.flat answers.new outside.new) }
+    ensures does { PartEnds result (λ m. run_text (Do who) who top text.now m) (under_way world.old.flat answers.old (O.seen outside.old)) (under_way world.new.flat answers.new (O.seen outside.new)) }
 {
     match read(alloc, text) {
         Ok(commands) => run_each(alloc, world, outside, answers, who, commands.as_slice()),
@@ -230,16 +230,16 @@ fn run_text<F: Files, M: PatternMaker>(
 
 /// Runs a key of a client, which stays joined. What the outside answers is added to the answers. An `Err` comes only for
 /// want of memory; the world may then have been changed in part.
-pub fn strike<F: Files, M: PatternMaker>(
+pub fn strike<O: Outside>(
     alloc: Global,
     world: &mut World,
-    outside: &mut Outside<F, M>,
+    outside: &mut O,
     answers: &mut Answers,
     who: u32,
     key: Key,
 ) -> Result<Ending, AllocError>
     requires { is_joined who world.old.flat ≡ true }
-    ensures does { PartEnds result (λ m. strike_part who top key m) (under_way world.old.flat answers.old outside.old) (under_way world.new.flat answers.new outside.new) }
+    ensures does { PartEnds result (λ m. strike_part who top key m) (under_way world.old.flat answers.old (O.seen outside.old)) (under_way world.new.flat answers.new (O.seen outside.new)) }
     ensures joined { OnOk result (is_joined who world.new.flat ≡ true) }
 {
     if !world.take_unit() {

@@ -2,13 +2,14 @@
 #![tactic(auto, using(kak_world::proofs::WorldLaws::world_laws, crate::proofs::KeepingLaws::joined_key))]
 
 ghost use Rattle.std.specs.Prelude.{◌≡◌, ◌<◌, ◌≤◌, ◌^◌, [], ◌∷◌, ◌++◌, length, true, None, Some, Err, IfOk, IfErr, IfSome, OnErr, OnOk, IsOk, false, ◌&&◌, ◌+◌, not, vec_len, vec_capacity};
-ghost use Rattle.kak_world.specs.Flat.{is_here, is_joined, is_client_leaving};
+ghost use Rattle.text_model.specs.Texts.{line_count};
+ghost use Rattle.kak_world.specs.Flat.{is_here, is_joined, is_client_leaving, text_of, sels_of};
 ghost use Rattle.kak_world.specs.Settled.{AllListsSettled};
 ghost use Rattle.kak_world.specs.declared.world.TheConstants.{MAX_CLIENTS};
-ghost use Rattle.kak_engine.specs.Steps.{after_key, after_event, output_of, exchanged, exchanges, run, begun, told, refused, group_ended, noted_drawn, AreAskedFor, AllAsked};
+ghost use Rattle.kak_engine.specs.Steps.{after_key, after_event, output_of, asked_by, exchanges, run, begun, told, refused, group_ended, noted_drawn, AreAskedFor, AllAsked, IsStepCutShort};
 ghost use Rattle.kak_engine.specs.Seen.{end_seen};
-ghost use Rattle.kak_engine.specs.Honesty.{outside_of, IsUntouched, OutsideStays, IsHonest, IsKept};
-ghost use Rattle.kak_engine.specs.Held.{event_refusal, refused_by, marked_after, marked_by, CanRun, TakesEvent};
+ghost use Rattle.kak_engine.specs.Honesty.{IsUntouched, IsHonest, IsKept};
+ghost use Rattle.kak_engine.specs.Held.{event_refusal, refused_by, marked_after, marked_by, CanRun, TakesEvent, CutsEvent};
 ghost use Rattle.session_events.specs.declared.event.Event.TheVariants.{Leave, Key as Struck};
 ghost use Rattle.session_events.specs.declared.fault.StepFault.TheVariants.{NoMemory};
 ghost use Rattle.session_events.specs.Entries.{entry_of, is_join, is_leave, has_joined};
@@ -19,42 +20,39 @@ use crate::doing::{Ending, strike};
 use crate::outside::Outside;
 use draw_model::{draw, follow_cursor};
 use drawings::Drawing;
-use kak_files::Files;
 use kak_text::Chars;
 use kak_world::{BUDGET_SPENT, MAX_CLIENTS, Mode, StatusText, World};
 use key_names::Key;
-use regex_ports::PatternMaker;
 use session_events::{Answers, Entry, Event, Output, StepFault, is_join, is_leave};
 use std::alloc::{AllocError, Global};
 use std::marker::Model;
 
-/// No engine could be made, since memory was wanting; its files and its maker of patterns are given back.
+/// No engine could be made, since memory was wanting; its outside is given back.
 #[derive(Drop, Debug)]
-pub struct NoEngine<F, M> {
-    pub files: F,
-    pub patterns: M,
+pub struct NoEngine<O> {
+    pub outside: O,
 }
 
-/// The engine. Contracts see its history, its mark, its limit and its outside: what its files are seen as, and how often
-/// its maker of patterns has refused. The world follows from the history.
+/// The engine. Contracts see its history, its mark, its limit and what its outside is seen as. The world follows from the
+/// history.
 #[derive(Drop, Debug)]
-pub struct Engine<F: Files, M: PatternMaker> {
+pub struct Engine<O: Outside> {
     world: World,
-    outside: Outside<F, M>,
+    outside: O,
     history: Vec<Entry>,
     limit: u64,
     mark: Option<u64>,
 }
 
-impl<F: Files, M: PatternMaker> Model for Engine<F, M> {
+impl<O: Outside> Model for Engine<O> {
     ghost use Rattle.std.specs.Prelude.{vec_len, vec_capacity};
     ghost use Rattle.kak_engine.specs.Held.{HeldEngine, EngineStands, KeepsPlaces};
 
     ghost Value = { HeldEngine };
 
-    ghost view = { λ e. record { history = e.history.items; mark = e.mark; limit = e.limit; outside = e.outside } };
+    ghost view = { λ e. record { history = e.history.items; mark = e.mark; limit = e.limit; outside = O.seen e.outside } };
 
-    ghost invariant = { λ e. EngineStands e.world.flat e.history.items e.mark e.limit e.outside.shelf × KeepsPlaces e.mark e.world.flat (vec_len e.history) (vec_capacity e.history) };
+    ghost invariant = { λ e. EngineStands e.world.flat e.history.items e.mark e.limit (O.seen e.outside).shelf × KeepsPlaces e.mark e.world.flat (vec_len e.history) (vec_capacity e.history) };
 }
 
 // Tells a client why its key was refused.
@@ -104,10 +102,10 @@ fn begin(world: &mut World, who: u32)
 }
 
 // Runs a key of a client that wasn't granted to leave.
-fn run_struck<F: Files, M: PatternMaker>(
+fn run_struck<O: Outside>(
     alloc: Global,
     world: &mut World,
-    outside: &mut Outside<F, M>,
+    outside: &mut O,
     answers: &mut Answers,
     who: u32,
     key: Key,
@@ -117,8 +115,8 @@ fn run_struck<F: Files, M: PatternMaker>(
     requires fresh { answers.old ≡ [] }
     ensures leads { OnOk result (world.new.flat ≡ after_key who key answers.new world.old.flat) }
     ensures asked { OnOk result (AreAskedFor who (Struck key) answers.new world.old.flat) }
-    ensures honest { OnOk result (IsHonest answers.new (exchanged who (Struck key) answers.new world.old.flat) outside.old outside.new) }
-    ensures err { OnErr result (OutsideStays outside.old outside.new) }
+    ensures honest { OnOk result (IsHonest answers.new (asked_by who (Struck key) answers.new world.old.flat) (O.seen outside.old) (O.seen outside.new)) }
+    ensures cut { OnErr result (IsStepCutShort who (Struck key) world.old.flat (O.seen outside.old) (O.seen outside.new)) }
 {
     begin(world, who);
     let ending = strike(alloc, world, outside, answers, who, key)?;
@@ -129,10 +127,10 @@ fn run_struck<F: Files, M: PatternMaker>(
 }
 
 // Runs a key of a client, and tells whether it was granted to leave by it. Once it was, its keys do nothing.
-fn run_key<F: Files, M: PatternMaker>(
+fn run_key<O: Outside>(
     alloc: Global,
     world: &mut World,
-    outside: &mut Outside<F, M>,
+    outside: &mut O,
     answers: &mut Answers,
     who: u32,
     key: Key,
@@ -142,8 +140,8 @@ fn run_key<F: Files, M: PatternMaker>(
     ensures leads { OnOk result (world.new.flat ≡ after_key who key answers.new world.old.flat) }
     ensures leaving { IfOk result (λ leaving. leaving ≡ (is_client_leaving who (after_key who key answers.new world.old.flat) && not (is_client_leaving who world.old.flat))) }
     ensures asked { OnOk result (AreAskedFor who (Struck key) answers.new world.old.flat) }
-    ensures honest { OnOk result (IsHonest answers.new (exchanged who (Struck key) answers.new world.old.flat) outside.old outside.new) }
-    ensures err { OnErr result (OutsideStays outside.old outside.new) }
+    ensures honest { OnOk result (IsHonest answers.new (asked_by who (Struck key) answers.new world.old.flat) (O.seen outside.old) (O.seen outside.new)) }
+    ensures cut { OnErr result (IsStepCutShort who (Struck key) world.old.flat (O.seen outside.old) (O.seen outside.new)) }
 {
     let own = world.own(who);
     if own.leaving {
@@ -167,10 +165,10 @@ fn redraw(alloc: Global, world: &mut World, who: u32) -> Result<Drawing, AllocEr
 }
 
 // Runs an event that is not refused. What the outside answers is added to the answers. A client that comes has joined then.
-fn run_event<F: Files, M: PatternMaker>(
+fn run_event<O: Outside>(
     alloc: Global,
     world: &mut World,
-    outside: &mut Outside<F, M>,
+    outside: &mut O,
     answers: &mut Answers,
     who: u32,
     event: Event,
@@ -180,9 +178,9 @@ fn run_event<F: Files, M: PatternMaker>(
     ensures gives { IfOk result (λ output. output ≡ output_of who event answers.new world.old.flat) }
     ensures leads { OnOk result (world.new.flat ≡ after_event who event answers.new world.old.flat) }
     ensures asked { OnOk result (AreAskedFor who event answers.new world.old.flat) }
-    ensures honest { OnOk result (IsHonest answers.new (exchanged who event answers.new world.old.flat) outside.old outside.new) }
+    ensures honest { OnOk result (IsHonest answers.new (asked_by who event answers.new world.old.flat) (O.seen outside.old) (O.seen outside.new)) }
     ensures joined { OnOk result (is_join event ≡ true → is_joined who world.new.flat ≡ true) }
-    ensures err { OnErr result (OutsideStays outside.old outside.new) }
+    ensures cut { OnErr result (IsStepCutShort who event world.old.flat (O.seen outside.old) (O.seen outside.new)) }
 {
     match event {
         Event::Join => {
@@ -252,16 +250,16 @@ fn keep_leaving(alloc: Global, world: &mut World, history: &mut Vec<Entry>, who:
     history.push_reserved(Entry {
         who,
         event: Event::Leave,
-        answers: Answers::none(alloc),
+        answers: Answers::new(alloc),
     });
     Output::nothing()
 }
 
 // Runs an event that is not refused. Places are kept for its entry, and for the going of each client that is here then.
-fn run_with_places<F: Files, M: PatternMaker>(
+fn run_with_places<O: Outside>(
     alloc: Global,
     world: &mut World,
-    outside: &mut Outside<F, M>,
+    outside: &mut O,
     answers: &mut Answers,
     history: &mut Vec<Entry>,
     who: u32,
@@ -273,48 +271,42 @@ fn run_with_places<F: Files, M: PatternMaker>(
     ensures gives { IfOk result (λ output. output ≡ output_of who event answers.new world.old.flat) }
     ensures leads { OnOk result (world.new.flat ≡ after_event who event answers.new world.old.flat) }
     ensures asked { OnOk result (AreAskedFor who event answers.new world.old.flat) }
-    ensures honest { OnOk result (IsHonest answers.new (exchanged who event answers.new world.old.flat) outside.old outside.new) }
+    ensures honest { OnOk result (IsHonest answers.new (asked_by who event answers.new world.old.flat) (O.seen outside.old) (O.seen outside.new)) }
     ensures joined { OnOk result (is_join event ≡ true → is_joined who world.new.flat ≡ true) }
     ensures places { OnOk result (vec_len history.new + 1 + length world.new.flat.clients ≤ vec_capacity history.new) }
     ensures same { history.new.items ≡ history.old.items }
-    ensures err { OnErr result (OutsideStays outside.old outside.new) }
+    ensures cut { OnErr result (IsStepCutShort who event world.old.flat (O.seen outside.old) (O.seen outside.new)) }
 {
     let output = run_event(alloc, world, outside, answers, who, event)?;
     history.reserve(1 + world.client_count())?;
     Ok(output)
 }
 
-impl<F: Files, M: PatternMaker> Engine<F, M> {
-    /// An engine with an empty history, which may have so many entries (leaving aside), with files and a maker of patterns.
-    /// The files hold what they held when they were made, where that is told.
-    pub fn new(
-        alloc: Global,
-        files: F,
-        patterns: M,
-        limit: u64,
-    ) -> Result<Engine<F, M>, NoEngine<F, M>>
-        requires { IsUntouched (F.shelf files).told }
-        ensures new { IfOk result (λ e. e ≡ record { history = []; mark = None; limit = limit; outside = outside_of (F.shelf files) (M.refusals patterns) }) }
-        ensures none { IfErr result (λ none. (none.files ≡ files) × (none.patterns ≡ patterns)) }
+impl<O: Outside> Engine<O> {
+    /// An engine with an empty history, which may have so many entries (leaving aside), with an outside. The outside's files
+    /// hold what they held when they were made, where that is told.
+    pub fn new(alloc: Global, outside: O, limit: u64) -> Result<Engine<O>, NoEngine<O>>
+        requires { IsUntouched (O.seen outside).shelf.told }
+        ensures new { IfOk result (λ e. e ≡ record { history = []; mark = None; limit = limit; outside = O.seen outside }) }
+        ensures none { IfErr result (λ none. none.outside ≡ outside) }
     {
         match World::new(alloc) {
             Ok(world) => Ok(Engine {
                 world,
-                outside: Outside::new(files, patterns),
+                outside,
                 history: Vec::new(alloc),
                 limit,
                 mark: None,
             }),
-            Err(_) => Err(NoEngine { files, patterns }),
+            Err(_) => Err(NoEngine { outside }),
         }
     }
 
-    /// The files and the maker of patterns, as they were seen: what the files hold and how often each has failed or refused
-    /// is what the steps say. Nothing else is said of them, neither of a file's content where the files don't tell it, nor of
-    /// what a later call of them answers beyond what its own contract says.
-    pub fn into_outside(self) -> (F, M)
-        ensures files { F.shelf result.0 ≡ self.outside.shelf }
-        ensures patterns { M.refusals result.1 ≡ self.outside.refusals }
+    /// The outside, as it was seen: what its files hold, how often they failed and how often its maker of patterns refused, and
+    /// what it was asked for, is what the steps say. Nothing else is said of it, neither of a file's content where the files
+    /// don't tell it, nor of what a later call of it answers beyond what its own contract says.
+    pub fn into_outside(self) -> O
+        ensures outside { O.seen result ≡ self.outside }
         ensures kept { self.mark ≡ None → IsKept (exchanges self.history) self.outside.shelf }
         ensures asked { AllAsked self.history }
     {
@@ -325,15 +317,17 @@ impl<F: Files, M: PatternMaker> Engine<F, M> {
             limit: _,
             mark: _,
         } = self;
-        outside.into_parts()
+        outside
     }
 
     /// The entries, in order. Each client comes first and once, and makes nothing behind its going; behind as many entries
-    /// as there may be, there are leavings alone. In each the outside answered what it was asked for.
+    /// as there may be, there are leavings alone; and never are more than 64 clients here. In each the outside answered what it
+    /// was asked for. A mark is the number of the entries.
     pub fn history(&self) -> &[Entry]
         ensures value { result.now ≡ self.now.history }
         ensures legal { IsLegal self.now.limit self.now.history }
         ensures asked { AllAsked self.now.history }
+        ensures marked { IfSome self.now.mark (λ at. at ≡ length self.now.history) }
     {
         self.history.as_slice()
     }
@@ -362,6 +356,34 @@ impl<F: Files, M: PatternMaker> Engine<F, M> {
         self.history.len() as u64
     }
 
+    /// How many characters the text has that a client sees. The engine isn't broken, and the client is here.
+    pub fn chars(&self, who: u32) -> u64
+        requires whole { self.now.mark ≡ None }
+        requires here { is_in (presence_from who Away self.now.history) ≡ true }
+        ensures { result ≡ length (text_of who (run self.now.history)) }
+    {
+        self.world.lines(who).len() as u64
+    }
+
+    /// How many lines the text has that a client sees. The engine isn't broken, and the client is here.
+    pub fn lines(&self, who: u32) -> u64
+        requires whole { self.now.mark ≡ None }
+        requires here { is_in (presence_from who Away self.now.history) ≡ true }
+        ensures { result ≡ line_count (text_of who (run self.now.history)) }
+    {
+        self.world.lines(who).line_count() as u64
+    }
+
+    /// How many selections a client has on the text that it sees. The engine isn't broken, and the client is here. An error is
+    /// want of memory.
+    pub fn sels(&self, _alloc: Global, who: u32) -> Result<u64, AllocError>
+        requires whole { self.now.mark ≡ None }
+        requires here { is_in (presence_from who Away self.now.history) ≡ true }
+        ensures { IfOk result (λ count. count ≡ length (sels_of who (run self.now.history)).list) }
+    {
+        Ok(self.world.sels(who).len() as u64)
+    }
+
     // Why an event of a client is refused, if it is.
     fn refusal(&self, who: u32, event: Event) -> Option<StepFault>
         ensures refused { result ≡ event_refusal self.now who event }
@@ -379,7 +401,8 @@ impl<F: Files, M: PatternMaker> Engine<F, M> {
         ensures takes { IfOk result (λ output. TakesEvent who event self.old self.new output) }
         ensures marked { OnOk result (self.new.mark ≡ self.old.mark) }
         ensures joined { OnOk result (is_leave event ≡ false → is_in (presence_from who Away self.new.history) ≡ true) }
-        ensures err { OnErr result ((self.new.history ≡ self.old.history) × OutsideStays self.old.outside self.new.outside) }
+        ensures err { OnErr result (self.new.history ≡ self.old.history) }
+        ensures cut { OnErr result (CutsEvent who event self.old self.new) }
         ensures breaks { OnErr result (self.new.mark ≡ marked_by self.old.mark (length self.old.history)) }
         ensures leaves { is_leave event ≡ true → IsOk result }
         ensures limit { self.new.limit ≡ self.old.limit }
@@ -388,7 +411,7 @@ impl<F: Files, M: PatternMaker> Engine<F, M> {
         if is_leave(event) {
             return Ok(keep_leaving(alloc, &mut self.world, &mut self.history, who));
         }
-        let mut answers = Answers::none(alloc);
+        let mut answers = Answers::new(alloc);
         let ran = run_with_places(
             alloc,
             &mut self.world,
@@ -417,13 +440,15 @@ impl<F: Files, M: PatternMaker> Engine<F, M> {
     /// Takes one event of a client. On Ok it stands as the last entry of the history, with what the outside answered, and the
     /// output is what it gives on the world that the history led to; unless it left, the client is here. Refusals are tested
     /// in the order `Broken`, `NoClient`, `Joined`, `HistoryFull`, `Full`; they change nothing. `NoMemory` adds no entry, and
-    /// breaks the engine; a client's going never wants memory.
+    /// breaks the engine; the outside was then asked for a beginning of what the event asks for. A client's going never wants
+    /// memory.
     pub fn step(&mut self, alloc: Global, who: u32, event: Event) -> Result<Output, StepFault>
         ensures refused { IfSome (event_refusal self.old who event) (λ fault. (result ≡ Err fault) × (self.new.outside ≡ self.old.outside)) }
         ensures answered { event_refusal self.old who event ≡ None → IfErr result (λ fault. (fault ≡ NoMemory) × (is_leave event ≡ false)) }
         ensures takes { IfOk result (λ output. TakesEvent who event self.old self.new output) }
         ensures joined { OnOk result (is_leave event ≡ false → is_in (presence_from who Away self.new.history) ≡ true) }
-        ensures err { OnErr result ((self.new.history ≡ self.old.history) × OutsideStays self.old.outside self.new.outside) }
+        ensures err { OnErr result (self.new.history ≡ self.old.history) }
+        ensures cut { event_refusal self.old who event ≡ None → OnErr result (CutsEvent who event self.old self.new) }
         ensures mark { self.new.mark ≡ marked_after result self.old }
         ensures limit { self.new.limit ≡ self.old.limit }
         ensures legal { IsLegal self.new.limit self.new.history }

@@ -4,10 +4,15 @@
 pub mod asking;
 pub mod doing;
 pub mod engine;
+pub mod files_and_patterns;
 pub mod laws;
+pub mod none;
 pub mod outside;
 pub mod seat;
+pub mod trace;
 
 pub use engine::{Engine, NoEngine};
+pub use files_and_patterns::FilesAndPatterns;
+pub use none::NoOutside;
 pub use outside::Outside;
 pub use seat::EngineSeats;

@@ -4,8 +4,8 @@ ghost use Rattle.std.specs.Prelude.{◌≡◌};
 ghost use Rattle.kak_words.specs.declared.parts.WordError.TheVariants.{NoMemory};
 
 use byte_texts::Utf8Text;
+use sequences::Seq;
 use std::alloc::AllocError;
-use std::marker::Model;
 use thiserror::Error;
 
 /// Why words aren't read or expanded.
@@ -44,44 +44,8 @@ pub enum Piece {
     Expansion(Named),
 }
 
-/// The pieces of a word. Contracts see the list of them.
-#[derive(Drop, Debug)]
-pub struct Pieces {
-    pieces: Vec<Piece>,
-}
-
-impl Model for Pieces {
-    ghost use Rattle.std.specs.Prelude.{List};
-    ghost use Rattle.kak_words.specs.declared.parts.Piece.{Piece};
-
-    ghost Value = { List Piece };
-
-    ghost view = { λ p. p.pieces.items };
-}
-
-impl Pieces {
-    /// The pieces of a vector, which is taken over.
-    pub fn of_vec(pieces: Vec<Piece>) -> Pieces
-        ensures { result ≡ pieces.items }
-    {
-        Pieces { pieces }
-    }
-
-    /// The pieces as a vector; no memory is taken.
-    pub fn into_vec(self) -> Vec<Piece>
-        ensures { result.items ≡ self }
-    {
-        let Pieces { pieces } = self;
-        pieces
-    }
-
-    /// The pieces as a slice.
-    pub fn as_slice(&self) -> &[Piece]
-        ensures { result.now ≡ self.now }
-    {
-        self.pieces.as_slice()
-    }
-}
+/// The pieces of a word.
+pub type Pieces = Seq<Piece>;
 
 /// A word: its pieces, and whether it is quoted. A quoted word stands for one string, and the others for as many as
 /// their pieces give.
@@ -91,44 +55,8 @@ pub struct Word {
     pub quoted: bool,
 }
 
-/// The words of a command. Contracts see the list of them.
-#[derive(Drop, Debug)]
-pub struct CommandWords {
-    words: Vec<Word>,
-}
-
-impl Model for CommandWords {
-    ghost use Rattle.std.specs.Prelude.{List};
-    ghost use Rattle.kak_words.specs.declared.parts.Word.{Word};
-
-    ghost Value = { List Word };
-
-    ghost view = { λ w. w.words.items };
-}
-
-impl CommandWords {
-    /// The words of a vector, which is taken over.
-    pub fn of_vec(words: Vec<Word>) -> CommandWords
-        ensures { result ≡ words.items }
-    {
-        CommandWords { words }
-    }
-
-    /// The words as a vector; no memory is taken.
-    pub fn into_vec(self) -> Vec<Word>
-        ensures { result.items ≡ self }
-    {
-        let CommandWords { words } = self;
-        words
-    }
-
-    /// The words as a slice.
-    pub fn as_slice(&self) -> &[Word]
-        ensures { result.now ≡ self.now }
-    {
-        self.words.as_slice()
-    }
-}
+/// The words of a command.
+pub type CommandWords = Seq<Word>;
 
 /// A command: its words, of which there is at least one where it was read.
 #[derive(Drop, Debug)]

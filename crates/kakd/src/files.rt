@@ -1,6 +1,6 @@
 //! The files of the disk, as a type without parameters: a closure that starts a thread is handed none with parameters yet.
 
-ghost use Rattle.std.specs.Prelude.{◌≡◌};
+ghost use Rattle.std.specs.Prelude.{◌≡◌, None};
 
 use disk_files::DiskFiles;
 use kak_files::{FileRead, Files};
@@ -14,9 +14,10 @@ pub struct ServerFiles {
 }
 
 impl ServerFiles {
-    /// Files of which no read and no write has failed yet.
+    /// Files that don't tell what they hold, and of which no read and no write has failed yet.
     pub fn new(rt: HostRuntime, alloc: Global) -> ServerFiles
-        ensures { (⟦<ServerFiles as Files>⟧.shelf result).faults ≡ 0 }
+        ensures untold { (⟦<ServerFiles as Files>⟧.shelf result).told ≡ None }
+        ensures faults { (⟦<ServerFiles as Files>⟧.shelf result).faults ≡ 0 }
     {
         ServerFiles {
             disk: DiskFiles::new(rt, alloc),

@@ -2,40 +2,24 @@
 #![tactic(auto)]
 
 mod files;
+mod outside;
 
-use crate::files::ServerFiles;
+use crate::outside::ServerOutside;
+use host_words::{NoWords, words_given};
 use jobs::{ThreadSpawner, begin};
 use line_gates::OpenGate;
-use regex_ports::RegexMaker;
 use session_server::{LinkJob, ServerStatus, run_server};
 use std::process::ExitCode;
-use std::{env, io};
 use unix_links::{UnixAcceptor, UnixLink};
 
 // The job of a client.
-type ClientJob = LinkJob<UnixLink, ServerFiles, RegexMaker, OpenGate>;
-
-// The words behind the program's name.
-fn words(rt: &HostRuntime) -> io::Result<Vec<String>> {
-    let mut words = Vec::new(rt.alloc());
-    for word in env::args(rt)?.skip(1) {
-        words.push(word)?;
-    }
-    Ok(words)
-}
-
-// How the program ends where its words can't be had: one of them isn't UTF-8, or memory ran out.
-fn without_words(error: &io::Error) -> ServerStatus {
-    match error.kind() {
-        io::ErrorKind::InvalidData => ServerStatus::Usage,
-        _ => ServerStatus::NoMemory,
-    }
-}
+type ClientJob = LinkJob<UnixLink, ServerOutside, OpenGate>;
 
 fn main(rt: HostRuntime) -> ExitCode {
-    let words = match words(&rt) {
+    let words = match words_given(&rt) {
         Ok(words) => words,
-        Err(error) => return ExitCode::from(without_words(&error).code()),
+        Err(NoWords::NotUtf8) => return ExitCode::from(ServerStatus::Usage.code()),
+        Err(NoWords::NoMemory) => return ExitCode::from(ServerStatus::NoMemory.code()),
     };
     let alloc = rt.alloc();
     let mut acceptor = UnixAcceptor::new(rt, alloc);
@@ -47,8 +31,7 @@ fn main(rt: HostRuntime) -> ExitCode {
         &mut acceptor,
         &mut spawner,
         OpenGate,
-        ServerFiles::new(rt, alloc),
-        RegexMaker::new(),
+        ServerOutside::new(rt, alloc),
     );
     ExitCode::from(status.code())
 }

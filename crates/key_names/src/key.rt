@@ -2,7 +2,7 @@
 
 ghost use Rattle.std.specs.Prelude.{◌≡◌};
 
-use std::marker::Model;
+use sequences::Seq;
 
 /// What a key is without its modifiers: a character, a key with a name, or a function key by its
 /// number. Reading gives no control character, and of function keys the numbers 1 to 12.
@@ -45,40 +45,5 @@ impl Key {
     }
 }
 
-/// Keys in a row. Contracts see the list of them.
-#[derive(Drop, Debug)]
-pub struct Keys {
-    keys: Vec<Key>,
-}
-
-impl Model for Keys {
-    ghost use Rattle.std.specs.Prelude.{List};
-    ghost use Rattle.key_names.specs.declared.key.Key.{Key};
-
-    ghost Value = { List Key };
-
-    ghost view = { λ k. k.keys.items };
-}
-
-impl Keys {
-    /// The keys of a vector; no memory is taken.
-    pub fn from_vec(keys: Vec<Key>) -> Keys
-        ensures { result ≡ keys.items }
-    {
-        Keys { keys }
-    }
-
-    /// Gives the vector back; no memory is taken.
-    pub fn into_vec(self) -> Vec<Key>
-        ensures { result.items ≡ self }
-    {
-        self.keys
-    }
-
-    /// The keys as a slice.
-    pub fn as_slice(&self) -> &[Key]
-        ensures { result.now ≡ self.now }
-    {
-        self.keys.as_slice()
-    }
-}
+/// Keys in a row.
+pub type Keys = Seq<Key>;

@@ -25,7 +25,10 @@ use Rattle.session_lines.specs.declared.playing.Stop.{Stop}
 use Rattle.session_lines.specs.declared.playing.Stop.TheVariants as stop
 use Rattle.session_lines.specs.Session.{protocol}
 use Rattle.session_lines.specs.Serving.{Service}
+use Rattle.session_lines.specs.Reading.{WasDueStill}
 use Rattle.session_lines.specs.Connections.{connection_end, WasServed}
+use Rattle.session_lines.proofs.ReadingLemmas.{refused-end}
+use Rattle.session_lines.proofs.ConnectionLemmas.{lost-end}
 use Rattle.link_lines.specs.declared.ended.Ended.{Ended}
 use Rattle.link_lines.specs.declared.ended.Ended.TheVariants.{Left, Closed, LinkRead, LinkWrite, InputFull, HistoryFull, Full, Broken, NoMemory}
 use Rattle.link_lines.specs.Endings.{result_of, PartsHistory, WasServedOver, JoinsNot}
@@ -88,7 +91,7 @@ nothing-full g k h a left none = (
     out = [];
     sends = Appends-nil a.told;
     served = record { lines = inl refl; stands = refused-stands g k h none };
-    end_is = tt;
+    end_is = refused-end g.opens (WasDueStill g.gives k h) left (answers (rules g.gives) k h) tt (none-answered g.gives k h none);
   },
   refl,
 )
@@ -104,7 +107,7 @@ nothing-lost g k h a left why lost none = (
     out = [];
     sends = Appends-nil a.told;
     served = subst (λ e. IsServed (protocol g.opens) (rules g.gives) e k h [] (IsAll left []) [] []) (sym lost) (record { lines = inl refl; stands = lost-stands g k h none });
-    end_is = tt;
+    end_is = lost-end g.opens (WasDueStill g.gives k h) (Opening ∷ []) [] (answers (rules g.gives) k h) why left [] lost;
   },
   refl,
 )

@@ -1,7 +1,7 @@
 -- Drawings for which a client didn't ask, over phases one after another.
-use Rattle.std.proofs.Common.{◌≡◌, ℕ, inl, inr, Bool, true, false, List, [], ◌∷◌, ◌++◌, take, drop, Ok, Err, refl, sym, ap, ◌∙◌, subst, append_assoc, append-nil}
+use Rattle.std.proofs.Common.{◌≡◌, ◌<◌, ℕ, inl, inr, Bool, true, false, List, [], ◌∷◌, ◌++◌, length, drop, Ok, Err, refl, sym, ap, ◌∙◌, subst, arith, append_assoc, append-nil}
 use Rattle.std.specs.Prelude.{if◌then◌else◌, ◌&&◌, ◌==◌}
-use Rattle.std.specs.List.{AllByRecursion, flat_map}
+use Rattle.std.specs.List.{AllByRecursion}
 use Rattle.std.specs.declared.result.Result.{Result}
 use Rattle.kak_ports.specs.Ports.{Outlet}
 use Rattle.key_names.specs.declared.key.Key.{Key}
@@ -9,8 +9,8 @@ use Rattle.json_ui.specs.declared.request.Request.{Request}
 use Rattle.json_ui.specs.declared.request.Request.TheVariants.{Nothing, Keys}
 use Rattle.json_ui.specs.Requests.{read_request}
 use Rattle.drawings.specs.declared.refusal.Refusal.{Refusal}
-use Rattle.session_turns.specs.Histories.{Answer, own, events_of, is_leaving}
-use Rattle.session_turns.specs.Turns.{Phase, Opening, During, Line, Idle, plays, phase_size, due}
+use Rattle.session_turns.specs.Histories.{Answer, own, events_of}
+use Rattle.session_turns.specs.Turns.{Phase, Opening, During, Line, Idle, plays}
 use Rattle.session_turns.specs.Growth.{Begins, How, Whole, Over, Short, Unsent, Lost, Fits}
 use Rattle.session_events.specs.declared.event.Event.{Event}
 use Rattle.session_events.specs.declared.event.Event.TheVariants.{Refresh, Leave}
@@ -26,6 +26,7 @@ use Rattle.session_lines.specs.declared.playing.Stop.{Stop}
 use Rattle.session_lines.specs.declared.playing.Stop.TheVariants as stop
 use Rattle.session_lines.specs.Session.{protocol, keys_played, played_by}
 use Rattle.session_lines.specs.Serving.{Service, Serves, HasGone, how_of, line_phases, unseen}
+use Rattle.session_lines.proofs.ReadingLemmas.{due-one, short-size}
 use Rattle.link_lines.specs.declared.ended.Ended.{Ended}
 use Rattle.link_lines.specs.declared.ended.Ended.TheVariants.{Left, Closed, LinkRead, LinkWrite, InputFull, HistoryFull, Full, Broken, NoMemory}
 use Rattle.link_lines.specs.Endings.{JoinsNot}
@@ -88,6 +89,15 @@ missed-foreign k b n other m =
     both true y z w e f m = rw e (f m)
     both false y z w e f m = cc
 
+-- and behind entries of others alone
+missed-on : (g : Gives) (k : ℕ) (b more : List Entry) → own (rules g) k more ≡ [] → has_missed k b ≡ true → has_missed k (b ++ more) ≡ true
+missed-on g k b [] none m = ap (λ h. has_missed k h) (append-nil b) ∙ m
+missed-on g k b (n ∷ more) none m = by (n.who == k) refl (λ e missed. missed-on g k (b ++ n ∷ []) more e missed) none
+  where
+    by : (t : Bool) → (n.who == k) ≡ t → (own (rules g) k more ≡ [] → has_missed k (b ++ n ∷ []) ≡ true → has_missed k ((b ++ n ∷ []) ++ more) ≡ true) → (if t then n.event ∷ own (rules g) k more else own (rules g) k more) ≡ [] → has_missed k (b ++ n ∷ more) ≡ true
+    by true mine next e = cc
+    by false other next e = ap (λ h. has_missed k h) (sym (append_assoc b (n ∷ []) more)) ∙ next e (missed-foreign k b n other m)
+
 no-more : (es rest : List Event) → [] ≡ es ++ rest → es ≡ []
 no-more [] rest e = refl
 no-more (x ∷ es) rest e = cc
@@ -101,14 +111,7 @@ drawn-once g k b (n ∷ more) rest m e = by (n.who == k) refl (λ missed f. draw
     by true mine behind f = (λ u. m, all-asked g k (b ++ n ∷ []) more (none-asked (own (rules g) k more) (no-more (own (rules g) k more) rest (ap (λ q. drop 1 q) f))))
     by false other behind f = (λ u. m, behind (missed-foreign k b n other m) f)
 
--- what phases play of which there is one, or a beginning of it
-due-one : (opens : List Key) (phase : Phase) (got : List (Answer Event)) → due (protocol opens) (phase ∷ []) got ≡ plays (protocol opens) phase
-due-one opens phase got = none-behind (is_leaving (take (phase_size (protocol opens) phase) got)) (plays (protocol opens) phase) ∙ append-nil (plays (protocol opens) phase)
-  where
-    none-behind : (t : Bool) (es : List Event) → es ++ flat_map (plays (protocol opens)) (if t then [] else []) ≡ es ++ []
-    none-behind true es = refl
-    none-behind false es = refl
-
+-- one phase, or a beginning of it
 begins-by : (whole due front : List Event) → due ≡ whole → Begins due front → Begins whole front
 begins-by whole due front e b = (b.0, sym e ∙ b.1)
 
@@ -169,6 +172,18 @@ missed-draws (Err (stop.Broken at)) g x y a b k e (inr w) d = drawn-draws g x y 
 missed-draws (Err stop.HistoryFull) g x y a b k e w d = drawn-draws g x y a b (how_of (Err stop.HistoryFull)) k e w d
 missed-draws (Err stop.NoMemory) g x y a b k e w d = drawn-draws g x y a b (how_of (Err stop.NoMemory)) k e w d
 missed-draws (Err stop.WriteFault) g x y a b k e w d = drawn-draws g x y a b (how_of (Err stop.WriteFault)) k e w d
+
+-- where its drawing was refused, the client has missed something still
+pub still-missed : (g : Service) (old new : Seated) (a b : Outlet) → IsDrawnUnasked g old new a b Short → has_missed old.number new.seen ≡ true
+still-missed g old new a b d =
+    let s = d.serves in
+    let none = s.adds.events ∙ ap events_of (nothing s.got (short-size g.opens (During Idle) s.got s.out s.fits)) in
+    subst (λ n. has_missed n new.seen ≡ true) d.same.number
+    (ap (λ h. has_missed d.looked.number h) s.adds.grows ∙ missed-on g.gives d.looked.number d.looked.seen s.adds.more none d.missed)
+  where
+    nothing : (got : List (Answer Event)) → length got < 1 → got ≡ []
+    nothing [] few = refl
+    nothing (x ∷ got) few = absurd (omega (arith, few))
 
 -- the client left
 pub gone-draws : (g : Gives) (x y : Seated) (k : ℕ) → x.number ≡ k → HasGone g x y → DrawsOnlyMissed k x.seen → DrawsOnlyMissed k y.seen

@@ -7,8 +7,13 @@ use Rattle.std.specs.Io.KnownBytes.{Appends}
 use Rattle.std.proofs.KnownBytes.{Appends-nil, Appends-trans}
 use Rattle.kak_ports.specs.Ports.{Inlet, Outlet}
 use Rattle.session_turns.specs.Lines.{with_newlines, HasNoNewline}
-use Rattle.session_turns.specs.Turns.{Turn, Phase, Opening, later, lines_among}
-use Rattle.session_turns.specs.Growth.{How, Whole}
+use Rattle.session_turns.specs.Histories.{Answer}
+use Rattle.session_turns.specs.Turns.{Turn, Idle, Phase, Opening, During, later, lines_among}
+use Rattle.session_turns.specs.Growth.{How, Whole, Fits, IsWhole}
+use Rattle.key_names.specs.declared.key.Key.{Key}
+use Rattle.session_events.specs.declared.event.Event.{Event}
+use Rattle.session_events.specs.declared.event.Entry.{Entry}
+use Rattle.session_events.specs.Missing.{has_missed}
 use Rattle.session_events.specs.Seats.{Seated, IsSameSeat}
 use Rattle.client_links.specs.Wires.{Wire, IsSameHearing}
 use Rattle.line_reading.specs.declared.limits.TheConstants.{MAX_PIECE}
@@ -22,12 +27,14 @@ use Rattle.session_lines.specs.declared.playing.Stop.TheVariants as stop
 use Rattle.session_lines.specs.declared.reading.InputEnd.{InputEnd}
 use Rattle.session_lines.specs.declared.reading.InputEnd.TheVariants.{Left, Ended, ReadFault, Full}
 use Rattle.session_lines.specs.Serving.{Service, Serves, how_of, line_phases}
+use Rattle.session_lines.specs.Session.{protocol}
+use Rattle.session_lines.specs.Reading.{IsDueStill, EndIs}
 use Rattle.session_lines.specs.Connections.{Plays}
 use Rattle.session_lines.proofs.ServingLemmas.{serves-append}
-use Rattle.session_lines.proofs.ReadingLemmas.{HasRead, begin-reading, read-more, among-append, later-append, last-behind, lines-all, stopped-lines, line-went, line-left, line-stopped, last-went, last-left, last-stopped, input-ended, input-failed, input-full, line-lost}
+use Rattle.session_lines.proofs.ReadingLemmas.{HasRead, LastPiece, with-phases, DueFor, stop-end, begin-reading, read-more, among-append, later-append, last-behind, lines-all, stopped-lines, line-went, line-left, line-stopped, last-went, last-left, last-stopped, input-ended, input-failed, input-full, line-lost}
 use Rattle.session_lines.proofs.ConnectionLemmas.{opening-left, opening-stopped, opened-played}
 use Rattle.link_lines.specs.Talking.{PlaysOver}
-use Rattle.link_lines.proofs.TalkLemmas.{DrawsUnasked}
+use Rattle.link_lines.proofs.TalkLemmas.{IsIdleAt, IsMissedAt, DrawsUnasked}
 
 abbrev inlet-with : Option (List ℕ) → ℕ → Inlet
 inlet-with left faults = record { left = left; most = MAX_PIECE; faults = faults }
@@ -224,10 +231,28 @@ idle-heard {E = E} done g old mid new before rest more last was now same sent h 
     (read-more {E = E} true g old mid before.outlet rest.outlet (inlet_of before) (inlet_of rest) (inlet_of more) (Ok next.ReadFault) was now x.reads refl s.read)
     (serves-from g mid new rest.outlet more.outlet last.outlet Whole (later d.turns) sent d.serves))
 
+-- what was read where a drawing was refused, or sending it failed
+idle-end : (A : Type 0) (opens : List Key) (due : Phase → Type 0) (why : Stop) (left : Inlet) (bytes : List ℕ) (all turns : List Turn) (a b : List (Answer Event)) (x y : List ℕ) → IsIdleAt {A = A} (Err why) turns → DueFor why (due (During Idle)) → IsWhole (protocol opens) (later all) a x → Fits (protocol opens) (how_of (Err why)) (later turns) b y → LastPiece left bytes all
+    → EndIs opens due [] (all ++ turns) (a ++ b) (Err why) left bytes
+idle-end A opens due (stop.Broken at) left bytes all turns a b x y one d w f l = tt
+idle-end A opens due stop.NoMemory left bytes all turns a b x y one d w f l = tt
+idle-end A opens due stop.HistoryFull left bytes all turns a b x y one d w f l =
+    subst (λ ts. EndIs opens due [] (all ++ ts) (a ++ b) (Err stop.HistoryFull) left bytes) (sym one)
+    (stop-end opens due stop.HistoryFull left bytes all Idle [] a b x y d w (subst (λ ts. Fits (protocol opens) (how_of (Err stop.HistoryFull)) (later ts) b y) one f) l)
+idle-end A opens due stop.WriteFault left bytes all turns a b x y one d w f l =
+    subst (λ ts. EndIs opens due [] (all ++ ts) (a ++ b) (Err stop.WriteFault) left bytes) (sym one)
+    (stop-end opens due stop.WriteFault left bytes all Idle [] a b x y d w (subst (λ ts. Fits (protocol opens) (how_of (Err stop.WriteFault)) (later ts) b y) one f) l)
+
+due-missed : (A : Type 0) (why : Stop) (who : ℕ) (seen : List Entry) → IsMissedAt {A = A} (Err why) who seen → DueFor why (has_missed who seen ≡ true)
+due-missed A stop.HistoryFull who seen m = m
+due-missed A (stop.Broken at) who seen m = tt
+due-missed A stop.NoMemory who seen m = tt
+due-missed A stop.WriteFault who seen m = tt
+
 -- drawings that stopped, behind what was read, of which no line is whole that wasn't played
-unasked-stopped : (g : Service) (old mid new : Seated) (a b c : Outlet) (left rest : Inlet) (taken : ℕ) (behind : List ℕ) (turns : List Turn) (why : Stop) → lines_among turns ≡ [] → HasNoNewline behind → IsSameSeat old mid → (s : HasRead true g old mid a b left rest taken behind) → Serves g mid new b c (how_of (Err why)) (later turns)
+unasked-stopped : (A : Type 0) (g : Service) (old mid new : Seated) (a b c : Outlet) (left rest : Inlet) (taken : ℕ) (behind : List ℕ) (turns : List Turn) (why : Stop) → lines_among turns ≡ [] → IsIdleAt {A = A} (Err why) turns → IsMissedAt {A = A} (Err why) mid.number new.seen → HasNoNewline behind → IsSameSeat old mid → (s : HasRead true g old mid a b left rest taken behind) → Serves g mid new b c (how_of (Err why)) (later turns)
     → (p : Plays true [] g old new a c left rest (Err why)) × (p.bytes ≡ s.bytes)
-unasked-stopped g old mid new a b c left rest taken behind turns why none h same s t = (
+unasked-stopped A g old mid new a b c left rest taken behind turns why none one missed h same s t = (
   record {
     bytes = s.bytes;
     takes = s.takes;
@@ -235,17 +260,22 @@ unasked-stopped g old mid new a b c left rest taken behind turns why none h same
     turns = s.turns ++ turns;
     lines_are = stopped-lines why _ s.bytes (lines_among (s.turns ++ turns)) (inl (lines-still s.turns turns none ∙ sym (lines-all s.bytes behind (lines_among s.turns) s.all s.none h)));
     asked = λ e. cc;
-    serves = subst (λ ts. Serves g old new a c (how_of (Err why)) ts) (sym (later-append s.turns turns)) (serves-append g old mid new a b c (how_of (Err why)) (later s.turns) (later turns) same s.serves t);
-    end_is = tt;
+    serves = found.0;
+    end_is = subst (λ got. EndIs g.opens (IsDueStill old.number new.seen) [] (s.turns ++ turns) got (Err why) left s.bytes) (sym found.1)
+        (idle-end A g.opens (IsDueStill old.number new.seen) why left s.bytes s.turns turns s.serves.got t.got s.serves.out t.out one
+        (subst (λ k. DueFor why (has_missed k new.seen ≡ true)) same.number (due-missed A why mid.number new.seen missed)) s.serves.fits t.fits s.last);
   },
   refl,
 )
+  where
+    found : (p : Serves g old new a c (how_of (Err why)) (later (s.turns ++ turns))) × (p.got ≡ s.serves.got ++ t.got)
+    found = with-phases g old new a c (how_of (Err why)) _ _ (sym (later-append s.turns turns)) (serves-append g old mid new a b c (how_of (Err why)) (later s.turns) (later turns) same s.serves t)
 
 -- and drawing it stopped
 pub idle-stopped : {E A : Type 0} (g : Service) (old mid new : Seated) (before rest more last : Wire) (was now : Reading) (why : Stop) → IsSameSeat old mid → more.outlet ≡ rest.outlet → IsSameHearing more last → HearsLine {E = E} (Ok came.Idle) was now rest more
     → HasHeard g old mid before rest was.taken was.pending → DrawsUnasked {A = A} g mid new more.outlet last.outlet (Err why) → PlaysOver [] g old new before last (Err why)
-idle-stopped {E = E} g old mid new before rest more last was now why same sent h x s d =
+idle-stopped {E = E} {A = A} g old mid new before rest more last was now why same sent h x s d =
     over-by [] g old new before rest more last last.outlet (Err why) s.read.bytes x.reads.bytes refl h s.received x.received
-    (unasked-stopped g old mid new before.outlet rest.outlet last.outlet (inlet_of before) (inlet_of more) now.taken (was.pending ++ x.reads.bytes) d.turns why d.none x.reads.gives.none same
+    (unasked-stopped A g old mid new before.outlet rest.outlet last.outlet (inlet_of before) (inlet_of more) now.taken (was.pending ++ x.reads.bytes) d.turns why d.none d.one d.missed x.reads.gives.none same
     (read-more {E = E} true g old mid before.outlet rest.outlet (inlet_of before) (inlet_of rest) (inlet_of more) (Ok next.ReadFault) was now x.reads refl s.read)
     (serves-from g mid new rest.outlet more.outlet last.outlet (how_of (Err why)) (later d.turns) sent d.serves))

@@ -4,7 +4,7 @@ use Rattle.std.specs.declared.result.Result.{Result}
 use Rattle.std.specs.Io.KnownBytes.{Appends}
 use Rattle.kak_ports.specs.Ports.{Inlet, Outlet}
 use Rattle.session_turns.specs.Histories.{own, answers}
-use Rattle.session_turns.specs.Turns.{Opening}
+use Rattle.session_turns.specs.Turns.{Line, Idle, Phase, Opening, During}
 use Rattle.session_turns.proofs.HistoryLemmas.{own-append, answers_behind-append, answers_behind-others}
 use Rattle.session_turns.proofs.Ends.{stands-later}
 use Rattle.session_events.specs.declared.event.Event.TheVariants.{Leave}
@@ -17,8 +17,9 @@ use Rattle.session_lines.specs.declared.playing.Stop.{Stop}
 use Rattle.session_lines.specs.declared.reading.InputEnd.{InputEnd}
 use Rattle.session_lines.specs.Session.{protocol}
 use Rattle.session_lines.specs.Serving.{Service}
-use Rattle.session_lines.specs.Reading.{EndIs}
+use Rattle.session_lines.specs.Reading.{WasDueStill, EndIs}
 use Rattle.session_lines.specs.Connections.{connection_end, WasServed}
+use Rattle.session_lines.proofs.ReadingLemmas.{ends-by}
 use Rattle.link_lines.specs.declared.ended.Ended.{Ended}
 use Rattle.link_lines.specs.declared.ended.Ended.TheVariants.{Left, Closed, LinkRead, LinkWrite, InputFull, HistoryFull, Full, Broken, NoMemory}
 use Rattle.link_lines.specs.Endings.{result_of, HasParted, PartsHistory, WasServedOver}
@@ -30,10 +31,22 @@ own-later g k h more e = own-append (rules g) k h more ∙ ap (λ q. own (rules 
 answers-later : (g : Gives) (k : ℕ) (h more : List Entry) → own (rules g) k more ≡ [] → answers (rules g) k (h ++ more) ≡ answers (rules g) k h
 answers-later g k h more e = answers_behind-append (rules g) k [] h more ∙ ap (λ q. answers (rules g) k h ++ q) (answers_behind-others (rules g) k h more e) ∙ append-nil (answers (rules g) k h)
 
+-- what was due was so by a later history too
+due-later : (g : Gives) (k : ℕ) (h more : List Entry) → own (rules g) k more ≡ [] → (phase : Phase) → WasDueStill g k h phase → WasDueStill g k (h ++ more) phase
+due-later g k h more none Opening d = tt
+due-later g k h more none (During (Line line)) d = tt
+due-later g k h more none (During Idle) d = record {
+  before = d.before;
+  behind = d.behind ++ more;
+  cut = ap (λ q. q ++ more) d.cut ∙ append_assoc d.before d.behind more;
+  leaves = own-later g k d.behind more none ∙ d.leaves;
+  missed = d.missed;
+}
+
 -- a connection that was served, by another history with the same own events and answers
-served-by : (u : Bool) (g : Service) (k : ℕ) (h later : List Entry) (a b : Outlet) (left rest : Inlet) (r : Result InputEnd Stop) (w : WasServed u g k h a b left rest r) → own (rules g.gives) k later ≡ own (rules g.gives) k h → answers (rules g.gives) k later ≡ answers (rules g.gives) k h
-    → (v : WasServed u g k later a b left rest r) × (v.bytes ≡ w.bytes)
-served-by u g k h later a b left rest r w o e = (
+abbrev served-by : (u : Bool) (g : Service) (k : ℕ) (h later : List Entry) (a b : Outlet) (left rest : Inlet) (r : Result InputEnd Stop) (w : WasServed u g k h a b left rest r) → own (rules g.gives) k later ≡ own (rules g.gives) k h → answers (rules g.gives) k later ≡ answers (rules g.gives) k h
+    → ((phase : Phase) → WasDueStill g.gives k h phase → WasDueStill g.gives k later phase) → (v : WasServed u g k later a b left rest r) × (v.bytes ≡ w.bytes)
+served-by u g k h later a b left rest r w o e due = (
   record {
     bytes = w.bytes;
     takes = w.takes;
@@ -43,7 +56,8 @@ served-by u g k h later a b left rest r w o e = (
     out = w.out;
     sends = w.sends;
     served = record { lines = w.served.lines; stands = stands-later (protocol g.opens) (rules g.gives) (connection_end r) k h later w.turns w.out o e w.served.stands };
-    end_is = subst (λ got. EndIs g.opens (Opening ∷ []) w.turns got r left w.bytes) (sym e) w.end_is;
+    end_is = subst (λ got. EndIs g.opens (WasDueStill g.gives k later) (Opening ∷ []) w.turns got r left w.bytes) (sym e)
+        (ends-by g.opens (WasDueStill g.gives k h) (WasDueStill g.gives k later) (Opening ∷ []) w.turns (answers (rules g.gives) k h) r left w.bytes due w.end_is);
   },
   refl,
 )
@@ -52,7 +66,8 @@ served-by u g k h later a b left rest r w o e = (
 whole-later : (g : Service) (k : ℕ) (h more : List Entry) (before now : Wire) (e : Ended) (w : WasServedOver g k h before now e) → own (rules g.gives) k more ≡ [] → h ≡ w.front → PartsHistory g.gives e k (h ++ more) (h ++ more) → WasServedOver g k (h ++ more) before now e
 whole-later g k h more before now e w none all parts =
     let v = served-by true g k w.front (h ++ more) before.outlet now.outlet (inlet_of before) (inlet_of now) (result_of e) w.served
-    (own-later g.gives k h more none ∙ ap (own (rules g.gives) k) all) (answers-later g.gives k h more none ∙ ap (answers (rules g.gives) k) all) in
+    (own-later g.gives k h more none ∙ ap (own (rules g.gives) k) all) (answers-later g.gives k h more none ∙ ap (answers (rules g.gives) k) all)
+    (λ phase d. due-later g.gives k h more none phase (subst (λ q. WasDueStill g.gives k q phase) (sym all) d)) in
     record { front = h ++ more; served = v.0; received = subst (λ bs. Appends before.received now.received bs) (sym v.1) w.received; parting = parts }
 
 -- the leaving stands there still

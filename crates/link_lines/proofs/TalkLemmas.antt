@@ -1,5 +1,6 @@
 -- What a look and a drawing do to the history and to the bytes that were sent.
 use Rattle.std.proofs.Common.{◌≡◌, ℕ, true, false, List, [], ◌∷◌, inl, inr, Ok, Err, refl, sym, subst}
+use Rattle.std.specs.Prelude.{⊤}
 use Rattle.std.specs.declared.result.Result.{Result}
 use Rattle.std.specs.Io.KnownBytes.{Appends}
 use Rattle.std.proofs.KnownBytes.{Appends-nil}
@@ -8,6 +9,7 @@ use Rattle.session_turns.specs.Turns.{Turn, Idle, During, later, lines_among, du
 use Rattle.session_turns.specs.Growth.{How, Whole, Lost}
 use Rattle.session_turns.proofs.TurnLemmas.{whole-none}
 use Rattle.session_events.specs.declared.event.Event.TheVariants.{Refresh}
+use Rattle.session_events.specs.declared.event.Entry.{Entry}
 use Rattle.session_events.specs.Seats.{Seated, IsSameSeat, Sees}
 use Rattle.session_events.specs.Missing.{has_missed}
 use Rattle.session_lines.specs.declared.playing.Stop.{Stop}
@@ -20,6 +22,7 @@ use Rattle.session_lines.specs.Stops.{StopsFor}
 use Rattle.session_lines.proofs.TakingLemmas.{sees-add}
 use Rattle.session_lines.proofs.ServingLemmas.{serves-append, serves-cut, answered-told, answered-untold}
 use Rattle.link_lines.specs.Talking.{IsDrawnUnasked, DrawsMissed}
+use Rattle.link_lines.proofs.DrawingLemmas.{still-missed}
 
 -- a line is served by the name under which it was read
 pub as-line : (g : Service) (x y : Seated) (a b : Outlet) (how : How) (said line : List ℕ) → said ≡ line → Serves g x y a b how (line_phases (said ∷ [])) → Serves g x y a b how (line_phases (line ∷ []))
@@ -56,10 +59,23 @@ abbrev pub how_drawn : {A : Type 0} → Result A Stop → How
 how_drawn (Ok _) = Whole
 how_drawn (Err why) = how_of (Err why)
 
+-- where a drawing was refused, or sending it failed, it is the one turn
+abbrev pub IsIdleAt : {A : Type 0} → Result A Stop → List Turn → Type 0
+IsIdleAt (Err stop.HistoryFull) turns = turns ≡ Idle ∷ []
+IsIdleAt (Err stop.WriteFault) turns = turns ≡ Idle ∷ []
+IsIdleAt _ turns = ⊤
+
+-- where it was refused, the client has missed something still
+abbrev pub IsMissedAt : {A : Type 0} → Result A Stop → ℕ → List Entry → Type 0
+IsMissedAt (Err stop.HistoryFull) who seen = has_missed who seen ≡ true
+IsMissedAt _ who seen = ⊤
+
 -- turns that nobody asked for
 pub record DrawsUnasked {A : Type 0} (g : Service) (old new : Seated) (a b : Outlet) (r : Result A Stop) : Type 0 where
   pub turns : List Turn
   pub none : lines_among turns ≡ []
+  pub one : IsIdleAt r turns
+  pub missed : IsMissedAt r old.number new.seen
   pub serves : Serves g old new a b (how_drawn r) (later turns)
 
 -- a look that changed nothing but what is seen serves no phase
@@ -85,10 +101,10 @@ drawn-serves : (g : Service) (old new : Seated) (a b : Outlet) (how : How) → I
 drawn-serves g old new a b how d = serves-append g old d.looked new a a b how [] (During Idle ∷ []) d.same (sees-serves g old d.looked a a d.sees refl) d.serves
 
 pub unasked : {A : Type 0} (r : Result A Stop) (g : Service) (old new : Seated) (a b : Outlet) → DrawsMissed g old new a b r → DrawsUnasked g old new a b r
-unasked (Ok done) g old new a b (inl m) = record { turns = []; none = refl; serves = sees-serves g old new a b m.sees m.silent }
-unasked (Ok done) g old new a b (inr d) = record { turns = Idle ∷ []; none = refl; serves = drawn-serves g old new a b Whole d }
-unasked (Err (stop.Broken at)) g old new a b (inl m) = record { turns = []; none = refl; serves = sees-lost g old new a b m.sees m.silent }
-unasked (Err (stop.Broken at)) g old new a b (inr d) = record { turns = Idle ∷ []; none = refl; serves = drawn-serves g old new a b (how_of (Err (stop.Broken at))) d }
-unasked (Err stop.HistoryFull) g old new a b d = record { turns = Idle ∷ []; none = refl; serves = drawn-serves g old new a b (how_of (Err stop.HistoryFull)) d }
-unasked (Err stop.NoMemory) g old new a b d = record { turns = Idle ∷ []; none = refl; serves = drawn-serves g old new a b (how_of (Err stop.NoMemory)) d }
-unasked (Err stop.WriteFault) g old new a b d = record { turns = Idle ∷ []; none = refl; serves = drawn-serves g old new a b (how_of (Err stop.WriteFault)) d }
+unasked (Ok done) g old new a b (inl m) = record { turns = []; none = refl; one = tt; missed = tt; serves = sees-serves g old new a b m.sees m.silent }
+unasked (Ok done) g old new a b (inr d) = record { turns = Idle ∷ []; none = refl; one = tt; missed = tt; serves = drawn-serves g old new a b Whole d }
+unasked (Err (stop.Broken at)) g old new a b (inl m) = record { turns = []; none = refl; one = tt; missed = tt; serves = sees-lost g old new a b m.sees m.silent }
+unasked (Err (stop.Broken at)) g old new a b (inr d) = record { turns = Idle ∷ []; none = refl; one = tt; missed = tt; serves = drawn-serves g old new a b (how_of (Err (stop.Broken at))) d }
+unasked (Err stop.HistoryFull) g old new a b d = record { turns = Idle ∷ []; none = refl; one = refl; missed = still-missed g old new a b d; serves = drawn-serves g old new a b (how_of (Err stop.HistoryFull)) d }
+unasked (Err stop.NoMemory) g old new a b d = record { turns = Idle ∷ []; none = refl; one = tt; missed = tt; serves = drawn-serves g old new a b (how_of (Err stop.NoMemory)) d }
+unasked (Err stop.WriteFault) g old new a b d = record { turns = Idle ∷ []; none = refl; one = refl; missed = tt; serves = drawn-serves g old new a b (how_of (Err stop.WriteFault)) d }

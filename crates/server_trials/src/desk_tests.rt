@@ -5,9 +5,8 @@ ghost use Rattle.std.specs.Prelude.{◌≡◌, [], None, IfOk};
 use Act::{Draw, Insert, Join, Leave, Look};
 use Told::{Refused, Saw, Taken};
 use engine_desk::{DeskSeat, SharedEngine};
-use kak_files::NoFiles;
+use kak_engine::NoOutside;
 use key_names::{Base, Key};
-use regex_ports::NoPatterns;
 use session_desk::{Desk, Played};
 use session_events::{Event, LiveSeat, Missed, Seat};
 use std::alloc::Global;
@@ -50,10 +49,10 @@ struct Left {
 }
 
 // An engine that may have so many entries.
-fn engine_of(alloc: Global, limit: u64) -> Result<SharedEngine<NoFiles, NoPatterns>, Fail>
+fn engine_of(alloc: Global, limit: u64) -> Result<SharedEngine<NoOutside>, Fail>
     ensures { IfOk result (λ e. (e.engine.history ≡ []) × (e.engine.mark ≡ None)) }
 {
-    match SharedEngine::new(alloc, NoFiles::new(), NoPatterns::new(), limit) {
+    match SharedEngine::new(alloc, NoOutside::new(), limit) {
         Ok(engine) => Ok(engine),
         Err(_) => Err("there is memory for an engine".into()),
     }

@@ -1,4 +1,4 @@
-//! Single links: to a session that breaks, and to one at which another client types.
+//! Single links: to a session that breaks, to one at which another client types, and over a gate that keeps what it is asked.
 
 ghost use Rattle.std.specs.Prelude.{if◌then◌else◌, Some, None, [], ◌∷◌, false};
 ghost use Rattle.client_links.specs.Memory.{memory_wire};
@@ -7,12 +7,11 @@ ghost use Rattle.session_events.specs.Entries.{entry_of};
 
 use client_links::{Heard, Link, MemLink};
 use engine_desk::{DeskSeat, SharedEngine};
-use kak_files::NoFiles;
+use kak_engine::NoOutside;
 use kak_ports::{FailingCalls, Put};
 use key_names::{Base, Key};
-use line_gates::OpenGate;
+use line_gates::{Gate, OpenGate};
 use link_lines::{Ended, serve_over};
-use regex_ports::NoPatterns;
 use session_desk::Desk;
 use session_events::{Event, LiveSeat, Missed, Output, Seat, StepFault, is_join};
 use session_server::serve_link;
@@ -24,6 +23,9 @@ use std::test::Fail;
 const IS_DRAWN: &str = "\"method\":\"refresh\"";
 
 const X_IS_DRAWN: &str = "{\"contents\":\"x\",\"face\"";
+
+// Two lines, of which the second asks for nothing.
+const TWO_LINES: &str = "{\"jsonrpc\":\"2.0\",\"method\":\"keys\",\"params\":[\"ix\"]}\n\n";
 
 // A link whose client says one piece, or nothing for a while where it is empty.
 fn link_of(alloc: Global, piece: &[u8]) -> Result<MemLink, Fail> {
@@ -163,7 +165,7 @@ fn join<S: Seat>(alloc: Global, seat: &mut S) -> Result<(), Fail> {
 // Serves a link from which nothing comes for a while, and then its end, while another client types: how that ended, and what
 // was sent.
 fn serve_overtyped<R: Wait>(rt: &R, alloc: Global) -> Result<(Ended, String), Fail> {
-    let Ok(engine) = SharedEngine::new(alloc, NoFiles::new(), NoPatterns::new(), 100) else {
+    let Ok(engine) = SharedEngine::new(alloc, NoOutside::new(), 100) else {
         return Err("there is memory for an engine".into());
     };
     let (desk, mut keeper) = Desk::new(alloc, engine)?;
@@ -189,5 +191,57 @@ fn an_idle_client_is_drawn_what_another_one_typed(rt: HostRuntime) -> Result<(),
         return Err("the client was drawn when it came, and what the other one typed".into());
     };
     assert!(rt; drawn < typed);
+    Ok(())
+}
+
+// What a gate is asked and told: whose line, and its number.
+#[derive(Clone, Copy, PartialEq, Eq, Debug)]
+enum Asked {
+    Hold(u32, u64),
+    Passed(u32, u64),
+}
+
+// A gate that lets all lines run, and keeps what it was asked and told.
+#[derive(Drop)]
+struct LoggedGate {
+    log: Vec<Asked>,
+}
+
+impl Gate for LoggedGate {
+    fn hold<R: Wait>(&mut self, _rt: &R, who: u32, line: u64) {
+        let _ = self.log.push(Asked::Hold(who, line));
+    }
+
+    fn passed(&mut self, who: u32, line: u64) {
+        let _ = self.log.push(Asked::Passed(who, line));
+    }
+}
+
+// Serves a link whose client says two lines: what the gate was asked and told.
+fn serve_logged<R: Wait>(rt: &R, alloc: Global) -> Result<Vec<Asked>, Fail> {
+    let Ok(engine) = SharedEngine::new(alloc, NoOutside::new(), 100) else {
+        return Err("there is memory for an engine".into());
+    };
+    let (desk, mut keeper) = Desk::new(alloc, engine)?;
+    let pass = desk.admit(&mut keeper);
+    let mut link = link_of(alloc, TWO_LINES.as_bytes())?;
+    let mut gate = LoggedGate {
+        log: Vec::new(alloc),
+    };
+    let (_ended, _pass) = serve_link(rt, alloc, &desk, pass, None, &mut link, &mut gate);
+    let LoggedGate { log } = gate;
+    Ok(log)
+}
+
+#[test]
+fn a_gate_is_asked_before_each_line_and_told_behind_it(rt: HostRuntime) -> Result<(), Fail> {
+    let log = serve_logged(&rt, rt.alloc())?;
+    let wanted = [
+        Asked::Hold(0, 0),
+        Asked::Passed(0, 0),
+        Asked::Hold(0, 1),
+        Asked::Passed(0, 1),
+    ];
+    assert_eq!(rt; log.as_slice(), wanted.as_slice());
     Ok(())
 }

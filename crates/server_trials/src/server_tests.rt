@@ -6,18 +6,17 @@ ghost use Rattle.client_links.specs.Memory.{memory_wire};
 
 use client_links::{MemAcceptor, MemLink};
 use jobs::{InTurn, Spawner, StartPlan, ThreadSpawner, begin};
-use kak_files::NoFiles;
+use kak_engine::NoOutside;
 use kak_ports::FailingCalls;
 use line_gates::{Awaited, HeldGate, LineOf};
 use link_lines::Ended;
-use regex_ports::NoPatterns;
 use session_events::{Entry, Event};
 use session_server::{LinkJob, ServerStatus, Session, run_server};
 use std::alloc::{AllocError, Global};
 use std::sync::Wait;
 use std::test::Fail;
 
-type HeldJob = LinkJob<MemLink, NoFiles, NoPatterns, HeldGate>;
+type HeldJob = LinkJob<MemLink, NoOutside, HeldGate>;
 
 const TYPES_X: &str = "{\"jsonrpc\":\"2.0\",\"method\":\"keys\",\"params\":[\"ix<esc>\"]}\n";
 
@@ -155,7 +154,7 @@ fn left_of(
     alloc: Global,
     status: ServerStatus,
     overdue: bool,
-    session: Option<Session<NoFiles, NoPatterns, MemLink>>,
+    session: Option<Session<NoOutside, MemLink>>,
 ) -> Result<Left, Fail> {
     let Some(session) = session else {
         return Err("there was a session".into());
@@ -191,8 +190,7 @@ fn serve<R: Wait, P: Spawner<HeldJob>>(
         &mut acceptor,
         spawner,
         gate.clone()?,
-        NoFiles::new(),
-        NoPatterns::new(),
+        NoOutside::new(),
     );
     left_of(alloc, status, gate.was_overdue(), session)
 }
@@ -249,7 +247,8 @@ static HELD_BACK: Script = Script {
     file: None,
     first: (TYPES_Y, None),
     second: (TYPES_X, None),
-    accepting: None,
+    // long behind its end: a server that went on though all had left would come to it
+    accepting: Some(50_000_000),
     held: (0, 1, 60_000),
     rows: &[
         ("all clients left", Row::Status(ServerStatus::Ended)),

@@ -1,9 +1,10 @@
--- Worked examples of what a client has missed: clients 0 and 1 come, and 0 is drawn.
+-- Worked examples of what a client has missed, and of how many are here: clients 0 and 1 come, and 0 is drawn.
 use Rattle.std.specs.Prelude.{◌≡◌, true, false, List, [], ◌∷◌, ◌++◌}
 use Rattle.key_names.specs.declared.key.Key.{Key}
 use Rattle.session_events.specs.declared.event.Event.TheVariants.{Join, Key as Struck, Refresh, Leave}
 use Rattle.session_events.specs.declared.event.Entry.{Entry}
 use Rattle.session_events.specs.Entries.{entry_of}
+use Rattle.session_events.specs.Counting.{AreNeverMore}
 use Rattle.session_events.specs.Missing.{behind_drawing, has_missed}
 
 abbrev pub both_came : List Entry
@@ -32,3 +33,7 @@ pub record Examples : Type 0 where
   -- who hasn't come, or has gone, has missed nothing
   pub never_came : has_missed 2 drawn ≡ false
   pub has_gone : has_missed 0 (both_came ++ entry_of 0 Leave ∷ []) ≡ false
+  -- two are here at once, though one goes later; where one goes before the next one comes there is one at a time
+  pub two_here : AreNeverMore 2 [] both_came
+  pub more_here : AreNeverMore 1 [] (both_came ++ entry_of 0 Leave ∷ []) → ⊥
+  pub one_by_one : AreNeverMore 1 [] (entry_of 1 Join ∷ entry_of 1 Leave ∷ entry_of 0 Join ∷ [])

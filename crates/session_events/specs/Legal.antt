@@ -5,6 +5,7 @@ use Rattle.session_events.specs.declared.event.Event.{Event}
 use Rattle.session_events.specs.declared.event.Event.TheVariants.{Join, Leave}
 use Rattle.session_events.specs.declared.event.Entry.{Entry}
 use Rattle.session_events.specs.Entries.{is_join, is_leave}
+use Rattle.session_events.specs.Counting.{AreNeverMore, most_here}
 
 -- Where a client is: it hasn't come yet, it is here, or it has gone.
 pub data Presence : Type 0 where
@@ -49,7 +50,9 @@ AreLeavings entries = AllByRecursion (λ entry. is_leave entry.event ≡ true) e
 abbrev pub KeepsLimit : ℕ → List Entry → Type 0
 KeepsLimit limit history = AreLeavings (drop limit history)
 
--- A history that there can be: each client comes first, once, and makes nothing behind its going; and the limit is kept.
+-- A history that there can be: each client comes first, once, and makes nothing behind its going; the limit is kept; and never
+-- are more clients here than may be at once.
 pub record IsLegal (limit : ℕ) (history : List Entry) : Type 0 where
   pub lives : (who : ℕ) → may_make_all who Away history ≡ true
   pub within : KeepsLimit limit history
+  pub few : AreNeverMore most_here [] history

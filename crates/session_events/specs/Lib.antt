@@ -1,4 +1,5 @@
 pub mod Entries
+pub mod Counting
 pub mod Legal
 pub mod Meaning
 pub mod Seats

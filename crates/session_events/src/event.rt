@@ -1,13 +1,12 @@
 //! What happens in a session, and what it gives.
 
-ghost use Rattle.std.specs.Prelude.{◌≡◌, [], ◌∷◌, ◌++◌, OnOk, OnErr, None, false};
+ghost use Rattle.std.specs.Prelude.{◌≡◌, None, false};
 ghost use Rattle.session_events.specs.Entries.{is_join, is_leave};
 
 use byte_texts::Octets;
 use drawings::Drawing;
 use key_names::Key;
-use std::alloc::{AllocError, Global};
-use std::marker::Model;
+use sequences::Seq;
 
 /// One event of a client.
 #[derive(Clone, Copy, Debug)]
@@ -43,40 +42,8 @@ pub enum Answered {
     Refused,
 }
 
-/// The outside's answers in one step, in order. Contracts see the list of them.
-#[derive(Drop, Debug)]
-pub struct Answers {
-    items: Vec<Answered>,
-}
-
-impl Model for Answers {
-    ghost use Rattle.std.specs.Prelude.{List};
-    ghost use Rattle.session_events.specs.declared.event.Answered.{Answered};
-
-    ghost Value = { List Answered };
-
-    ghost view = { λ a. a.items.items };
-}
-
-impl Answers {
-    /// No answers; takes no memory.
-    pub fn none(alloc: Global) -> Answers
-        ensures { result ≡ [] }
-    {
-        Answers {
-            items: Vec::new(alloc),
-        }
-    }
-
-    /// Adds an answer behind the others.
-    pub fn push(&mut self, answered: Answered) -> Result<(), AllocError>
-        ensures ok { OnOk result (self.new ≡ self.old ++ answered ∷ []) }
-        ensures err { OnErr result (self.new ≡ self.old) }
-    {
-        self.items.push(answered)?;
-        Ok(())
-    }
-}
+/// The outside's answers in one step, in order.
+pub type Answers = Seq<Answered>;
 
 /// One entry of a history: whose event it is, and what the outside answered in its step.
 #[derive(Drop, Debug)]

@@ -1,5 +1,5 @@
 -- From what was played of a connection to what stands when it has ended.
-use Rattle.std.proofs.Common.{◌≡◌, ℕ, inl, inr, Bool, true, false, List, [], ◌∷◌, ◌++◌, length, take, Ok, Err, refl, sym, ap, ◌∙◌, subst, arith, append-nil, length-append, ◌||◌, ◌+◌, ◌==◌, ◌≤◌}
+use Rattle.std.proofs.Common.{◌≡◌, ℕ, inl, inr, Bool, true, false, List, [], ◌∷◌, ◌++◌, length, take, Ok, Err, refl, sym, ap, ◌∙◌, subst, arith, append-nil, append_assoc, length-append, ◌||◌, ◌+◌, ◌==◌, ◌≤◌, ◌⊎◌, ⊎_elim}
 use Rattle.std.specs.List.{flat_map}
 use Rattle.std.specs.declared.result.Result.{Result}
 use Rattle.std.proofs.Math.Seq.{take-append-add}
@@ -10,7 +10,7 @@ use Rattle.std.proofs.lemmas.List.{take_all}
 use Rattle.kak_ports.specs.Ports.{Inlet, Outlet}
 use Rattle.key_names.specs.declared.key.Key.{Key}
 use Rattle.session_turns.specs.Histories.{Answer, own, answers, is_leaving}
-use Rattle.session_turns.specs.Turns.{Turn, Phase, Opening, later, lines_among, plays, answers_to}
+use Rattle.session_turns.specs.Turns.{Turn, Line, Idle, Phase, Opening, During, later, lines_among, plays, answers_to}
 use Rattle.session_turns.specs.Growth.{Whole, Over, Adds, IsWhole, IsOver}
 use Rattle.session_turns.specs.Headline.{Lost, Stands, LinesRead, AreLines}
 use Rattle.session_turns.proofs.Lists.{is_leaving-append, length-events_of}
@@ -31,14 +31,14 @@ use Rattle.session_lines.specs.Session.{protocol}
 use Rattle.session_lines.specs.Stops.{IsLoss}
 use Rattle.session_lines.specs.Serving.{Service, Serves, HasGone, how_of}
 use Rattle.line_reading.specs.Reading.{IsAll}
-use Rattle.session_lines.specs.Reading.{how_read, WasKept, EndIs}
+use Rattle.session_lines.specs.Reading.{how_read, IsDueStill, WasDueStill, WasKept, IsTakenFor, WasStopped, EndIs}
 use Rattle.session_lines.specs.Connections.{connection_end, is_unwritten, Plays, WasServed}
-use Rattle.session_lines.proofs.ReadingLemmas.{stopped-lines}
+use Rattle.session_lines.proofs.ReadingLemmas.{stopped-lines, opening-end, ends-by}
 use Rattle.session_lines.proofs.ServingLemmas.{serves-append}
 
 -- an opening that stopped: nothing was read
 pub opening-stopped : (u : Bool) (g : Service) (old new : Seated) (a b : Outlet) (left : Inlet) (why : Stop) → Serves g old new a b (how_of (Err why)) (Opening ∷ []) → (p : Plays u (Opening ∷ []) g old new a b left left (Err why)) × (p.bytes ≡ [])
-opening-stopped u g old new a b left why s = (record { bytes = []; takes = Consumes-nil left.left; few = omega arith; turns = []; lines_are = stopped-lines why _ [] [] (inl refl); asked = λ e. refl; serves = s; end_is = tt }, refl)
+opening-stopped u g old new a b left why s = (record { bytes = []; takes = Consumes-nil left.left; few = omega arith; turns = []; lines_are = stopped-lines why _ [] [] (inl refl); asked = λ e. refl; serves = s; end_is = opening-end g.opens (IsDueStill old.number new.seen) why left s.got s.out tt s.fits }, refl)
 
 -- what is over with its opening has that opening's answers
 opening-over : (opens : List Key) (got : List (Answer Event)) (out : List ℕ) → IsOver (protocol opens) (Opening ∷ []) got out → is_leaving (answers_to (protocol opens) (Opening ∷ []) got) ≡ true
@@ -99,7 +99,7 @@ opened-played r u g old mid new a b c left rest l f same opened p = (
     lines_are = p.lines_are;
     asked = p.asked;
     serves = serves-append g old mid new a b c (how_read r) (Opening ∷ []) (later p.turns) same s p.serves;
-    end_is = ends r p.bytes p.turns p.serves.got p.end_is;
+    end_is = ends r p.bytes p.turns p.serves.got (subst (λ k. EndIs g.opens (IsDueStill k new.seen) [] p.turns p.serves.got r left p.bytes) same.number p.end_is);
   },
   refl,
 )
@@ -110,14 +110,33 @@ opened-played r u g old mid new a b c left rest l f same opened p = (
     kept : (bytes : List ℕ) (turns : List Turn) (got : List (Answer Event)) → WasKept g.opens [] turns got bytes → WasKept g.opens (Opening ∷ []) turns (s.got ++ got) bytes
     kept bytes turns got k = record { front = k.front; behind = k.behind; cut = k.cut; lines = k.lines; stays = kept-behind g.opens (Opening ∷ []) (later k.front) s.got got s.out s.fits k.stays }
 
-    ends : (r : Result InputEnd Stop) (bytes : List ℕ) (turns : List Turn) (got : List (Answer Event)) → EndIs g.opens [] turns got r left bytes → EndIs g.opens (Opening ∷ []) turns (s.got ++ got) r left bytes
+    size : (ts : List Phase) → length (flat_map (plays (protocol g.opens)) (Opening ∷ ts)) ≡ length s.got + length (flat_map (plays (protocol g.opens)) ts)
+    size ts =
+        let opening : length (plays (protocol g.opens) Opening) ≡ length s.got = sym (ap length (s.fits.events ∙ append-nil (plays (protocol g.opens) Opening))) ∙ length-events_of s.got in
+        length-append (plays (protocol g.opens) Opening) (flat_map (plays (protocol g.opens)) ts) ∙ ap (λ n. n + length (flat_map (plays (protocol g.opens)) ts)) opening
+
+    taken : (before : List Phase) (bytes : List ℕ) → (bytes ≡ []) ⊎ IsTakenFor before [] left bytes → (bytes ≡ []) ⊎ IsTakenFor (Opening ∷ before) (Opening ∷ []) left bytes
+    taken before bytes n =
+        ⊎_elim (λ (e : bytes ≡ []). inl e)
+        (λ (t : IsTakenFor before [] left bytes). inr (record { early = t.early; piece = t.piece; cut = t.cut; one = t.one; most = t.most; front = t.front; lines = t.lines; inside = (t.inside.0, ap (λ ts. Opening ∷ ts) t.inside.1) })) n
+
+    ends : (r : Result InputEnd Stop) (bytes : List ℕ) (turns : List Turn) (got : List (Answer Event)) → EndIs g.opens (IsDueStill old.number new.seen) [] turns got r left bytes → EndIs g.opens (IsDueStill old.number new.seen) (Opening ∷ []) turns (s.got ++ got) r left bytes
     ends (Ok Left) bytes turns got (inl e) = cc
     ends (Ok Left) bytes turns got (inr (inl e)) = inr (inl (record { before = e.before; piece = e.piece; cut = e.cut; one = e.one; most = e.most; kept = kept e.before turns got e.kept }))
     ends (Ok Left) bytes turns got (inr (inr e)) = inr (inr (e.0, kept bytes turns got e.1))
     ends (Ok Ended) bytes turns got e = e
     ends (Ok ReadFault) bytes turns got e = tt
     ends (Ok Full) bytes turns got e = e
-    ends (Err why) bytes turns got e = tt
+    ends (Err (stop.Broken at)) bytes turns got e = tt
+    ends (Err stop.NoMemory) bytes turns got e = tt
+    ends (Err stop.HistoryFull) bytes turns got e =
+        let w : WasStopped g.opens (Opening ∷ []) turns (s.got ++ got) left bytes =
+        record { before = Opening ∷ e.0.before; at = e.0.at; behind = e.0.behind; split = ap (λ ts. Opening ∷ ts) e.0.split; answered = omega (arith, size e.0.before, length-append s.got got, e.0.answered); needed = taken e.0.before bytes e.0.needed } in
+        (w, omega (arith, size (e.0.before ++ e.0.at ∷ []), length-append s.got got, e.1), e.2)
+    ends (Err stop.WriteFault) bytes turns got e =
+        let w : WasStopped g.opens (Opening ∷ []) turns (s.got ++ got) left bytes =
+        record { before = Opening ∷ e.0.before; at = e.0.at; behind = e.0.behind; split = ap (λ ts. Opening ∷ ts) e.0.split; answered = omega (arith, size e.0.before, length-append s.got got, e.0.answered); needed = taken e.0.before bytes e.0.needed } in
+        (w, omega (arith, size (e.0.before ++ e.0.at ∷ []), length-append s.got got, e.1))
 
 -- the client has left behind what was added
 gone : (g : Service) (x y z : Seated) (got : List (Answer Event)) → x.seen ≡ [] → IsSameSeat x y → Adds (rules g.gives) x.number x.seen y.seen got → HasGone g.gives y z → HasLeft (protocol g.opens) (rules g.gives) x.number z.seen got
@@ -131,6 +150,21 @@ gone g x y z got none same adds e =
     record {
       answered = ap (answers (rules g.gives) x.number) e.stands ∙ leave-answers (rules g.gives) x.number here entry mine refl ∙ adds-answers (rules g.gives) x.number here got more;
       stood = ap (own (rules g.gives) x.number) e.stands ∙ leave-own (rules g.gives) x.number here entry mine ∙ ap (λ es. es ++ Leave ∷ []) (adds-own_events (rules g.gives) x.number here got more);
+    }
+
+-- what was due to a client that then left
+due-gone : (g : Service) (x y z : Seated) → IsSameSeat x y → HasGone g.gives y z → (phase : Phase) → IsDueStill x.number y.seen phase → WasDueStill g.gives x.number z.seen phase
+due-gone g x y z same e Opening d = tt
+due-gone g x y z same e (During (Line line)) d = tt
+due-gone g x y z same e (During Idle) d =
+    let entry : Entry = entry_with y.number Leave e.answers in
+    let foreign : own (rules g.gives) x.number e.between ≡ [] = subst (λ n. own (rules g.gives) n e.between ≡ []) same.number e.foreign in
+    record {
+      before = y.seen;
+      behind = e.between ++ entry ∷ [];
+      cut = e.stands ∙ append_assoc y.seen e.between (entry ∷ []);
+      leaves = leave-own (rules g.gives) x.number e.between entry (eq-eqb y.number x.number same.number) ∙ ap (λ es. es ++ Leave ∷ []) foreign;
+      missed = d;
     }
 
 -- the client may not have left
@@ -156,7 +190,7 @@ lost-stayed g k h got f = record { answered = f.answered; stood = inl f.stood }
 
 -- the headline, from what stands
 served : (u : Bool) (g : Service) (x y : Seated) (a b : Outlet) (left rest : Inlet) (r q : Result InputEnd Stop) (z : Seated) → (p : Plays u (Opening ∷ []) g x y a b left rest r) → LinesRead (connection_end q) (IsAll left p.bytes) p.bytes (lines_among p.turns)
-    → Stands (protocol g.opens) (rules g.gives) (connection_end q) x.number z.seen p.turns p.serves.out → EndIs g.opens (Opening ∷ []) p.turns (answers (rules g.gives) x.number z.seen) q left p.bytes → (w : WasServed u g x.number z.seen a b left rest q) × (w.bytes ≡ p.bytes)
+    → Stands (protocol g.opens) (rules g.gives) (connection_end q) x.number z.seen p.turns p.serves.out → EndIs g.opens (WasDueStill g.gives x.number z.seen) (Opening ∷ []) p.turns (answers (rules g.gives) x.number z.seen) q left p.bytes → (w : WasServed u g x.number z.seen a b left rest q) × (w.bytes ≡ p.bytes)
 served u g x y a b left rest r q z p l s e = (
   record {
     bytes = p.bytes;
@@ -175,19 +209,34 @@ served u g x y a b left rest r q z p l s e = (
 -- the connection ended, and the client left
 ended-left : (u : Bool) (g : Service) (x y z : Seated) (a b : Outlet) (left rest : Inlet) (ending : InputEnd) → (p : Plays u (Opening ∷ []) g x y a b left rest (Ok ending)) → HasLeft (protocol g.opens) (rules g.gives) x.number z.seen p.serves.got → (w : WasServed u g x.number z.seen a b left rest (Ok ending)) × (w.bytes ≡ p.bytes)
 ended-left u g x y z a b left rest ending p f =
-    served u g x y a b left rest (Ok ending) (Ok ending) z p p.lines_are (stands ending p f) (subst (λ got. EndIs g.opens (Opening ∷ []) p.turns got (Ok ending) left p.bytes) (sym f.answered) p.end_is)
+    served u g x y a b left rest (Ok ending) (Ok ending) z p p.lines_are (stands ending p f)
+    (subst (λ got. EndIs g.opens (WasDueStill g.gives x.number z.seen) (Opening ∷ []) p.turns got (Ok ending) left p.bytes) (sym f.answered) (as-ended ending p.turns p.serves.got p.bytes p.end_is))
   where
+    as-ended : (ending : InputEnd) (turns : List Turn) (got : List (Answer Event)) (bytes : List ℕ) → EndIs g.opens (IsDueStill x.number y.seen) (Opening ∷ []) turns got (Ok ending) left bytes → EndIs g.opens (WasDueStill g.gives x.number z.seen) (Opening ∷ []) turns got (Ok ending) left bytes
+    as-ended Left turns got bytes e = e
+    as-ended Ended turns got bytes e = e
+    as-ended ReadFault turns got bytes e = tt
+    as-ended Full turns got bytes e = e
+
     stands : (ending : InputEnd) (p : Plays u (Opening ∷ []) g x y a b left rest (Ok ending)) → HasLeft (protocol g.opens) (rules g.gives) x.number z.seen p.serves.got → Stands (protocol g.opens) (rules g.gives) (connection_end (Ok ending)) x.number z.seen p.turns p.serves.out
     stands Left p f = left-stands (protocol g.opens) (rules g.gives) x.number z.seen p.turns p.serves.got p.serves.out p.serves.fits f
     stands Ended p f = closed-stands (protocol g.opens) (rules g.gives) x.number z.seen p.turns p.serves.got p.serves.out p.serves.fits f
     stands ReadFault p f = closed-stands (protocol g.opens) (rules g.gives) x.number z.seen p.turns p.serves.got p.serves.out p.serves.fits f
     stands Full p f = closed-stands (protocol g.opens) (rules g.gives) x.number z.seen p.turns p.serves.got p.serves.out p.serves.fits f
 
+-- of what was read nothing is said where something was lost
+pub lost-end : (opens : List Key) (due : Phase → Type 0) (first : List Phase) (turns : List Turn) (got : List (Answer Event)) (why : Stop) (left : Inlet) (bytes : List ℕ) → connection_end (Err why) ≡ Lost → EndIs opens due first turns got (Err why) left bytes
+lost-end opens due first turns got stop.HistoryFull left bytes e = cc
+lost-end opens due first turns got (stop.Broken at) left bytes e = tt
+lost-end opens due first turns got stop.NoMemory left bytes e = tt
+lost-end opens due first turns got stop.WriteFault left bytes e = cc
+
 -- what was lost, was lost whatever had been played, unless a write failed
 lost-served : (u : Bool) (g : Service) (x y z : Seated) (a b : Outlet) (left rest : Inlet) (r : Result InputEnd Stop) (why : Stop) → connection_end (Err why) ≡ Lost → is_unwritten r ≡ false → (p : Plays u (Opening ∷ []) g x y a b left rest r) → HasLost (protocol g.opens) (rules g.gives) x.number z.seen p.serves.got → (w : WasServed u g x.number z.seen a b left rest (Err why)) × (w.bytes ≡ p.bytes)
 lost-served u g x y z a b left rest r why is_lost written p f =
     served u g x y a b left rest r (Err why) z p (subst (λ e. LinesRead e (IsAll left p.bytes) p.bytes (lines_among p.turns)) (sym is_lost) (any-lines r p))
-    (subst (λ e. Stands (protocol g.opens) (rules g.gives) e x.number z.seen p.turns p.serves.out) (sym is_lost) (stands r written p f)) tt
+    (subst (λ e. Stands (protocol g.opens) (rules g.gives) e x.number z.seen p.turns p.serves.out) (sym is_lost) (stands r written p f))
+    (lost-end g.opens (WasDueStill g.gives x.number z.seen) (Opening ∷ []) p.turns (answers (rules g.gives) x.number z.seen) why left p.bytes is_lost)
   where
     any-lines : (r : Result InputEnd Stop) (p : Plays u (Opening ∷ []) g x y a b left rest r) → AreLines (IsAll left p.bytes) p.bytes (lines_among p.turns)
     any-lines (Ok Left) p = p.lines_are
@@ -229,7 +278,9 @@ all-left r u g x y z a b left rest none same written p e = by r written p (gone 
     by (Ok ending) w p f = ended-left u g x y z a b left rest ending p f
     by (Err stop.HistoryFull) w p f =
         served u g x y a b left rest (Err stop.HistoryFull) (Err stop.HistoryFull) z p p.lines_are
-        (refused-stands (protocol g.opens) (rules g.gives) x.number z.seen p.turns p.serves.got p.serves.out p.serves.fits f) tt
+        (refused-stands (protocol g.opens) (rules g.gives) x.number z.seen p.turns p.serves.got p.serves.out p.serves.fits f)
+        (subst (λ got. EndIs g.opens (WasDueStill g.gives x.number z.seen) (Opening ∷ []) p.turns got (Err stop.HistoryFull) left p.bytes) (sym f.answered)
+        (ends-by g.opens (IsDueStill x.number y.seen) (WasDueStill g.gives x.number z.seen) (Opening ∷ []) p.turns p.serves.got (Err stop.HistoryFull) left p.bytes (due-gone g x y z same e) p.end_is))
     by (Err (stop.Broken at)) w p f = lost-served u g x y z a b left rest (Err (stop.Broken at)) (stop.Broken at) refl w p (lost-left g x.number z.seen p.serves.got f)
     by (Err stop.NoMemory) w p f = lost-served u g x y z a b left rest (Err stop.NoMemory) stop.NoMemory refl w p (lost-left g x.number z.seen p.serves.got f)
     by (Err stop.WriteFault) w p f = cc
@@ -242,4 +293,5 @@ unwritten-served (Err (stop.Broken at)) u g x y a b left rest e none same p = cc
 unwritten-served (Err stop.NoMemory) u g x y a b left rest e none same p = cc
 unwritten-served (Err stop.WriteFault) u g x y a b left rest e none same p =
     served u g x y a b left rest (Err stop.WriteFault) (Err stop.WriteFault) y p p.lines_are
-    (unsent-stands (protocol g.opens) (rules g.gives) x.number y.seen p.turns p.serves.got p.serves.out p.serves.fits (still g x y p.serves.got none p.serves.adds)) tt
+    (unsent-stands (protocol g.opens) (rules g.gives) x.number y.seen p.turns p.serves.got p.serves.out p.serves.fits (still g x y p.serves.got none p.serves.adds))
+    (subst (λ got. EndIs g.opens (WasDueStill g.gives x.number y.seen) (Opening ∷ []) p.turns got (Err stop.WriteFault) left p.bytes) (sym (still g x y p.serves.got none p.serves.adds).answered) p.end_is)

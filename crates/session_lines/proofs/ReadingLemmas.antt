@@ -1,5 +1,6 @@
 -- How the reading of an input goes on, line by line.
-use Rattle.std.proofs.Common.{◌≡◌, ℕ, ◌+◌, ◌-◌, ◌<◌, ◌≤◌, ◌⊎◌, inl, inr, Bool, true, false, None, Some, List, [], ◌∷◌, ◌++◌, length, Ok, Err, IfSome, refl, sym, ap, ◌∙◌, subst, arith, append_assoc, append-nil, length-append}
+use Rattle.std.proofs.Common.{◌≡◌, ℕ, ◌+◌, ◌-◌, ◌<◌, ◌≤◌, ◌⊎◌, inl, inr, Bool, true, false, None, Some, List, [], ◌∷◌, ◌++◌, length, take, Ok, Err, IfSome, refl, sym, ap, ◌∙◌, subst, arith, append_assoc, append-nil, length-append}
+use Rattle.std.specs.Prelude.{if◌then◌else◌, ⊤}
 use Rattle.std.specs.List.{AllByRecursion, flat_map}
 use Rattle.std.proofs.lemmas.List.{take-append-le}
 use Rattle.std.specs.declared.option.Option.{Option}
@@ -8,9 +9,9 @@ use Rattle.std.specs.Io.KnownBytes.{Consumes}
 use Rattle.std.proofs.KnownBytes.{Consumes-nil, Consumes-trans}
 use Rattle.kak_ports.specs.Ports.{Inlet, Outlet, Rose}
 use Rattle.session_turns.specs.Lines.{whole_lines, last_part, as_line, lines_of_input, with_newlines, HasNoNewline}
-use Rattle.session_turns.specs.Histories.{Answer, is_leaving}
-use Rattle.session_turns.specs.Turns.{Turn, Line as Said, Idle, Phase, During, later, turns_of, lines_among, plays, answers_to}
-use Rattle.session_turns.specs.Growth.{How, Whole, Over, Lost, IsWhole}
+use Rattle.session_turns.specs.Histories.{Answer, events_of, is_leaving}
+use Rattle.session_turns.specs.Turns.{Turn, Line as Said, Idle, Phase, Opening, During, later, turns_of, lines_among, plays, phase_size, due, answers_to}
+use Rattle.session_turns.specs.Growth.{How, Whole, Over, Lost, Fits, IsWhole, IsShort, IsUnsent}
 use Rattle.session_turns.specs.Headline.{LinesRead, AreLines}
 use Rattle.session_turns.proofs.Lists.{stays_front, length-events_of}
 use Rattle.session_turns.proofs.TurnLemmas.{flat_map-append}
@@ -29,9 +30,9 @@ use Rattle.session_lines.specs.declared.reading.InputEnd.TheVariants.{Left, Ende
 use Rattle.session_lines.specs.Stops.{IsLoss}
 use Rattle.session_lines.specs.Session.{protocol}
 use Rattle.session_lines.specs.Serving.{Service, Serves, how_of, line_phases}
-use Rattle.session_lines.specs.Reading.{EndIs, FaultIs}
+use Rattle.session_lines.specs.Reading.{IsDueStill, WasStopped, EndIs, FaultIs}
 use Rattle.session_lines.specs.Connections.{connection_end, AreAsked, Plays}
-use Rattle.session_lines.proofs.ServingLemmas.{serves-append, serves-over, serves-stopped, serves-nothing, serves-lost}
+use Rattle.session_lines.proofs.ServingLemmas.{serves-append, serves-over, serves-stopped, stopped-got, serves-nothing, serves-lost}
 
 -- the lines of some turns, and of others behind them
 pub among-append : (ts us : List Turn) → lines_among (ts ++ us) ≡ lines_among ts ++ lines_among us
@@ -160,7 +161,7 @@ pub turns-append : (ls ms : List (List ℕ)) → line_phases (ls ++ ms) ≡ line
 turns-append ls ms = ap later (turns_of-append ls ms) ∙ later-append (turns_of ls) (turns_of ms)
 
 -- a serving with other phases that are the same, with its answers
-with-phases : (g : Service) (old new : Seated) (a b : Outlet) (how : How) (ts us : List Phase) → ts ≡ us → (s : Serves g old new a b how ts) → (t : Serves g old new a b how us) × (t.got ≡ s.got)
+pub with-phases : (g : Service) (old new : Seated) (a b : Outlet) (how : How) (ts us : List Phase) → ts ≡ us → (s : Serves g old new a b how ts) → (t : Serves g old new a b how us) × (t.got ≡ s.got)
 with-phases g old new a b how ts us e s = subst (λ q. (t : Serves g old new a b how q) × (t.got ≡ s.got)) e (s, refl)
 
 -- turns that kept the client keep it whatever is answered behind, and so do the first ones of them
@@ -171,6 +172,118 @@ kept-front opens all first more got late out e w =
     sym (length-events_of got) ∙ ap length w.events ∙ ap (λ ts. length (flat_map (plays (protocol opens)) ts)) (ap later e ∙ later-append first more) ∙ ap length (flat_map-append (protocol opens) (later first) (later more)) in
     let le : n ≤ length got = omega (arith, events, length-append (flat_map (plays (protocol opens)) (later first)) (flat_map (plays (protocol opens)) (later more))) in
     ap is_leaving (take-append-le n got late le) ∙ stays_front n got w.stays
+
+-- what phases play of which there is one
+pub due-one : (opens : List Key) (phase : Phase) (got : List (Answer Event)) → due (protocol opens) (phase ∷ []) got ≡ plays (protocol opens) phase
+due-one opens phase got = none-behind (is_leaving (take (phase_size (protocol opens) phase) got)) (plays (protocol opens) phase) ∙ append-nil (plays (protocol opens) phase)
+  where
+    none-behind : (t : Bool) (es : List Event) → es ++ flat_map (plays (protocol opens)) (if t then [] else []) ≡ es ++ []
+    none-behind true es = refl
+    none-behind false es = refl
+
+-- of one phase an event was refused: it has more of them than were answered
+pub short-size : (opens : List Key) (phase : Phase) (got : List (Answer Event)) (out : List ℕ) → IsShort (protocol opens) (phase ∷ []) got out → length got < length (plays (protocol opens) phase)
+short-size opens phase got out f =
+    let h = f.events [] in
+    let size : length (plays (protocol opens) phase) ≡ length (events_of got) + length (h.0 ∷ h.1) = ap length (sym (due-one opens phase got) ∙ h.2) ∙ length-append (events_of got) (h.0 ∷ h.1) in
+    omega (arith, size, length-events_of got)
+
+-- of one phase that is parted into phases
+one-only : (t at : Phase) (before behind : List Phase) → t ∷ [] ≡ before ++ at ∷ behind → (before ≡ []) × (at ≡ t)
+one-only t at [] behind e = (refl, let same : t ≡ at = cc in sym same)
+one-only t at (x ∷ []) behind e = let no : ◌≡◌ {A = List Phase} [] (at ∷ behind) = cc in cc
+one-only t at (x ∷ y ∷ before) behind e = let no : ◌≡◌ {A = List Phase} [] (y ∷ (before ++ at ∷ behind)) = cc in cc
+
+-- of one phase sending failed: all its events were answered
+unsent-size : (opens : List Key) (phase : Phase) (got : List (Answer Event)) (out : List ℕ) → IsUnsent (protocol opens) (phase ∷ []) got out → length got ≡ length (plays (protocol opens) phase)
+unsent-size opens phase got out f =
+    let s = one-only phase f.at f.before f.behind f.split in
+    let early : length f.early ≡ length (flat_map (plays (protocol opens)) f.before) = sym (length-events_of f.early) ∙ ap length f.whole.events in
+    let none : length (flat_map (plays (protocol opens)) f.before) ≡ 0 = ap (λ ts. length (flat_map (plays (protocol opens)) ts)) s.0 in
+    let late : length f.late ≡ length (plays (protocol opens) phase) = sym (length-events_of f.late) ∙ ap length f.events ∙ ap (λ t. length (plays (protocol opens) t)) s.1 in
+    let both : length got ≡ length f.early + length f.late = ap length f.answers ∙ length-append f.early f.late in
+    omega (arith, early, none, late, both)
+
+-- how many events phases have, and one behind them
+behind-size : (opens : List Key) (ts : List Phase) (phase : Phase) → length (flat_map (plays (protocol opens)) (ts ++ phase ∷ [])) ≡ length (flat_map (plays (protocol opens)) ts) + length (plays (protocol opens) phase)
+behind-size opens ts phase =
+    ap length (flat_map-append (protocol opens) ts (phase ∷ []))
+    ∙ length-append (flat_map (plays (protocol opens)) ts) (plays (protocol opens) phase ++ [])
+    ∙ ap (λ es. length (flat_map (plays (protocol opens)) ts) + length es) (append-nil (plays (protocol opens) phase))
+
+whole-size : (opens : List Key) (ts : List Phase) (got : List (Answer Event)) (out : List ℕ) → IsWhole (protocol opens) ts got out → length (flat_map (plays (protocol opens)) ts) ≡ length got
+whole-size opens ts got out w = sym (ap length w.events) ∙ length-events_of got
+
+-- playing stopped in a turn, behind turns that were all played
+abbrev stopped-behind : (opens : List Key) (left : Inlet) (bytes : List ℕ) (all : List Turn) (turn : Turn) (more : List Turn) (a b : List (Answer Event)) (x : List ℕ) → IsWhole (protocol opens) (later all) a x → LastPiece left bytes all → WasStopped opens [] (all ++ turn ∷ more) (a ++ b) left bytes
+stopped-behind opens left bytes all turn more a b x w l = record {
+  before = later all;
+  at = During turn;
+  behind = later more;
+  split = later-append all (turn ∷ more);
+  answered = omega (arith, whole-size opens (later all) a x w, length-append a b);
+  needed = inr (record {
+    early = l.before;
+    piece = l.piece;
+    cut = l.cut;
+    one = l.one;
+    most = l.most;
+    front = l.front;
+    lines = l.lines;
+    inside = (later l.behind, ap later l.turns_are ∙ later-append l.front l.behind);
+  });
+}
+
+-- what had no room in the history was due
+abbrev pub DueFor : Stop → Type 0 → Type 0
+DueFor stop.HistoryFull due = due
+DueFor _ due = ⊤
+
+pub due-for : (why : Stop) (due : Type 0) → due → DueFor why due
+due-for stop.HistoryFull due d = d
+due-for (stop.Broken at) due d = tt
+due-for stop.NoMemory due d = tt
+due-for stop.WriteFault due d = tt
+
+pub stop-end : (opens : List Key) (due : Phase → Type 0) (why : Stop) (left : Inlet) (bytes : List ℕ) (all : List Turn) (turn : Turn) (more : List Turn) (a b : List (Answer Event)) (x y : List ℕ) → DueFor why (due (During turn)) → IsWhole (protocol opens) (later all) a x → Fits (protocol opens) (how_of (Err why)) (During turn ∷ []) b y → LastPiece left bytes all
+    → EndIs opens due [] (all ++ turn ∷ more) (a ++ b) (Err why) left bytes
+stop-end opens due (stop.Broken at) left bytes all turn more a b x y d w f l = tt
+stop-end opens due stop.NoMemory left bytes all turn more a b x y d w f l = tt
+stop-end opens due stop.HistoryFull left bytes all turn more a b x y d w f l = (
+  stopped-behind opens left bytes all turn more a b x w l,
+  omega (arith, behind-size opens (later all) (During turn), whole-size opens (later all) a x w, length-append a b, short-size opens (During turn) b y f),
+  d,
+)
+stop-end opens due stop.WriteFault left bytes all turn more a b x y d w f l = (
+  stopped-behind opens left bytes all turn more a b x w l,
+  omega (arith, behind-size opens (later all) (During turn), whole-size opens (later all) a x w, length-append a b, unsent-size opens (During turn) b y f),
+)
+
+-- playing stopped in the opening, for which nothing was taken
+abbrev stopped-opening : (opens : List Key) (left : Inlet) (got : List (Answer Event)) → WasStopped opens (Opening ∷ []) [] got left []
+stopped-opening opens left got = record { before = []; at = Opening; behind = []; split = refl; answered = omega arith; needed = inl refl }
+
+pub opening-end : (opens : List Key) (due : Phase → Type 0) (why : Stop) (left : Inlet) (got : List (Answer Event)) (out : List ℕ) → due Opening → Fits (protocol opens) (how_of (Err why)) (Opening ∷ []) got out → EndIs opens due (Opening ∷ []) [] got (Err why) left []
+opening-end opens due (stop.Broken at) left got out d f = tt
+opening-end opens due stop.NoMemory left got out d f = tt
+opening-end opens due stop.HistoryFull left got out d f = (stopped-opening opens left got, omega (arith, behind-size opens [] Opening, short-size opens Opening got out f), d)
+opening-end opens due stop.WriteFault left got out d f = (stopped-opening opens left got, omega (arith, behind-size opens [] Opening, unsent-size opens Opening got out f))
+
+-- a client that never came was refused in its opening
+pub refused-end : (opens : List Key) (due : Phase → Type 0) (left : Inlet) (got : List (Answer Event)) → due Opening → got ≡ [] → EndIs opens due (Opening ∷ []) [] got (Err stop.HistoryFull) left []
+refused-end opens due left got d none =
+    let some : 0 < length (plays (protocol opens) Opening) = omega arith in (stopped-opening opens left got, omega (arith, behind-size opens [] Opening, ap length none, some), d)
+
+-- what was due is so by what follows from it
+pub ends-by : (opens : List Key) (due now : Phase → Type 0) (first : List Phase) (turns : List Turn) (got : List (Answer Event)) (r : Result InputEnd Stop) (left : Inlet) (bytes : List ℕ) → ((phase : Phase) → due phase → now phase) → EndIs opens due first turns got r left bytes → EndIs opens now first turns got r left bytes
+ends-by opens due now first turns got (Ok Left) left bytes f e = e
+ends-by opens due now first turns got (Ok Ended) left bytes f e = e
+ends-by opens due now first turns got (Ok ReadFault) left bytes f e = tt
+ends-by opens due now first turns got (Ok Full) left bytes f e = e
+ends-by opens due now first turns got (Err stop.HistoryFull) left bytes f e = (e.0, e.1, f e.0.at e.2)
+ends-by opens due now first turns got (Err stop.WriteFault) left bytes f e = e
+ends-by opens due now first turns got (Err (stop.Broken at)) left bytes f e = tt
+ends-by opens due now first turns got (Err stop.NoMemory) left bytes f e = tt
 
 -- the lines of bytes whose first ones are those that were played
 pub lines-behind : (bytes behind : List ℕ) (given : List (List ℕ)) → bytes ≡ with_newlines given ++ behind → AllByRecursion HasNoNewline given → whole_lines [] bytes ≡ given ++ whole_lines [] behind
@@ -258,7 +371,7 @@ asked-with turns behind a = asked-append turns (turns_of behind) a (asked-of beh
 
 -- the client may leave after a line: of the lines behind it none is played, and what kept the client before is known
 left-at : (u : Bool) (g : Service) (old mid new : Seated) (a b c : Outlet) (left rest : Inlet) (taken : ℕ) (behind line : List ℕ) (beyond lines : List (List ℕ)) (h : HasRead u g old mid a b left rest taken behind) → lines ≡ lines_among h.turns ++ line ∷ beyond → IsSameSeat old mid → AreLines (IsAll left h.bytes) h.bytes lines
-    → ((got : List (Answer Event)) → ((first more : List Turn) → h.turns ≡ first ++ more → is_leaving (answers_to (protocol g.opens) (later first) got) ≡ false) → EndIs g.opens [] (with-lines h.turns (line ∷ beyond)) got (Ok Left) left h.bytes)
+    → ((got : List (Answer Event)) → ((first more : List Turn) → h.turns ≡ first ++ more → is_leaving (answers_to (protocol g.opens) (later first) got) ≡ false) → EndIs g.opens (IsDueStill old.number new.seen) [] (with-lines h.turns (line ∷ beyond)) got (Ok Left) left h.bytes)
     → Serves g mid new b c Over (line_phases (line ∷ [])) → (p : Plays u [] g old new a c left rest (Ok Left)) × (p.bytes ≡ h.bytes)
 left-at u g old mid new a b c left rest taken behind line beyond lines h cut same read end t = (
   record {
@@ -291,12 +404,18 @@ stopped-at u g old mid new a b c left rest taken behind line beyond lines why h 
     turns = with-lines h.turns (line ∷ beyond);
     lines_are = subst (λ ls. LinesRead (connection_end (Err why)) (IsAll left h.bytes) h.bytes ls) (sym (lines-with h.turns (line ∷ beyond) lines cut)) (stopped-lines why (IsAll left h.bytes) h.bytes lines read);
     asked = λ e. asked-with h.turns (line ∷ beyond) (h.asked e);
-    serves = subst (λ ts. Serves g old new a c (how_of (Err why)) ts) (sym (later-append h.turns (turns_of (line ∷ beyond))))
-        (serves-append g old mid new a b c (how_of (Err why)) (later h.turns) (line_phases (line ∷ []) ++ line_phases beyond) same h.serves (serves-stopped g mid new b c why (line_phases (line ∷ [])) (line_phases beyond) t));
-    end_is = tt;
+    serves = found.0;
+    end_is = subst (λ got. EndIs g.opens (IsDueStill old.number new.seen) [] (with-lines h.turns (line ∷ beyond)) got (Err why) left h.bytes) (sym found.1)
+        (stop-end g.opens (IsDueStill old.number new.seen) why left h.bytes h.turns (Said line) (turns_of beyond) h.serves.got t.got h.serves.out t.out (due-for why ⊤ tt) h.serves.fits t.fits h.last);
   },
   refl,
 )
+  where
+    found : (p : Serves g old new a c (how_of (Err why)) (later (with-lines h.turns (line ∷ beyond)))) × (p.got ≡ h.serves.got ++ t.got)
+    found =
+        let now = serves-stopped g mid new b c why (line_phases (line ∷ [])) (line_phases beyond) t in
+        let p = with-phases g old new a c (how_of (Err why)) _ _ (sym (later-append h.turns (turns_of (line ∷ beyond)))) (serves-append g old mid new a b c (how_of (Err why)) (later h.turns) (line_phases (line ∷ []) ++ line_phases beyond) same h.serves now) in
+        (p.0, p.1 ∙ ap (λ q. h.serves.got ++ q) (stopped-got g mid new b c why (line_phases (line ∷ [])) (line_phases beyond) t))
 
 as-left : (g : Service) (x y : Seated) (a b : Outlet) (said line : List ℕ) (l : Bool) → l ≡ true → said ≡ line → Serves g x y a b (how_of (Ok l)) (line_phases (said ∷ [])) → Serves g x y a b Over (line_phases (line ∷ []))
 as-left g x y a b said line l f e t = subst (λ q. Serves g x y a b Over (line_phases (q ∷ []))) e (subst (λ q. Serves g x y a b (how_of (Ok q)) (line_phases (said ∷ []))) f t)

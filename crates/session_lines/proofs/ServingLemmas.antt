@@ -107,20 +107,27 @@ serves-append g x y z a b c how ts us same s u = record {
 pub serves-over : (g : Service) (x y : Seated) (a b : Outlet) (ts more : List Phase) → Serves g x y a b Over ts → Serves g x y a b Over (ts ++ more)
 serves-over g x y a b ts more s = record { got = s.got; out = s.out; adds = s.adds; sends = s.sends; fits = over-more (protocol g.opens) ts more s.got s.out s.fits }
 
-serves-short : (g : Service) (x y : Seated) (a b : Outlet) (ts more : List Phase) → Serves g x y a b Short ts → Serves g x y a b Short (ts ++ more)
+abbrev serves-short : (g : Service) (x y : Seated) (a b : Outlet) (ts more : List Phase) → Serves g x y a b Short ts → Serves g x y a b Short (ts ++ more)
 serves-short g x y a b ts more s = record { got = s.got; out = s.out; adds = s.adds; sends = s.sends; fits = short-more (protocol g.opens) ts more s.got s.out s.fits }
 
-serves-lost-more : (g : Service) (x y : Seated) (a b : Outlet) (ts more : List Phase) → Serves g x y a b Lost ts → Serves g x y a b Lost (ts ++ more)
+abbrev serves-lost-more : (g : Service) (x y : Seated) (a b : Outlet) (ts more : List Phase) → Serves g x y a b Lost ts → Serves g x y a b Lost (ts ++ more)
 serves-lost-more g x y a b ts more s = record { got = s.got; out = s.out; adds = s.adds; sends = s.sends; fits = lost-more (protocol g.opens) ts more s.got s.out s.fits }
 
-serves-unsent-more : (g : Service) (x y : Seated) (a b : Outlet) (ts more : List Phase) → Serves g x y a b Unsent ts → Serves g x y a b Unsent (ts ++ more)
+abbrev serves-unsent-more : (g : Service) (x y : Seated) (a b : Outlet) (ts more : List Phase) → Serves g x y a b Unsent ts → Serves g x y a b Unsent (ts ++ more)
 serves-unsent-more g x y a b ts more s = record { got = s.got; out = s.out; adds = s.adds; sends = s.sends; fits = unsent-more (protocol g.opens) ts more s.got s.out s.fits }
 
-pub serves-stopped : (g : Service) (x y : Seated) (a b : Outlet) (why : Stop) (ts more : List Phase) → Serves g x y a b (how_of (Err why)) ts → Serves g x y a b (how_of (Err why)) (ts ++ more)
+abbrev pub serves-stopped : (g : Service) (x y : Seated) (a b : Outlet) (why : Stop) (ts more : List Phase) → Serves g x y a b (how_of (Err why)) ts → Serves g x y a b (how_of (Err why)) (ts ++ more)
 serves-stopped g x y a b stop.HistoryFull ts more s = serves-short g x y a b ts more s
 serves-stopped g x y a b (stop.Broken at) ts more s = serves-lost-more g x y a b ts more s
 serves-stopped g x y a b stop.NoMemory ts more s = serves-lost-more g x y a b ts more s
 serves-stopped g x y a b stop.WriteFault ts more s = serves-unsent-more g x y a b ts more s
+
+-- with the same answers
+pub stopped-got : (g : Service) (x y : Seated) (a b : Outlet) (why : Stop) (ts more : List Phase) (s : Serves g x y a b (how_of (Err why)) ts) → (serves-stopped g x y a b why ts more s).got ≡ s.got
+stopped-got g x y a b stop.HistoryFull ts more s = refl
+stopped-got g x y a b (stop.Broken at) ts more s = refl
+stopped-got g x y a b stop.NoMemory ts more s = refl
+stopped-got g x y a b stop.WriteFault ts more s = refl
 
 -- no phase was played
 pub serves-nothing : (g : Service) (h : Seated) (a : Outlet) → Serves g h h a a Whole []

@@ -18,7 +18,7 @@ use Rattle.session_lines.specs.declared.reading.InputEnd.TheVariants.{Left, Ende
 use Rattle.session_lines.specs.Session.{protocol}
 use Rattle.session_lines.specs.Stops.{NoneFailed, Causes}
 use Rattle.session_lines.specs.Serving.{Service, Serves}
-use Rattle.session_lines.specs.Reading.{how_read, EndIs}
+use Rattle.session_lines.specs.Reading.{how_read, IsDueStill, WasDueStill, EndIs}
 
 -- how a connection ended
 abbrev pub connection_end : Result InputEnd Stop → End
@@ -49,7 +49,7 @@ pub record Plays (unasked : Bool) (first : List Phase) (with : Service) (old new
   pub lines_are : LinesRead (connection_end result) (IsAll left bytes) bytes (lines_among turns)
   pub asked : unasked ≡ false → AreAsked turns
   pub serves : Serves with old new before now (how_read result) (first ++ later turns)
-  pub end_is : EndIs with.opens first turns serves.got result left bytes
+  pub end_is : EndIs with.opens (IsDueStill old.number new.seen) first turns serves.got result left bytes
 
 -- A connection was served: these bytes were read, no more than may be, these were sent, and the history is what serving
 -- the lines that were read makes, with drawings between them that nobody asked for only where these may come.
@@ -62,7 +62,7 @@ pub record WasServed (unasked : Bool) (with : Service) (who : ℕ) (history : Li
   pub out : List ℕ
   pub sends : Appends before.told now.told out
   pub served : IsServed (protocol with.opens) (rules with.gives) (connection_end result) who history turns (IsAll left bytes) bytes out
-  pub end_is : EndIs with.opens (Opening ∷ []) turns (answers (rules with.gives) who history) result left bytes
+  pub end_is : EndIs with.opens (WasDueStill with.gives who history) (Opening ∷ []) turns (answers (rules with.gives) who history) result left bytes
 
 -- why a connection ended, behind the client's leaving: a full history has more entries than it may have by that leaving
 abbrev pub EndCauses : Result InputEnd Stop → Seated → Outlet → Outlet → Type 0

@@ -4,3 +4,4 @@ pub mod Serving
 pub mod Sending
 pub mod Reading
 pub mod Connections
+pub mod Examples

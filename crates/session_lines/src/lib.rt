@@ -3,6 +3,7 @@
 #![tactic(auto)]
 
 pub mod connection;
+pub mod examples;
 pub mod playing;
 pub mod reading;
 pub mod turns;

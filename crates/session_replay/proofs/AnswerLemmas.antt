@@ -7,7 +7,9 @@ use Rattle.std.specs.List.{flat_map}
 use Rattle.std.proofs.KnownBytes.{Consumes-nil}
 use Rattle.std.proofs.lemmas.List.{length-map}
 use Rattle.kak_ports.specs.Ports.{Inlet, Outlet}
-use Rattle.ui_board.specs.Told.{Kind, Silent, Shown, untold, report_of}
+use Rattle.ui_board.specs.declared.ui.Kind.{Kind}
+use Rattle.ui_board.specs.declared.ui.Kind.TheVariants.{Silent}
+use Rattle.ui_board.specs.Told.{Shown, untold, report_of}
 use Rattle.session_turns.specs.Lines.{whole_lines}
 use Rattle.session_events.specs.declared.event.Entry.{Entry}
 use Rattle.session_events.specs.Meaning.{Gives}
@@ -49,7 +51,7 @@ same-reports (Err NoMemory) result before now xs ys e r = r
 
 -- what was played, behind the reports
 pub played-replayed : (g : Gives) (limit at : ℕ) (kinds : List Kind) (ended result : Result ReplayEnd Stop) (h : List Entry) (held : ℕ → HeldClient) (clients told : List ReplayClient) (left rest : Inlet) (before now : Outlet) → at ≡ limit → length clients ≡ length kinds → ((who : ℕ) → (held who).report ≡ get_or (reports clients) who [])
-    → told ≡ clients → WasPlayed g at kinds ended h held left rest → Reports ended result before now (flat_map (λ client. client.report.items) told) → WasReplayed g limit kinds h left rest before now result
+    → told ≡ clients → WasPlayed g at kinds ended h held left rest → Reports ended result before now (flat_map (λ client. client.report.items) told) → WasReplayed g limit kinds (λ who. (held who).box) h left rest before now result
 played-replayed g limit at kinds ended result h held clients told left rest before now e many is t q r =
     let p : WasPlayed g limit kinds ended h held left rest = subst (λ n. WasPlayed g n kinds ended h held left rest) e q in
     record {
@@ -60,6 +62,7 @@ played-replayed g limit at kinds ended result h held clients told left rest befo
       shown = p.shown;
       kinds_are = p.kinds_are;
       ended = ended;
+      boxes_are = p.boxes;
       replayed = p.replayed;
       reports = same-reports ended result before now (flat_map (λ client. client.report.items) clients) (flat_map report_of p.shown)
           (held-reports ended clients p.shown held (many ∙ sym (ap length p.kinds_are) ∙ length-map p.shown (λ box. box.kind)) is p.reports)
@@ -70,8 +73,8 @@ played-replayed g limit at kinds ended result h held clients told left rest befo
 no-order : (g : Gives) (limit count : ℕ) → ArePlayedInOrder g limit count [] []
 no-order g limit count shown same i inside = absurd (omega (arith, inside))
 
-pub nothing-replayed : (g : Gives) (limit : ℕ) (kinds : List Kind) (h : List Entry) (left : Inlet) (now : Outlet) → h ≡ [] → WasReplayed g limit kinds h left left now now (Err NoMemory)
-nothing-replayed g limit kinds h left now e = subst (λ q. WasReplayed g limit kinds q left left now now (Err NoMemory)) (sym e) (record {
+pub nothing-replayed : (g : Gives) (limit : ℕ) (kinds : List Kind) (boxes : ℕ → Option Shown) (h : List Entry) (left : Inlet) (now : Outlet) → h ≡ [] → WasReplayed g limit kinds boxes h left left now now (Err NoMemory)
+nothing-replayed g limit kinds boxes h left now e = subst (λ q. WasReplayed g limit kinds boxes q left left now now (Err NoMemory)) (sym e) (record {
   bytes = s.stopped.bytes;
   takes = s.stopped.takes;
   few = s.stopped.few;
@@ -79,6 +82,7 @@ nothing-replayed g limit kinds h left now e = subst (λ q. WasReplayed g limit k
   shown = s.shown;
   kinds_are = s.kinds_are;
   ended = Err NoMemory;
+  boxes_are = tt;
   replayed = s.stopped.replayed;
   reports = (refl, refl);
 })

@@ -3,7 +3,9 @@ use Rattle.std.proofs.Common.{◌≡◌, ◌≢◌, ℕ, ◌<◌, ◌≤◌, ◌
 use Rattle.std.specs.Prelude.{if◌then◌else◌, get_or, Some}
 use Rattle.std.proofs.lemmas.Bool.Decides.{Decides-eqb}
 use Rattle.std.proofs.lemmas.List.{map-append}
-use Rattle.ui_board.specs.Told.{Kind, Silent, untold}
+use Rattle.ui_board.specs.declared.ui.Kind.{Kind}
+use Rattle.ui_board.specs.declared.ui.Kind.TheVariants.{Silent}
+use Rattle.ui_board.specs.Told.{untold}
 use Rattle.session_turns.specs.Histories.{own, answers}
 use Rattle.session_turns.specs.Turns.{Line, During, Opening, later, phases, turns_of}
 use Rattle.session_turns.specs.Growth.{How, Whole, Over, Adds, IsOver}

@@ -1,7 +1,9 @@
 -- How one client after another is let go at the end of a replay.
 use Rattle.std.proofs.Common.{◌≡◌, ◌≢◌, ℕ, ◌+◌, ◌<◌, ◌≤◌, ◌⊎◌, inl, inr, true, false, List, [], ◌∷◌, ◌++◌, length, Ok, Err, refl, sym, ap, ◌∙◌, subst, append-nil, append_assoc}
 use Rattle.std.specs.Prelude.{get_or, Option, Some, None, is_none}
-use Rattle.ui_board.specs.Told.{Kind, Silent, Shown, json_lines, report_of}
+use Rattle.ui_board.specs.declared.ui.Kind.{Kind}
+use Rattle.ui_board.specs.declared.ui.Kind.TheVariants.{Silent}
+use Rattle.ui_board.specs.Told.{Shown, json_lines, report_of}
 use Rattle.ui_board.specs.Boards.{report_at}
 use Rattle.session_turns.specs.Growth.{Begins, How, Lost}
 use Rattle.session_turns.specs.Headline.{Lost as WasLost}
@@ -49,7 +51,7 @@ pub off-gone : (held : HeldClient) (box : Option Shown) → held ≡ let_off box
 off-gone held box e = ap (λ q. q.place) e
 
 pub off-keeps : (held : HeldClient) (box : Option Shown) → held ≡ let_off box → (shown : Shown) → box ≡ Some shown → Keeps place.Gone held shown
-off-keeps held box e shown b = (ap (λ q. q.box) e, ap (λ q. q.report) e ∙ ap report_at b)
+off-keeps held box e shown b = (ap (λ q. q.box) e ∙ b, ap (λ q. q.report) e ∙ ap report_at b)
 
 -- something was lost as a client left
 lost-why : (why : Stop) → how_of (Err why) ≡ Lost → IsLossFor why

@@ -7,7 +7,9 @@ use Rattle.std.specs.List.{list_any}
 use Rattle.std.proofs.lemmas.Bool.{eq-eqb, ne_eqb}
 use Rattle.std.proofs.lemmas.List.Folds.{list_any-append}
 use Rattle.kak_ports.specs.Ports.{Inlet, Rose}
-use Rattle.ui_board.specs.Told.{Kind, Silent, json_lines}
+use Rattle.ui_board.specs.declared.ui.Kind.{Kind}
+use Rattle.ui_board.specs.declared.ui.Kind.TheVariants.{Silent}
+use Rattle.ui_board.specs.Told.{json_lines}
 use Rattle.line_reading.specs.declared.limits.TheConstants.{MAX_INPUT}
 use Rattle.session_turns.specs.Histories.{own}
 use Rattle.session_turns.specs.Turns.{phases, turns_of}
@@ -170,7 +172,7 @@ leaves-may g limit count now kinds h held left rest many same b = record { kinds
 
 -- it was replayed, and the reports are held
 done-played : (by : ReplayEnd) (g : Gives) (limit : ℕ) (kinds : List Kind) (hows : ℕ → How) (lines : List (List ℕ)) (h : List Entry) (held : ℕ → HeldClient) (left rest : Inlet) → (c : Concludes g kinds hows lines h held) → Done (replay_of g limit lines h c.shown) by left rest → WasPlayed g limit kinds (Ok by) h held left rest
-done-played by g limit kinds hows lines h held left rest c d = record { bytes = d.bytes; takes = d.takes; few = d.few; lines = lines; shown = c.shown; kinds_are = c.kinds_are; replayed = d.replayed; reports = c.reports }
+done-played by g limit kinds hows lines h held left rest c d = record { bytes = d.bytes; takes = d.takes; few = d.few; lines = lines; shown = c.shown; kinds_are = c.kinds_are; replayed = d.replayed; reports = c.reports; boxes = c.boxes }
 
 abbrev hows-of : (ℕ → HeldClient) → ℕ → How
 hows-of held who = how_at (held who).place
@@ -242,7 +244,7 @@ cut-played g limit kinds h h' held held' left rest s full behind l = subst (λ q
         (subst (λ q. limit ≤ length q) c.grows.grows full) (subst (λ q. leave_in_order q ≡ true) rest-is l.in_order) concludes s.read
 
     played : WasPlayed g limit kinds (Err HistoryFull) (s.old ++ (c.grows.more ++ behind.0)) held' left rest
-    played = record { bytes = stopped.bytes; takes = stopped.takes; few = stopped.few; lines = s.lines ++ s.last ∷ []; shown = concludes.shown; kinds_are = concludes.kinds_are; replayed = stopped.replayed; reports = concludes.reports }
+    played = record { bytes = stopped.bytes; takes = stopped.takes; few = stopped.few; lines = s.lines ++ s.last ∷ []; shown = concludes.shown; kinds_are = concludes.kinds_are; replayed = stopped.replayed; reports = concludes.reports; boxes = concludes.boxes }
 
 -- all left, where nothing was lost
 pub all-played : (ended : Result ReplayEnd Stop) (seat : Seated) (g : Gives) (limit : ℕ) (kinds : List Kind) (h h' : List Entry) (held held' : ℕ → HeldClient) (left rest : Inlet) → (none : IsNoLoss ended) → (why : Stops ended seat) → (s : HasStopped g limit kinds ended h held left rest) → seat.limit ≡ limit → seat.seen ≡ h → Begins h' h
@@ -261,8 +263,8 @@ all-played (Err WriteFault) seat g limit kinds h h' held held' left rest none wh
 
 -- something was lost
 losing-played : (why : Stop) (g : Gives) (limit : ℕ) (kinds : List Kind) (lines : List (List ℕ)) (h : List Entry) (held : ℕ → HeldClient) (left rest : Inlet) → IsLossFor why → IsLosing g limit kinds lines h why left rest → WasPlayed g limit kinds (Err why) h held left rest
-losing-played (Broken at) g limit kinds lines h held left rest loss s = record { bytes = s.stopped.bytes; takes = s.stopped.takes; few = s.stopped.few; lines = lines; shown = s.shown; kinds_are = s.kinds_are; replayed = s.stopped.replayed; reports = tt }
-losing-played NoMemory g limit kinds lines h held left rest loss s = record { bytes = s.stopped.bytes; takes = s.stopped.takes; few = s.stopped.few; lines = lines; shown = s.shown; kinds_are = s.kinds_are; replayed = s.stopped.replayed; reports = tt }
+losing-played (Broken at) g limit kinds lines h held left rest loss s = record { bytes = s.stopped.bytes; takes = s.stopped.takes; few = s.stopped.few; lines = lines; shown = s.shown; kinds_are = s.kinds_are; replayed = s.stopped.replayed; reports = tt; boxes = tt }
+losing-played NoMemory g limit kinds lines h held left rest loss s = record { bytes = s.stopped.bytes; takes = s.stopped.takes; few = s.stopped.few; lines = lines; shown = s.shown; kinds_are = s.kinds_are; replayed = s.stopped.replayed; reports = tt; boxes = tt }
 losing-played HistoryFull g limit kinds lines h held left rest loss s = absurd loss
 losing-played WriteFault g limit kinds lines h held left rest loss s = absurd loss
 

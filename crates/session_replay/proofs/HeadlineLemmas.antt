@@ -1,11 +1,13 @@
 -- From what was played and how all parted to the statement for many clients.
 use Rattle.std.proofs.Common.{◌≡◌, ℕ, ◌<◌, ◌≤◌, inl, inr, Bool, true, false, List, [], ◌∷◌, ◌++◌, length, take, map, Ok, refl, sym, ap, ◌∙◌, subst, arith, append-nil}
-use Rattle.std.specs.Prelude.{get_or}
+use Rattle.std.specs.Prelude.{get_or, Some}
 use Rattle.std.specs.Io.KnownBytes.{Consumes}
 use Rattle.std.proofs.lemmas.List.{length-map}
 use Rattle.std.proofs.lemmas.List.Folds.{list_any-append}
 use Rattle.kak_ports.specs.Ports.{Inlet}
-use Rattle.ui_board.specs.Told.{Kind, Silent, Shown, untold, json_lines, report_of}
+use Rattle.ui_board.specs.declared.ui.Kind.{Kind}
+use Rattle.ui_board.specs.declared.ui.Kind.TheVariants.{Silent}
+use Rattle.ui_board.specs.Told.{Shown, untold, json_lines, report_of}
 use Rattle.line_reading.specs.declared.limits.TheConstants.{MAX_INPUT}
 use Rattle.session_turns.specs.Histories.{own}
 use Rattle.session_turns.specs.Growth.{How}
@@ -82,6 +84,7 @@ pub record Concludes (g : Gives) (kinds : List Kind) (hows : ℕ → How) (lines
   pub ended : (who : ℕ) → who < length shown → StandsAt (ends_as (hows who)) g who h (lines_for (length shown) who lines) (json_lines (get_or shown who (untold Silent)).told)
   pub strangers : (who : ℕ) → length shown ≤ who → own (rules g) who h ≡ []
   pub reports : (who : ℕ) → who < length shown → (held who).report ≡ report_of (get_or shown who (untold Silent))
+  pub boxes : (who : ℕ) → who < length shown → (held who).box ≡ Some (get_or shown who (untold Silent))
 
 pub conclude : (g : Gives) (kinds : List Kind) (hows : ℕ → How) (lines : List (List ℕ)) (h : List Entry) (held : ℕ → HeldClient) → ((who : ℕ) → who < length kinds → IsEnding (hows who)) → AreParting g kinds hows (length kinds) lines h held → Concludes g kinds hows lines h held
 conclude g kinds hows lines h held ending m =
@@ -95,6 +98,7 @@ conclude g kinds hows lines h held ending m =
           subst (λ n. StandsAt (ends_as (hows who)) g who h (lines_for n who lines) (json_lines (get_or s.shown who (untold Silent)).told)) (sym count) (s.each who (subst (λ n. who < n) count inside)).0;
       strangers = λ who past. m.strangers who (subst (λ n. n ≤ who) count past);
       reports = λ who inside. (s.each who (subst (λ n. who < n) count inside)).1;
+      boxes = λ who inside. (s.each who (subst (λ n. who < n) count inside)).2;
     }
 
 -- all clients ended by a line or at the end

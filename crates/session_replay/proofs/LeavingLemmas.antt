@@ -3,7 +3,9 @@ use Rattle.std.proofs.Common.{◌≡◌, ◌≢◌, ℕ, ◌+◌, ◌<◌, ◌==
 use Rattle.std.specs.Prelude.{nat_lt, get_or, Some}
 use Rattle.std.specs.List.{list_any}
 use Rattle.std.proofs.lemmas.Bool.{eq-eqb, ne_eqb, lt-ltb, ltb-true}
-use Rattle.ui_board.specs.Told.{Kind, Silent, Shown, json_lines}
+use Rattle.ui_board.specs.declared.ui.Kind.{Kind}
+use Rattle.ui_board.specs.declared.ui.Kind.TheVariants.{Silent}
+use Rattle.ui_board.specs.Told.{Shown, json_lines}
 use Rattle.session_turns.specs.Histories.{own, answers}
 use Rattle.session_turns.specs.Growth.{How}
 use Rattle.session_turns.proofs.HistoryLemmas.{adds-answers, adds-own_events, leave-answers, leave-own}

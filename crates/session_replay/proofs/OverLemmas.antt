@@ -4,7 +4,8 @@ use Rattle.std.specs.Prelude.{if◌then◌else◌}
 use Rattle.std.specs.List.{list_any}
 use Rattle.std.proofs.lemmas.Bool.{cases_lt, eqb-true}
 use Rattle.std.proofs.lemmas.List.Folds.{list_any-append}
-use Rattle.ui_board.specs.Told.{Kind, json_lines}
+use Rattle.ui_board.specs.declared.ui.Kind.{Kind}
+use Rattle.ui_board.specs.Told.{json_lines}
 use Rattle.session_turns.specs.Histories.{own, events_of}
 use Rattle.session_turns.specs.Growth.{How}
 use Rattle.session_events.specs.declared.event.Event.{Event}

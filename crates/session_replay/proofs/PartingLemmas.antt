@@ -1,8 +1,11 @@
 -- How clients leave at the end of a replay, and what stands for each then.
 use Rattle.std.proofs.Common.{◌≡◌, ◌≢◌, ℕ, ◌+◌, ◌<◌, ◌≤◌, ◌==◌, ◌⊎◌, inl, inr, Bool, true, false, List, [], ◌∷◌, ◌++◌, length, refl, sym, ap, ◌∙◌, subst, arith}
-use Rattle.std.specs.Prelude.{if◌then◌else◌, get_or}
+use Rattle.std.specs.Prelude.{if◌then◌else◌, get_or, Some}
 use Rattle.std.proofs.lemmas.Bool.{cases_lt, eqb-true, eqb-false, eq-eqb, ne_eqb}
-use Rattle.ui_board.specs.Told.{Kind, Json, Silent, Shown, json_lines, report_of}
+use Rattle.ui_board.specs.declared.ui.Kind.{Kind}
+use Rattle.ui_board.specs.declared.ui.Kind.TheVariants.{Json, Silent, Screen}
+use Rattle.ui_board.specs.Told.{Shown, json_lines, screen_text, report_of}
+use Rattle.ui_board.proofs.ToldLemmas.{none-told}
 use Rattle.session_turns.specs.Histories.{own}
 use Rattle.session_turns.specs.Turns.{turns_of}
 use Rattle.session_turns.specs.Growth.{How, Whole, Over, Short, Unsent, Lost}
@@ -162,6 +165,7 @@ nothing-told shown e = by shown.kind
     by : (kind : Kind) → report_of (record { kind = kind; told = shown.told }) ≡ []
     by Json = e
     by Silent = refl
+    by Screen = ap screen_text (none-told shown.told e)
 
 pub last-report : (g : Gives) (kind : Kind) (how : How) (k : ℕ) (h : List Entry) (lines : List (List ℕ)) (held : HeldClient) → held.place ≢ place.Here → (c : IsParting g kind how k h lines held) → held.report ≡ report_of c.shown
 last-report g kind how k h lines held away c = by held.place away c.keeps c.stands
@@ -170,6 +174,15 @@ last-report g kind how k h lines held away c = by held.place away c.keeps c.stan
     by place.Away away keeps stands = keeps.1 ∙ sym (nothing-told c.shown stands.1)
     by place.Here away keeps stands = absurd (away refl)
     by place.Gone away keeps stands = keeps.1
+
+-- and its box is there
+pub last-box : (g : Gives) (kind : Kind) (how : How) (k : ℕ) (h : List Entry) (lines : List (List ℕ)) (held : HeldClient) → (c : IsParting g kind how k h lines held) → held.box ≡ Some c.shown
+last-box g kind how k h lines held c = by held.place c.keeps
+  where
+    by : (p : ClientPlace) → Keeps p held c.shown → held.box ≡ Some c.shown
+    by place.Away keeps = keeps.0
+    by place.Here keeps = keeps.0
+    by place.Gone keeps = keeps.0
 
 -- behind lines that were played, and one whose event was refused, each client has one of these ways
 pub how-ends : (p : ClientPlace) → IsEnding (how_at p)

@@ -3,7 +3,9 @@ use Rattle.std.proofs.Common.{◌≡◌, ◌≢◌, ℕ, ◌<◌, ◌⊎◌, inl
 use Rattle.std.specs.Prelude.{get_or, Some, None}
 use Rattle.std.specs.declared.option.Option.{Option}
 use Rattle.kak_ports.specs.Ports.{Inlet, Rose}
-use Rattle.ui_board.specs.Told.{Kind, Silent, json_lines}
+use Rattle.ui_board.specs.declared.ui.Kind.{Kind}
+use Rattle.ui_board.specs.declared.ui.Kind.TheVariants.{Silent}
+use Rattle.ui_board.specs.Told.{json_lines}
 use Rattle.line_reading.specs.declared.reader.NextLine.TheVariants as next
 use Rattle.line_reading.specs.Reading.{Reading, ReadsCounted}
 use Rattle.session_turns.specs.Growth.{Begins, Over}

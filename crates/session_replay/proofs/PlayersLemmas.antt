@@ -3,8 +3,10 @@ use Rattle.std.proofs.Common.{◌≡◌, ◌≢◌, ℕ, zero, suc, ◌<◌, inl
 use Rattle.std.specs.Prelude.{◌⊎◌, OnOk, drop, take, get_or, map, set, Option, Some, None, option_map, is_none}
 use Rattle.std.specs.declared.result.Result.{Result}
 use Rattle.std.proofs.lemmas.List.{map-append, map-set, get_or-set_same, get_or-set_other, get_or-map, length-map}
-use Rattle.ui_board.specs.Told.{Kind, Silent, Shown, json_lines}
-use Rattle.ui_board.specs.Boards.{seat_at, shown_at, OthersStay, left_at, report_at}
+use Rattle.ui_board.specs.declared.ui.Kind.{Kind}
+use Rattle.ui_board.specs.declared.ui.Kind.TheVariants.{Silent}
+use Rattle.ui_board.specs.Told.{Shown, json_lines}
+use Rattle.ui_board.specs.Boards.{seat_at, shown_at, OthersStay, report_at}
 use Rattle.session_turns.specs.Histories.{own}
 use Rattle.session_turns.specs.Turns.{later, phases, turns_of}
 use Rattle.session_turns.specs.Growth.{How, Whole, Over, Lost, Fits}
@@ -46,11 +48,6 @@ box-there shown (Some box) there = refl
 pub seat-others : {B : Type 0} (n other : ℕ) (old new : List (Option B)) → other ≢ n → OthersStay n old new → seat_at other new ≡ seat_at other old
 seat-others n other old new differs stay = ap (λ q. seat_at other q) stay ∙ get_or-set_other old n other (seat_at n new) None differs
 
-pub seat-left : {B : Type 0} (n : ℕ) (seats : List (Option B)) → seat_at n (left_at n seats) ≡ None
-seat-left n [] = refl
-seat-left zero (seat ∷ seats) = refl
-seat-left (suc n) (seat ∷ seats) = seat-left n seats
-
 -- nothing is held for another client but what was held
 pub held-others : {B : Type 0} (shown : B → Shown) (old new : List (Option B)) (clients : List ReplayClient) (who : ℕ) (client : ReplayClient) → ((other : ℕ) → other ≢ who → seat_at other new ≡ seat_at other old)
     → OthersAreHeld who (held_of shown old clients) (held_of shown new (set clients who client))
@@ -74,12 +71,9 @@ pub report-set : (clients : List ReplayClient) (who : ℕ) (client : ReplayClien
 report-set clients who client inside = ap (λ q. get_or q who []) (map-set (λ c. c.report.items) clients who client) ∙ get_or-set_same (reports clients) who client.report.items [] (omega (arith, inside, length-map clients (λ c. c.report.items)))
 
 -- a client is let off
-pub held-off : {B : Type 0} (shown : B → Shown) (old new : List (Option B)) (clients : List ReplayClient) (who : ℕ) (client : ReplayClient) → who < length clients → new ≡ left_at who old → client.place ≡ place.Gone
-    → client.report.items ≡ report_at (shown_at shown who old) → held_of shown new (set clients who client) who ≡ let_off (shown_at shown who old)
-held-off shown old new clients who client inside left gone report = same-held _ _
-    (place-set clients who client inside ∙ gone)
-    (ap (option_map shown) (ap (seat_at who) left ∙ seat-left who old))
-    (report-set clients who client inside ∙ report)
+pub held-off : {B : Type 0} (shown : B → Shown) (seats : List (Option B)) (clients : List ReplayClient) (who : ℕ) (client : ReplayClient) → who < length clients → client.place ≡ place.Gone
+    → client.report.items ≡ report_at (shown_at shown who seats) → held_of shown seats (set clients who client) who ≡ let_off (shown_at shown who seats)
+held-off shown seats clients who client inside gone report = same-held _ _ (place-set clients who client inside ∙ gone) refl (report-set clients who client inside ∙ report)
 
 -- where a client is that was read
 pub place-at : (clients : List ReplayClient) (who : ℕ) (client : ReplayClient) → who < length clients → client ≡ get_or clients who client → get_or (places clients) who place.Away ≡ client.place
@@ -197,10 +191,6 @@ gone-client g kind who h lines line held at c = record {
   stands = subst (λ q. ClientStands g q who h (lines ++ line ∷ []) (json_lines c.shown.told)) (sym at)
       (stands-gone g who h lines line (json_lines c.shown.told) (subst (λ q. ClientStands g q who h lines (json_lines c.shown.told)) at c.stands));
 }
-
--- where one seat was left, the others are as they were
-pub left-apart : {B : Type 0} (n : ℕ) (old new : List (Option B)) → new ≡ left_at n old → (other : ℕ) → other ≢ n → seat_at other new ≡ seat_at other old
-left-apart n old new left other differs = ap (λ q. seat_at other q) left ∙ get_or-set_other old n other None None differs
 
 -- what the answer of a playing says
 pub over-told : (g : Gives) (leaving : Bool) (who : ℕ) (h : List Entry) (lines : List (List ℕ)) (told : List ℕ) → leaving ≡ true → GotTo g (how_of (Ok leaving)) who h lines told → GotTo g Over who h lines told

@@ -5,7 +5,8 @@ use Rattle.std.specs.List.{list_all, list_any}
 use Rattle.std.proofs.lemmas.Bool.{cases_lt, lt-ltb, ltb-true, eq-eqb, eqb-true, eqb-false}
 use Rattle.std.proofs.lemmas.List.{take-append-le}
 use Rattle.std.proofs.Math.Seq.{take-append_seam}
-use Rattle.ui_board.specs.Told.{Kind, Shown, json_lines}
+use Rattle.ui_board.specs.declared.ui.Kind.{Kind}
+use Rattle.ui_board.specs.Told.{Shown, json_lines}
 use Rattle.session_turns.specs.Histories.{own}
 use Rattle.session_turns.proofs.HistoryLemmas.{own-append}
 use Rattle.session_events.specs.declared.event.Event.{Event}

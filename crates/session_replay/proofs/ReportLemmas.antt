@@ -1,8 +1,10 @@
 -- What the boxes of a replay have shown, and their reports, when all clients have parted.
 use Rattle.std.proofs.Common.{◌≡◌, ℕ, zero, suc, ◌<◌, ◌⊎◌, inl, inr, List, [], ◌∷◌, ◌++◌, length, map, refl, ap, ◌∙◌, arith}
-use Rattle.std.specs.Prelude.{get_or}
+use Rattle.std.specs.Prelude.{get_or, Some}
 use Rattle.std.specs.List.{flat_map}
-use Rattle.ui_board.specs.Told.{Kind, Silent, Shown, untold, json_lines, report_of}
+use Rattle.ui_board.specs.declared.ui.Kind.{Kind}
+use Rattle.ui_board.specs.declared.ui.Kind.TheVariants.{Silent}
+use Rattle.ui_board.specs.Told.{Shown, untold, json_lines, report_of}
 use Rattle.session_turns.specs.Growth.{How}
 use Rattle.session_turns.specs.Headline.{Left, Closed}
 use Rattle.session_events.specs.declared.event.Entry.{Entry}
@@ -13,7 +15,7 @@ use Rattle.session_replay.specs.Written.{lines_for}
 use Rattle.session_replay.specs.Clients.{HeldClient}
 use Rattle.session_replay.specs.Replays.{StandsAt}
 use Rattle.session_replay.specs.Partings.{ends_as, how_at, AreParting}
-use Rattle.session_replay.proofs.PartingLemmas.{last-ended, last-report}
+use Rattle.session_replay.proofs.PartingLemmas.{last-ended, last-report, last-box}
 use Rattle.session_replay.specs.Phases.{IsEnding}
 
 -- what boxes of these kinds have shown, of which something is known for each
@@ -44,9 +46,9 @@ reports-are (box ∷ shown) [] count each = absurd (omega (arith, count))
 reports-are (box ∷ shown) (report ∷ reports) count each =
     ap (λ q. q ++ flat_map (λ r. r) reports) (each 0 (omega arith)) ∙ ap (λ q. report_of box ++ q) (reports-are shown reports (omega (arith, count)) (λ who inside. each (suc who) (omega (arith, inside))))
 
--- what is known of a client when all have parted: how it ended, and that its report is held
+-- what is known of a client when all have parted: how it ended, and that its report is held, and its box
 abbrev pub Parted : (g : Gives) (count : ℕ) (hows : ℕ → How) (lines : List (List ℕ)) (h : List Entry) (held : ℕ → HeldClient) → ℕ → Shown → Type 0
-Parted g count hows lines h held who box = StandsAt (ends_as (hows who)) g who h (lines_for count who lines) (json_lines box.told) × ((held who).report ≡ report_of box)
+Parted g count hows lines h held who box = StandsAt (ends_as (hows who)) g who h (lines_for count who lines) (json_lines box.told) × ((held who).report ≡ report_of box) × ((held who).box ≡ Some box)
 
 pub all-parted : (g : Gives) (kinds : List Kind) (hows : ℕ → How) (lines : List (List ℕ)) (h : List Entry) (held : ℕ → HeldClient) → ((who : ℕ) → who < length kinds → IsEnding (hows who)) → AreParting g kinds hows (length kinds) lines h held → HasShown kinds (Parted g (length kinds) hows lines h held)
 all-parted g kinds hows lines h held ending m = all-shown kinds (Parted g (length kinds) hows lines h held) (λ who inside.
@@ -56,6 +58,7 @@ all-parted g kinds hows lines h held ending m = all-shown kinds (Parted g (lengt
       (
         last-ended g (hows who) (held who).place who h (lines_for (length kinds) who lines) (json_lines c.shown.told) (ending who inside) (m.parted who inside) c.stands,
         last-report g (get_or kinds who Silent) (hows who) who h (lines_for (length kinds) who lines) (held who) (m.parted who inside) c,
+        last-box g (get_or kinds who Silent) (hows who) who h (lines_for (length kinds) who lines) (held who) c,
       ),
     ))
 

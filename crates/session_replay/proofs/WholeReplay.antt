@@ -1,8 +1,10 @@
 -- The whole replay of the examples is one.
 use Rattle.std.proofs.Common.{◌≡◌, ℕ, zero, suc, ◌<◌, ◌≤◌, inl, inr, true, false, List, [], ◌∷◌, refl, arith}
-use Rattle.std.specs.Prelude.{Ok, take, codes}
+use Rattle.std.specs.Prelude.{Ok, Some, get_or, take, codes}
 use Rattle.std.proofs.lemmas.Bool.{ne_eqb}
-use Rattle.ui_board.specs.Told.{Json, Silent, Shown, untold}
+use Rattle.ui_board.specs.declared.ui.Kind.TheVariants.{Json, Silent}
+use Rattle.ui_board.specs.Told.{Shown, untold}
+use Rattle.ui_board.specs.Boards.{seat_at}
 use Rattle.session_turns.specs.Histories.{own, answers}
 use Rattle.session_turns.specs.Growth.{Whole, Over}
 use Rattle.session_events.specs.declared.event.Event.TheVariants.{Join, Refresh, Leave}
@@ -127,6 +129,7 @@ whole-replay = record {
   shown = boxes;
   kinds_are = refl;
   ended = Ok Ended;
+  boxes_are = two (λ who. seat_at who (Some (untold Json) ∷ Some (untold Silent) ∷ []) ≡ Some (get_or boxes who (untold Silent))) refl refl;
   replayed = record {
     first = inr (refl, ([], refl));
     order = in-order;

@@ -1,7 +1,8 @@
 -- What the boxes of a replay were told.
 use Rattle.std.specs.Prelude.{ℕ, List, [], Option, Some, None, option_map}
 use Rattle.kak_ports.specs.Ports.{Outlet}
-use Rattle.ui_board.specs.Told.{Kind, Shown, json_lines}
+use Rattle.ui_board.specs.declared.ui.Kind.{Kind}
+use Rattle.ui_board.specs.Told.{Shown, json_lines}
 
 -- the JSON lines of what a box was told, where there is a box; telling it never fails but for want of memory
 abbrev pub box_outlet : Option Shown → Outlet

@@ -1,6 +1,8 @@
 -- Where the clients of a replay stand behind the lines that were played.
-use Rattle.std.specs.Prelude.{◌≡◌, ◌≢◌, ℕ, ◌<◌, ◌≤◌, true, List, [], ◌∷◌, ◌++◌, length, get_or, Option, Some, None}
-use Rattle.ui_board.specs.Told.{Kind, Silent, Shown, json_lines, report_of}
+use Rattle.std.specs.Prelude.{◌≡◌, ◌≢◌, ℕ, ◌<◌, ◌≤◌, true, List, [], ◌∷◌, ◌++◌, length, get_or, Option, Some}
+use Rattle.ui_board.specs.declared.ui.Kind.{Kind}
+use Rattle.ui_board.specs.declared.ui.Kind.TheVariants.{Silent}
+use Rattle.ui_board.specs.Told.{Shown, json_lines, report_of}
 use Rattle.session_turns.specs.Histories.{Answer, own, answers, events_of}
 use Rattle.session_turns.specs.Turns.{phases, turns_of}
 use Rattle.session_turns.specs.Growth.{How, Whole, Over, Fits, Adds}
@@ -35,15 +37,15 @@ ClientStands gives place.Here who history lines told =
     (is_here (presence_from who Away history) ≡ true) × (0 < length lines) × GotTo gives Whole who history lines told
 ClientStands gives place.Gone who history lines told = (0 < length lines) × LeftAt gives Over who history lines told
 
--- What is held for a client: where it is, its box, and the report of its box when that is gone.
+-- What is held for a client: where it is, its box, and the report of its box once it has gone.
 pub record HeldClient : Type 0 where
   pub place : ClientPlace
   pub box : Option Shown
   pub report : List ℕ
 
--- what was shown is in the client's box, and nothing is reported yet; or it was when the client left, and is reported
+-- what was shown is in the client's box, and nothing is reported yet; or the client has left, and it is reported
 abbrev pub Keeps : ClientPlace → HeldClient → Shown → Type 0
-Keeps place.Gone held shown = (held.box ≡ None) × (held.report ≡ report_of shown)
+Keeps place.Gone held shown = (held.box ≡ Some shown) × (held.report ≡ report_of shown)
 Keeps _ held shown = (held.box ≡ Some shown) × (held.report ≡ [])
 
 -- A client of that kind stands there, and its box was told what it was told.

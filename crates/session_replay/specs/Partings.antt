@@ -1,6 +1,8 @@
 -- How the clients of a replay leave at its end, one after another.
 use Rattle.std.specs.Prelude.{◌≡◌, ◌≢◌, ℕ, ◌<◌, ◌≤◌, ◌⊎◌, true, List, [], length, get_or}
-use Rattle.ui_board.specs.Told.{Kind, Silent, Shown, json_lines}
+use Rattle.ui_board.specs.declared.ui.Kind.{Kind}
+use Rattle.ui_board.specs.declared.ui.Kind.TheVariants.{Silent}
+use Rattle.ui_board.specs.Told.{Shown, json_lines}
 use Rattle.session_turns.specs.Histories.{own}
 use Rattle.session_turns.specs.Growth.{How, Whole, Over, Short, Unsent, Lost}
 use Rattle.session_turns.specs.Headline.{End, Left, Closed, Refused, Unwritten, Lost as WasLost}

@@ -4,7 +4,9 @@ use Rattle.std.specs.declared.result.Result.{Result}
 use Rattle.std.specs.List.{list_all}
 use Rattle.std.specs.Io.KnownBytes.{Consumes}
 use Rattle.kak_ports.specs.Ports.{Inlet}
-use Rattle.ui_board.specs.Told.{Kind, Silent, Shown, untold, json_lines, report_of}
+use Rattle.ui_board.specs.declared.ui.Kind.{Kind}
+use Rattle.ui_board.specs.declared.ui.Kind.TheVariants.{Silent}
+use Rattle.ui_board.specs.Told.{Shown, untold, json_lines, report_of}
 use Rattle.line_reading.specs.declared.limits.TheConstants.{MAX_INPUT}
 use Rattle.line_reading.specs.Reading.{IsAll}
 use Rattle.session_turns.specs.Lines.{whole_lines, lines_of_input}
@@ -25,7 +27,7 @@ use Rattle.session_replay.specs.Written.{Bad, written, lines_for}
 use Rattle.session_replay.specs.Clients.{HeldClient, IsMoment}
 use Rattle.session_replay.specs.Players.{IsHeldStill, IsPlayCutOff}
 use Rattle.session_replay.specs.Partings.{how_at, AreParting}
-use Rattle.session_replay.specs.Replays.{Replay, StandsAt, has_bad, is_over, leave_in_order, ReachesLines, AreFirst, IsNeededFor, IsReplayed}
+use Rattle.session_replay.specs.Replays.{Replay, StandsAt, HaveShown, has_bad, is_over, leave_in_order, ReachesLines, AreFirst, IsNeededFor, IsReplayed}
 
 -- So many clients are ready: no line was played.
 pub record AreReady (g : Gives) (count : ℕ) (h : List Entry) (held : ℕ → HeldClient) : Type 0 where
@@ -191,7 +193,7 @@ HoldReports (Err (Broken at)) shown held = ⊤
 HoldReports (Err NoMemory) shown held = ⊤
 HoldReports _ shown held = (who : ℕ) → who < length shown → (held who).report ≡ report_of (get_or shown who (untold Silent))
 
--- Lines of an input were replayed for clients with boxes of these kinds, whose reports are held.
+-- Lines of an input were replayed for clients with boxes of these kinds, which are held, as their reports are.
 pub record WasPlayed (g : Gives) (limit : ℕ) (kinds : List Kind) (ended : Result ReplayEnd Stop) (h : List Entry) (held : ℕ → HeldClient) (left rest : Inlet) : Type 0 where
   pub bytes : List ℕ
   pub takes : Consumes left.left rest.left bytes
@@ -201,6 +203,7 @@ pub record WasPlayed (g : Gives) (limit : ℕ) (kinds : List Kind) (ended : Resu
   pub kinds_are : map (λ box. box.kind) shown ≡ kinds
   pub replayed : IsReplayed (replay_of g limit lines h shown) ended left bytes
   pub reports : HoldReports ended shown held
+  pub boxes : HaveShown ended (λ who. (held who).box) shown
 
 -- something was lost, or nothing was
 abbrev pub IsLossOf : Result ReplayEnd Stop → Type 0

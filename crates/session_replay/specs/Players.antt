@@ -1,7 +1,9 @@
 -- What is held for each client of a replay, and what becomes of it where a written line is played.
 use Rattle.std.specs.Prelude.{◌≡◌, ◌≢◌, ℕ, ◌<◌, ◌⊎◌, Bool, true, false, List, [], ◌∷◌, ◌++◌, length, map, flat_map, get_or, Option, Some, None, Ok, Err}
 use Rattle.std.specs.declared.result.Result.{Result}
-use Rattle.ui_board.specs.Told.{Told, Kind, Silent, Shown, json_lines}
+use Rattle.ui_board.specs.declared.ui.Kind.{Kind}
+use Rattle.ui_board.specs.declared.ui.Kind.TheVariants.{Silent}
+use Rattle.ui_board.specs.Told.{Told, Shown, json_lines}
 use Rattle.ui_board.specs.Boards.{shown_at, report_at}
 use Rattle.session_turns.specs.Histories.{own}
 use Rattle.session_turns.specs.Growth.{Begins, How, Over, Lost}
@@ -39,9 +41,9 @@ IsHeldStill old new = (who : ℕ) → new who ≡ old who
 abbrev pub OthersAreHeld : ℕ → (ℕ → HeldClient) → (ℕ → HeldClient) → Type 0
 OthersAreHeld who old new = (other : ℕ) → other ≢ who → new other ≡ old other
 
--- what is held for a client that was let go: the report of the box that it had
+-- what is held for a client that was let go: its box, and the report of it
 abbrev pub let_off : Option Shown → HeldClient
-let_off box = record { place = place.Gone; box = None; report = report_at box }
+let_off box = record { place = place.Gone; box = box; report = report_at box }
 
 -- a client is there by the history: it hasn't come, or is here
 abbrev pub IsAt : Gives → ClientPlace → ℕ → List Entry → Type 0

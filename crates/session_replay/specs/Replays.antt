@@ -1,11 +1,13 @@
 -- What a replay is: which lines are read of its input, what of the history each client's lines make, in which order, what
 -- each client is sent, and what is written.
-use Rattle.std.specs.Prelude.{◌≡◌, ◌≢◌, ℕ, ◌+◌, ◌<◌, ◌≤◌, ◌⊎◌, Bool, true, false, not, ◌&&◌, ◌||◌, nat_lt, if◌then◌else◌, List, [], ◌∷◌, ◌++◌, length, take, map, flat_map, get_or, Ok, Err}
+use Rattle.std.specs.Prelude.{◌≡◌, ◌≢◌, ℕ, ◌+◌, ◌<◌, ◌≤◌, ◌⊎◌, Bool, true, false, not, ◌&&◌, ◌||◌, nat_lt, if◌then◌else◌, List, [], ◌∷◌, ◌++◌, length, take, map, flat_map, get_or, Option, Some, ⊤, Ok, Err}
 use Rattle.std.specs.declared.result.Result.{Result}
 use Rattle.std.specs.List.{list_all, list_any}
 use Rattle.std.specs.Io.KnownBytes.{Appends, Consumes}
 use Rattle.kak_ports.specs.Ports.{Inlet, Outlet, AppendsFront, Rose}
-use Rattle.ui_board.specs.Told.{Kind, Silent, Shown, untold, json_lines, report_of}
+use Rattle.ui_board.specs.declared.ui.Kind.{Kind}
+use Rattle.ui_board.specs.declared.ui.Kind.TheVariants.{Silent}
+use Rattle.ui_board.specs.Told.{Shown, untold, json_lines, report_of}
 use Rattle.line_reading.specs.declared.limits.TheConstants.{MAX_INPUT, MAX_PIECE}
 use Rattle.line_reading.specs.Reading.{IsAll}
 use Rattle.session_turns.specs.Lines.{whole_lines, lines_of_input}
@@ -183,9 +185,16 @@ Reports (Err (Broken at)) result before now reports = (result ≡ Err (Broken at
 Reports (Err NoMemory) result before now reports = (result ≡ Err NoMemory) × (now ≡ before)
 Reports ended result before now reports = WritesReports ended result before now reports
 
+-- by the numbers of their clients, the boxes have shown this, unless something was lost
+abbrev pub HaveShown : Result ReplayEnd Stop → (ℕ → Option Shown) → List Shown → Type 0
+HaveShown (Err (Broken at)) boxes shown = ⊤
+HaveShown (Err NoMemory) boxes shown = ⊤
+HaveShown _ boxes shown = (who : ℕ) → who < length shown → boxes who ≡ Some (get_or shown who (untold Silent))
+
 -- The headline for many clients: lines of the input were replayed for clients with boxes of these kinds, and the reports
--- of all boxes are written, one after another, in the order of the clients' numbers.
-pub record WasReplayed (gives : Gives) (limit : ℕ) (kinds : List Kind) (history : List Entry) (left rest : Inlet) (before now : Outlet) (result : Result ReplayEnd Stop) : Type 0 where
+-- of all boxes are written, one after another, in the order of the clients' numbers. What the clients were sent is what
+-- their boxes have shown at the end.
+pub record WasReplayed (gives : Gives) (limit : ℕ) (kinds : List Kind) (boxes : ℕ → Option Shown) (history : List Entry) (left rest : Inlet) (before now : Outlet) (result : Result ReplayEnd Stop) : Type 0 where
   pub bytes : List ℕ
   pub takes : Consumes left.left rest.left bytes
   pub few : length bytes ≤ MAX_INPUT
@@ -193,6 +202,7 @@ pub record WasReplayed (gives : Gives) (limit : ℕ) (kinds : List Kind) (histor
   pub shown : List Shown
   pub kinds_are : map (λ box. box.kind) shown ≡ kinds
   pub ended : Result ReplayEnd Stop
+  pub boxes_are : HaveShown ended boxes shown
   pub replayed : IsReplayed (record { gives = gives; limit = limit; lines = lines; history = history; shown = shown }) ended left bytes
   pub reports : Reports ended result before now (flat_map report_of shown)
 

@@ -1,7 +1,9 @@
 -- A whole replay of two clients: the first one comes, the second one comes and is let go, and the first one leaves at the
 -- end.
 use Rattle.std.specs.Prelude.{ℕ, ◌==◌, true, List, [], ◌∷◌, ◌++◌, codes, Ok, Some, None}
-use Rattle.ui_board.specs.Told.{Json, Silent}
+use Rattle.ui_board.specs.declared.ui.Kind.TheVariants.{Json, Silent}
+use Rattle.ui_board.specs.Told.{untold}
+use Rattle.ui_board.specs.Boards.{seat_at}
 use Rattle.session_events.specs.declared.event.Event.TheVariants.{Join, Refresh, Leave}
 use Rattle.session_events.specs.declared.event.Entry.{Entry}
 use Rattle.session_events.specs.Entries.{entry_of}
@@ -29,6 +31,6 @@ both_went = one_went_first ++ entry_of 0 Leave ∷ []
 
 -- this is a replay of those bytes, of which one take gives them all
 abbrev pub IsWholeReplay : Type 0
-IsWholeReplay = WasReplayed lets_go 100 (Json ∷ Silent ∷ []) both_went
+IsWholeReplay = WasReplayed lets_go 100 (Json ∷ Silent ∷ []) (λ who. seat_at who (Some (untold Json) ∷ Some (untold Silent) ∷ [])) both_went
     (record { left = Some typed_lines; most = 4096; faults = 0 }) (record { left = Some []; most = 4096; faults = 0 })
     (record { told = Some []; faults = 0 }) (record { told = Some []; faults = 0 }) (Ok Ended)

@@ -1,7 +1,7 @@
 //! The end of a replay, at which its clients leave.
 
 ghost use Rattle.std.specs.Prelude.{◌≡◌, ◌≢◌, ◌<◌, ◌^◌, ℕ, true, false, List, length};
-ghost use Rattle.ui_board.specs.Told.{Kind};
+ghost use Rattle.ui_board.specs.declared.ui.Kind.{Kind};
 ghost use Rattle.session_turns.specs.Growth.{Begins, How};
 ghost use Rattle.session_events.specs.declared.event.Entry.{Entry};
 ghost use Rattle.session_events.specs.Seats.{IsLegalSeat};

@@ -1,7 +1,7 @@
 //! The clients of a replay, by their numbers.
 
 ghost use Rattle.std.specs.Prelude.{◌≡◌, ◌≢◌, ◌⊎◌, ◌<◌, ◌^◌, ℕ, List, [], ◌∷◌, ◌++◌, length, map, Option, Some, None, true, false, is_none, IfOk, IfErr, OnOk, OnErr, Err};
-ghost use Rattle.ui_board.specs.Told.{Kind};
+ghost use Rattle.ui_board.specs.declared.ui.Kind.{Kind};
 ghost use Rattle.session_turns.specs.Histories.{own};
 ghost use Rattle.session_turns.specs.Growth.{How, Whole, Lost};
 ghost use Rattle.session_events.specs.Meaning.{rules};
@@ -111,7 +111,7 @@ impl<S: Seats> Players<S> {
         ensures off { OnOk result (held_of ⟦<Box<dyn Ui> as Ui>⟧.shown self.new.board.seats.items self.new.clients.items who ≡ let_off (held_of ⟦<Box<dyn Ui> as Ui>⟧.shown self.old.board.seats.items self.old.clients.items who).box) }
         ensures stays { OnErr result (IsHeldStill (held_of ⟦<Box<dyn Ui> as Ui>⟧.shown self.old.board.seats.items self.old.clients.items) (held_of ⟦<Box<dyn Ui> as Ui>⟧.shown self.new.board.seats.items self.new.clients.items)) }
     {
-        let report = let_go(alloc, &mut self.seats, &mut self.board, who)?;
+        let report = let_go(alloc, &mut self.seats, &self.board, who)?;
         self.clients[who as usize] = ReplayClient {
             place: ClientPlace::Gone,
             report,

@@ -2,7 +2,7 @@
 
 ghost use Rattle.std.specs.Prelude.{◌≡◌, ◌⊎◌, ℕ, Bool, List, ◌∷◌, ◌++◌, [], OnOk, OnErr, IfErr, IfOk, Err};
 ghost use Rattle.std.specs.declared.option.Option.{Option};
-ghost use Rattle.ui_board.specs.Boards.{shown_at, IsTaken, OthersStay, left_at, report_at};
+ghost use Rattle.ui_board.specs.Boards.{shown_at, IsTaken, OthersStay, report_at};
 ghost use Rattle.session_turns.specs.Histories.{own};
 ghost use Rattle.session_turns.specs.Growth.{How, Whole};
 ghost use Rattle.session_events.specs.declared.event.Entry.{Entry};
@@ -115,17 +115,17 @@ pub fn play<S: Seats>(
     Ok(reply.leaving)
 }
 
-/// Lets a client go that is here, takes the report of its box, and drops the box. After want of memory it has gone; where the
-/// session is broken it hasn't. Either way its box is there still.
+/// Lets a client go that is here, and gives the report of its box, which stays at its seat. After want of memory it has gone;
+/// where the session is broken it hasn't.
 pub fn let_go<S: Seats>(
     alloc: Global,
     seats: &mut S,
-    board: &mut Board,
+    board: &Board,
     who: u32,
 ) -> Result<Vec<u8>, Stop>
     requires legal { IsLegalSeat (S.seated seats.old) }
     requires here { IsIn (turned_to who (S.seated seats.old)) }
-    requires taken { IsTaken who board.old.seats.items }
+    requires taken { IsTaken who board.now.seats.items }
     ensures kept { S.kept seats.new ≡ S.kept seats.old }
     ensures whole { StaysWhole result (S.seated seats.old).mark (S.seated seats.new).mark }
     ensures limit { (S.seated seats.new).limit ≡ (S.seated seats.old).limit }
@@ -135,13 +135,10 @@ pub fn let_go<S: Seats>(
     ensures memory { (how : How) → (lines : List (List ℕ)) → (told : List ℕ) → GotTo S.gives how who (S.seated seats.old).seen lines told → IfErr result (λ why. why ≡ NoMemory → LeftAt S.gives how who (S.seated seats.new).seen lines told) }
     ensures broken { (how : How) → (lines : List (List ℕ)) → (told : List ℕ) → GotTo S.gives how who (S.seated seats.old).seen lines told → IfErr result (λ why. IsLoss why (S.seated seats.new) → GotTo S.gives how who (S.seated seats.new).seen lines told) }
     ensures stops { IfErr result (λ why. (why ≡ NoMemory) ⊎ IsLoss why (S.seated seats.new)) }
-    ensures reports { IfOk result (λ report. report.items ≡ report_at (shown_at ⟦<Box<dyn Ui> as Ui>⟧.shown who board.old.seats.items)) }
-    ensures gone { OnOk result (board.new.seats.items ≡ left_at who board.old.seats.items) }
-    ensures stays { OnErr result (board.new.seats.items ≡ board.old.seats.items) }
+    ensures reports { IfOk result (λ report. report.items ≡ report_at (shown_at ⟦<Box<dyn Ui> as Ui>⟧.shown who board.now.seats.items)) }
 {
     seats.turn_to(who);
     leave(alloc, seats)?;
     let report = board.report(alloc, who)?;
-    let _ui = board.unseat(who);
     Ok(report)
 }

@@ -1,7 +1,7 @@
 //! The lines of a replay, read and played one after another.
 
 ghost use Rattle.std.specs.Prelude.{◌≡◌, ◌<◌, ◌^◌, ℕ, List, [], length};
-ghost use Rattle.ui_board.specs.Told.{Kind};
+ghost use Rattle.ui_board.specs.declared.ui.Kind.{Kind};
 ghost use Rattle.session_events.specs.Seats.{IsLegalSeat};
 ghost use Rattle.session_lines.specs.Stops.{Stops, StaysWhole};
 ghost use Rattle.session_replay.specs.Clients.{IsMoment};

@@ -1,7 +1,7 @@
--- What serves a link may cross threads: the tokens of a desk do where its object does, and an engine does where its files and
--- its maker of patterns do. For a world this is found in parts, since a search through all of it at once ends too soon.
+-- What serves a link may cross threads: the tokens of a desk do where its object does, and an engine does where its outside
+-- does. For a world this is found in parts, since a search through all of it at once ends too soon.
 use denote.RattleType.{RattleType}
-use denote.Param.Send.{IsSend, IsSync, sendable, part_keyless}
+use denote.Param.Send.{IsSend, IsSync, sendable, owning_send, part_keyless}
 use denote.Struct.Struct.{Struct}
 use denote.Struct.Owning.{shape}
 use Rattle.std.proofs.Crossing.{frees, crosses as std_crosses}
@@ -14,6 +14,7 @@ use Rattle.atomic_table.specs.contracts.send_lease.SendLease as SendLease
 use Rattle.atomic_table.proofs.Rights.{right_send}
 use Rattle.atomic_table.proofs.Sent.{seat_keyless, owns_keyless, shares_keyless}
 use Rattle.buffer_store.specs.contracts.buffer.Buffer as Store
+use Rattle.kak_engine.specs.contracts.trace.Trace as Trace
 use Rattle.kak_world.specs.contracts.buffer.WorldBuffer as Buffer
 use Rattle.kak_world.specs.contracts.clients.Clients as Clients
 use Rattle.kak_world.specs.contracts.world.World as World
@@ -51,5 +52,9 @@ world_send = search (sendable, std_crosses, buffer_send, clients_send) depth 60 
 pub entry_send : IsSend Entry.the_row
 entry_send = search (sendable, std_crosses) depth 60 fits 20000
 
+-- what contracts alone see of an outside
+pub trace_send : IsSend Trace.the_row
+trace_send = owning_send Trace.the_type tt (λ d. tt) (λ k x w. tt)
+
 -- for the search at a spawner whose threads run such jobs, at a depth of 60 with 20,000 fits
-pub ruleset crosses = (sendable, std_crosses, seat_send, shared_send, shared_sync, lease_send, lease_sync, world_send, entry_send)
+pub ruleset crosses = (sendable, std_crosses, seat_send, shared_send, shared_sync, lease_send, lease_sync, world_send, entry_send, trace_send)

@@ -1,3 +1,4 @@
 pub mod RowLemmas
+pub mod GoneLemmas
 pub mod SessionLemmas
 pub mod Crossing

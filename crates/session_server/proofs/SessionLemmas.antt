@@ -1,25 +1,26 @@
 -- From jobs that were admitted, and what they gave, to the rows of a session.
-use Rattle.std.proofs.Common.{◌≡◌, ◌≢◌, inl, inr, ◌⊎◌, ⊎_elim, ◌≤◌, ◌<◌, ◌+◌, ℕ, suc, Bool, true, false, List, [], ◌∷◌, ◌++◌, length, map, filter, All, Option, Some, None, IfSome, refl, sym, ap, ◌∙◌, subst, arith, append-nil, append_assoc, length-append, if◌then◌else◌, ◌==◌, eq-eqb}
+use Rattle.std.proofs.Common.{◌≡◌, ◌≢◌, ⊎_elim, ◌<◌, ◌+◌, ℕ, suc, Bool, true, false, List, [], ◌∷◌, ◌++◌, length, map, All, Option, Some, None, IfSome, Err, refl, sym, ap, ◌∙◌, subst, arith, append_assoc, length-append, if◌then◌else◌, ◌==◌, eq-eqb}
+use Rattle.std.specs.Prelude.{IsSome}
 use Rattle.std.proofs.lemmas.List.Elements.{All-nil, All-cons, All-head, All-tail}
 use Rattle.client_links.specs.Wires.{Wire, IsFresh}
-use Rattle.client_links.specs.Doors.{counted_on}
+use Rattle.client_links.specs.Doors.{Door, counted_on, led_by, IsNextOf, NoneIsToCome}
 use Rattle.jobs.specs.Meets.{Meet}
 use Rattle.session_desk.specs.Histories.{entries_by as own_entries, StartsWith, GivenBack, HasGiven, HasMet, Met, first_mark}
 use Rattle.session_desk.specs.Tokens.{Home, DeskPlace, IsOf, PassView, KeeperView, Closes}
 use Rattle.session_desk.proofs.HistoryLemmas.{none_between, own_beyond, starts_through}
 use Rattle.session_turns.specs.Histories.{own}
-use Rattle.session_events.specs.declared.event.Event.{Event}
 use Rattle.session_events.specs.declared.event.Entry.{Entry}
+use Rattle.session_events.specs.Legal.{IsLegal}
 use Rattle.session_events.specs.Meaning.{Gives, rules}
 use Rattle.link_lines.specs.declared.ended.Ended.{Ended}
 use Rattle.kak_engine.specs.Steps.{given_by}
 use Rattle.engine_desk.specs.Sharing.{Frame, Shared, frame_of}
 use Rattle.session_server.specs.Rows.{ServedRow, IsLinkReady, ServesLink}
-use Rattle.session_server.proofs.RowLemmas.{row-later}
 use Rattle.session_server.specs.declared.session.Served.{Served}
 use Rattle.session_server.specs.declared.session.Served.TheVariants.{Ended as AllLeft, AcceptFault, SpawnFault, Broken, LinksFull, NoMemory}
-use Rattle.session_server.specs.Sessions.{RowsFrom, SessionStands, SessionCausedBy}
-use Rattle.session_server.specs.Hosting.{HostView, IsHosting, keeper_pass, JobView, Admits, IsAdmitted, Admitted, StopsHostingFor, noted, serving_end, passes_back, KeepsMark}
+use Rattle.session_server.specs.Sessions.{RowsFrom, CameInOrder, SessionStands, SessionCausedBy, NoneWaits}
+use Rattle.session_server.specs.Hosting.{HostView, IsHosting, LooksIn, keeper_pass, JobView, Admits, IsLinkRefused, IsHandedBack, IsAdmitted, Admitted, StopsHostingFor, noted, serving_end, passes_back, KeepsMark}
+use Rattle.session_server.proofs.GoneLemmas.{stays-away}
 
 -- the file that the next client opens: the one that was named, until somebody was let in
 abbrev pub file_left : {J : Type 0} → Option (List ℕ) → List J → Option (List ℕ)
@@ -37,6 +38,57 @@ counted-one count now n e = ap (λ m. counted_on m 1) e ∙ on count n
     on : (count : Option ℕ) (n : ℕ) → counted_on (counted_on count n) 1 ≡ counted_on count (n + 1)
     on None n = refl
     on (Some m) n = ap (λ k. Some k) (omega arith)
+
+-- nothing came yet
+pub led-none : (to_come : Option (List Wire)) → to_come ≡ led_by [] to_come
+led-none None = refl
+led-none (Some links) = refl
+
+-- one more link came
+pub led-one : (links : List Wire) (link : Wire) (before mid now : Option (List Wire)) → before ≡ led_by links mid → IsNextOf link mid now → before ≡ led_by (links ++ link ∷ []) now
+led-one links link before None None e next = e
+led-one links link before (Some left) (Some rest) e next = e ∙ ap (λ ls. Some (links ++ ls)) next ∙ ap (λ ls. Some ls) (sym (append_assoc links (link ∷ []) rest))
+led-one links link before None (Some rest) e next = absurd next
+led-one links link before (Some left) None e next = absurd next
+
+-- and it wasn't let in, or nobody could be made to serve it
+pub refused-order : (host : HostView) (why : Served) (links : List Wire) (link : Wire) (before mid now : Option (List Wire)) → IsLinkRefused host why → before ≡ led_by links mid → IsNextOf link mid now → CameInOrder why links before now
+refused-order host LinksFull links link before mid now h e next = (link, led-one links link before mid now e next)
+refused-order host NoMemory links link before mid now h e next = (link, led-one links link before mid now e next)
+refused-order host AllLeft links link before mid now h e next = absurd h
+refused-order host AcceptFault links link before mid now h e next = absurd h
+refused-order host SpawnFault links link before mid now h e next = absurd h
+refused-order host (Broken at) links link before mid now h e next = absurd h
+
+pub handed-order : (why : Served) (links : List Wire) (link : Wire) (before mid now : Option (List Wire)) → IsHandedBack why → before ≡ led_by links mid → IsNextOf link mid now → CameInOrder why links before now
+handed-order SpawnFault links link before mid now h e next = (link, led-one links link before mid now e next)
+handed-order NoMemory links link before mid now h e next = (link, led-one links link before mid now e next)
+handed-order AllLeft links link before mid now h e next = absurd h
+handed-order AcceptFault links link before mid now h e next = absurd h
+handed-order LinksFull links link before mid now h e next = absurd h
+handed-order (Broken at) links link before mid now h e next = absurd h
+
+-- where a look told that the session is over or broken, none came behind the others, and none waits
+pub idle-order : (why : Served) (seen : List Entry) (mark : Option ℕ) (links : List Wire) (before mid now : Option (List Wire)) → LooksIn (Err why) seen mark → before ≡ led_by links mid → now ≡ mid → CameInOrder why links before now
+idle-order AllLeft seen mark links before mid now l e same = e ∙ ap (λ q. led_by links q) (sym same)
+idle-order (Broken at) seen mark links before mid now l e same = e ∙ ap (λ q. led_by links q) (sym same)
+idle-order AcceptFault seen mark links before mid now l e same = absurd l
+idle-order SpawnFault seen mark links before mid now l e same = absurd l
+idle-order LinksFull seen mark links before mid now l e same = absurd l
+idle-order NoMemory seen mark links before mid now l e same = absurd l
+
+pub idle-waits : (why : Served) (seen : List Entry) (mark : Option ℕ) (first old new : Door) → LooksIn (Err why) seen mark → old.listens ≡ first.listens → (IsSome old.listens → NoneIsToCome old) → new.to_come ≡ old.to_come → IsSome first.listens → NoneWaits why new
+idle-waits AllLeft seen mark first old new l e none same some = subst (λ (q : Option (List Wire)). IfSome q (λ links. links ≡ [])) (sym same) (none (subst (λ (q : Option (List ℕ)). IsSome q) (sym e) some))
+idle-waits (Broken at) seen mark first old new l e none same some = subst (λ (q : Option (List Wire)). IfSome q (λ links. links ≡ [])) (sym same) (none (subst (λ (q : Option (List ℕ)). IsSome q) (sym e) some))
+idle-waits AcceptFault seen mark first old new l e none same some = absurd l
+idle-waits SpawnFault seen mark first old new l e none same some = absurd l
+idle-waits LinksFull seen mark first old new l e none same some = absurd l
+idle-waits NoMemory seen mark first old new l e none same some = absurd l
+
+-- what stands for one more
+pub map-one : {X Y : Type 0} (f : X → Y) (xs : List X) (x : X) → map f (xs ++ x ∷ []) ≡ map f xs ++ f x ∷ []
+map-one f [] x = refl
+map-one f (y ∷ ys) x = ap (λ r. f y ∷ r) (map-one f ys x)
 
 abbrev pub whose : Entry → ℕ
 whose entry = entry.who
@@ -122,10 +174,10 @@ below-last n (x ∷ xs) all none = by (whose x == n) refl none (below-last n xs 
         let low : whose x < n + 1 = All-head (λ e. whose e < n + 1) x xs all in
         All-cons (λ e. whose e < n) x xs (omega arith) (rest g)
 
-module _ {J S : Type 0} (view : J → JobView) (closed : S → Wire) (home : Home Frame) (place : DeskPlace Frame) where
+module _ {J S : Type 0} (view : J → JobView) (came : J → Wire) (closed : S → Wire) (home : Home Frame) (place : DeskPlace Frame) where
   -- what a job gives
   abbrev pub GivesOf : J → Ended × PassView Entry Frame × S → Type 0
-  GivesOf job given = ServesLink (view job).home.frame.limit (view job).file (view job).pass given.0 given.1 (closed given.2)
+  GivesOf job given = ServesLink (view job).home.frame.limit (view job).file (view job).pass given.0 given.1 (came job) (closed given.2)
 
   -- all passes that come back are of the desk
   pub places-back : (who : ℕ) (file : Option (List ℕ)) (jobs : List J) (results : List (Ended × PassView Entry Frame × S)) → Meet GivesOf jobs results → Admitted view home place who file jobs → All (λ r. r.1.place ≡ place) results
@@ -135,19 +187,20 @@ module _ {J S : Type 0} (view : J → JobView) (closed : S → Wire) (home : Hom
   places-back who file (j ∷ jobs) [] met all = absurd met
 
   -- the row of a link, by the closed history
-  row-of : (history : List Entry) (mark : Option ℕ) (who : ℕ) (file : Option (List ℕ)) (job : J) (r : Ended × PassView Entry Frame × S) → GivesOf job r → IsAdmitted home place who file (view job) → HasGiven whose history (noted r) → HasMet mark (noted r) → ServedRow home.frame.limit file who history mark r.0 (closed r.2)
+  row-of : (history : List Entry) (mark : Option ℕ) (who : ℕ) (file : Option (List ℕ)) (job : J) (r : Ended × PassView Entry Frame × S) → GivesOf job r → IsAdmitted home place who file (view job) → HasGiven whose history (noted r) → HasMet mark (noted r)
+      → ServedRow home.frame.limit file who history mark r.0 (came job) (closed r.2)
   row-of history mark who file job r gives one given met =
       let pass = (view job).pass in let rest = given.begins.0 in
       let none : own_entries whose r.1.number rest ≡ [] = none_between whose r.1.number history r.1.seen given.begins given.own_entries in
       let others : own (rules given_by) pass.number rest ≡ [] = foreign given_by pass.number rest (subst (λ n. own_entries whose n rest ≡ []) gives.same.number none) in
-      let later = row-later (view job).home.frame.limit (view job).file pass.number r.1.seen rest r.1.mark mark r.0 (closed r.2) others met gives.row in
-      let by_history = subst (λ (h : List Entry). ServedRow (view job).home.frame.limit (view job).file pass.number h mark r.0 (closed r.2)) (sym given.begins.1) later in
-      let by_number = subst (λ n. ServedRow (view job).home.frame.limit (view job).file n history mark r.0 (closed r.2)) one.number_is by_history in
-      let by_file = subst (λ (f : Option (List ℕ)). ServedRow (view job).home.frame.limit f who history mark r.0 (closed r.2)) one.file_is by_number in
-      subst (λ (h : Home Frame). ServedRow h.frame.limit file who history mark r.0 (closed r.2)) one.home_is by_file
+      let row : ServedRow (view job).home.frame.limit (view job).file pass.number history mark r.0 (came job) (closed r.2) =
+      record { front = r.1.seen; met = r.1.mark; begins = given.begins; alone = others; marked = met; fresh = gives.fresh; link = gives.link } in
+      let by_number = subst (λ n. ServedRow (view job).home.frame.limit (view job).file n history mark r.0 (came job) (closed r.2)) one.number_is row in
+      let by_file = subst (λ (f : Option (List ℕ)). ServedRow (view job).home.frame.limit f who history mark r.0 (came job) (closed r.2)) one.file_is by_number in
+      subst (λ (h : Home Frame). ServedRow h.frame.limit file who history mark r.0 (came job) (closed r.2)) one.home_is by_file
 
   rows-of : (history : List Entry) (mark : Option ℕ) (who : ℕ) (file : Option (List ℕ)) (jobs : List J) (results : List (Ended × PassView Entry Frame × S)) → Meet GivesOf jobs results → Admitted view home place who file jobs → All (HasGiven whose history) (map noted results) → All (HasMet mark) (map noted results)
-      → RowsFrom closed home.frame.limit history mark who file (map serving_end results)
+      → RowsFrom closed home.frame.limit history mark who file (map came jobs) (map serving_end results)
   rows-of history mark who file [] [] met all given marks = tt
   rows-of history mark who file (j ∷ jobs) (r ∷ results) met all given marks = (
     row-of history mark who file j r met.0 all.0 (All-head (HasGiven whose history) (noted r) (map noted results) given) (All-head (HasMet mark) (noted r) (map noted results) marks),
@@ -169,34 +222,40 @@ numbers-below place history made count (Some pass) e unused given all =
     let same : made ≡ count + 1 = omega arith in
     below-last count history (subst (λ n. All (λ e. whose e < n) history) same all) none
 
-module _ {J S : Type 0} (view : J → JobView) (closed : S → Wire) (home : Home Frame) (place : DeskPlace Frame) where
+module _ {J S : Type 0} (view : J → JobView) (came : J → Wire) (closed : S → Wire) (home : Home Frame) (place : DeskPlace Frame) where
   -- what stands of a session whose passes are all back
-  pub session-stands : (file : Option (List ℕ)) (jobs : List J) (results : List (Ended × PassView Entry Frame × S)) (back : Option (PassView Entry Frame)) (keeper : KeeperView Entry Frame) (ends : List (Ended × S)) (shared : Shared) (frame : Frame)
-      → frame_of shared ≡ frame → home.frame ≡ frame → Meet (GivesOf view closed home place) jobs results → Admitted view home place 0 file jobs
+  pub session-stands : (file : Option (List ℕ)) (jobs : List J) (results : List (Ended × PassView Entry Frame × S)) (back : Option (PassView Entry Frame)) (keeper : KeeperView Entry Frame) (ends : List (Ended × S)) (shared : Shared) (frame : Frame) (before now : Option (List Wire)) (why : Served)
+      → CameInOrder why (map came jobs) before now → frame_of shared ≡ frame → home.frame ≡ frame → Meet (GivesOf view came closed home place) jobs results → Admitted view home place 0 file jobs
       → keeper.given ≡ map noted results ++ passes_back back → keeper.made ≡ length jobs + length (passes_back back) → IfSome back (IsUnused place (length jobs))
-      → Closes whose keeper shared.engine.history shared.engine.mark → ends ≡ map serving_end results → SessionStands closed frame file ends shared
-  session-stands file jobs results back keeper ends shared frame frames at met all given made unused closes are =
+      → Closes whose keeper shared.engine.history shared.engine.mark → ends ≡ map serving_end results
+      → IsLegal shared.engine.limit shared.engine.history → IfSome shared.engine.mark (λ at. at ≡ length shared.engine.history) → SessionStands closed frame file before now why ends shared
+  session-stands file jobs results back keeper ends shared frame before now why order frames at met all given made unused closes are legal marked =
       let history = shared.engine.history in
       let all_given = subst (λ (gs : List (GivenBack Entry)). All (HasGiven whose history) gs) given closes.given in
       let marks = subst (λ (gs : List (GivenBack Entry)). All (HasMet shared.engine.mark) gs) given closes.marks in
-      let rows = rows-of view closed home place history shared.engine.mark 0 file jobs results met all (all-front (HasGiven whose history) (map noted results) (passes_back back) all_given) (all-front (HasMet shared.engine.mark) (map noted results) (passes_back back) marks) in
+      let rows = rows-of view came closed home place history shared.engine.mark 0 file jobs results met all (all-front (HasGiven whose history) (map noted results) (passes_back back) all_given) (all-front (HasMet shared.engine.mark) (map noted results) (passes_back back) marks) in
       let low = numbers-below place history keeper.made (length jobs) back made unused (all-behind (HasGiven whose history) (map noted results) (passes_back back) all_given) closes.numbers in
-      let count : length ends ≡ length jobs = ap length are ∙ length-map serving_end results ∙ length-met (GivesOf view closed home place) jobs results met in
+      let count : length ends ≡ length jobs = ap length are ∙ length-map serving_end results ∙ length-met (GivesOf view came closed home place) jobs results met in
       record {
         frame_is = frames;
-        rows = subst (λ (es : List (Ended × S)). RowsFrom closed frame.limit history shared.engine.mark 0 file es) (sym are) (subst (λ (f : Frame). RowsFrom closed f.limit history shared.engine.mark 0 file (map serving_end results)) at rows);
+        links = map came jobs;
+        in_order = order;
+        rows = subst (λ (es : List (Ended × S)). RowsFrom closed frame.limit history shared.engine.mark 0 file (map came jobs) es) (sym are)
+            (subst (λ (f : Frame). RowsFrom closed f.limit history shared.engine.mark 0 file (map came jobs) (map serving_end results)) at rows);
         numbers = subst (λ n. All (λ e. whose e < n) history) (sym count) low;
+        legal = subst (λ (f : Frame). IsLegal f.limit history) frames legal;
+        marked = marked;
       }
 
   -- as many links ended as were served
-  pub ends-count : (jobs : List J) (results : List (Ended × PassView Entry Frame × S)) (ends : List (Ended × S)) → Meet (GivesOf view closed home place) jobs results → ends ≡ map serving_end results → length ends ≡ length jobs
-  ends-count jobs results ends met are = ap length are ∙ length-map serving_end results ∙ length-met (GivesOf view closed home place) jobs results met
+  pub ends-count : (jobs : List J) (results : List (Ended × PassView Entry Frame × S)) (ends : List (Ended × S)) → Meet (GivesOf view came closed home place) jobs results → ends ≡ map serving_end results → length ends ≡ length jobs
+  ends-count jobs results ends met are = ap length are ∙ length-map serving_end results ∙ length-met (GivesOf view came closed home place) jobs results met
 
   -- no pass is out any more
-  pub none-out : (jobs : List J) (results : List (Ended × PassView Entry Frame × S)) (rest given : List (GivenBack Entry)) (made out : ℕ) → Meet (GivesOf view closed home place) jobs results → given ≡ map noted results ++ rest → made ≡ length jobs + length rest → 0 < out → out + length given ≡ made → ⊥
+  pub none-out : (jobs : List J) (results : List (Ended × PassView Entry Frame × S)) (rest given : List (GivenBack Entry)) (made out : ℕ) → Meet (GivesOf view came closed home place) jobs results → given ≡ map noted results ++ rest → made ≡ length jobs + length rest → 0 < out → out + length given ≡ made → ⊥
   none-out jobs results rest given made out met e m some is =
       let count : length given ≡ length results + length rest = ap length e ∙ length-append (map noted results) rest ∙ ap (λ n. n + length rest) (length-map noted results) in
-      let same : length results ≡ length jobs = length-met (GivesOf view closed home place) jobs results met in
+      let same : length results ≡ length jobs = length-met (GivesOf view came closed home place) jobs results met in
       absurd (omega (arith, count, same, m, some, is))
 
 -- a mark that was met stays
@@ -210,11 +269,7 @@ keeps-first (Some at) b p c k e = e ∙ ap (λ m. first_mark m p) k
 
 -- one more pass came back
 pub noted-one : {X Y : Type 0} (f : X → Y) (now before first : List Y) (xs : List X) (x : X) → now ≡ before ++ f x ∷ [] → before ≡ first ++ map f xs → now ≡ first ++ map f (xs ++ x ∷ [])
-noted-one {X = X} f now before first xs x e so_far = e ∙ ap (λ ys. ys ++ f x ∷ []) so_far ∙ append_assoc first (map f xs) (f x ∷ []) ∙ ap (λ ys. first ++ ys) (sym (map-one xs))
-  where
-    map-one : (xs : List X) → map f (xs ++ x ∷ []) ≡ map f xs ++ f x ∷ []
-    map-one [] = refl
-    map-one (y ∷ ys) = ap (λ r. f y ∷ r) (map-one ys)
+noted-one f now before first xs x e so_far = e ∙ ap (λ ys. ys ++ f x ∷ []) so_far ∙ append_assoc first (map f xs) (f x ∷ []) ∙ ap (λ ys. first ++ ys) (sym (map-one f xs x))
 
 -- all that came back
 pub given-all : {X : Type 0} (now before first xs ys : List X) → now ≡ before ++ ys → before ≡ first ++ xs → first ≡ [] → now ≡ xs ++ ys
@@ -236,11 +291,12 @@ mark-kept at a b c d is first second met =
 
 -- why a session ended, by the engine that is left
 pub caused-by : (why : Served) (shared : Shared) (first second third : List Entry) (a b c : Option ℕ) (jobs count : ℕ) → StopsHostingFor why first a jobs → StartsWith second first → StartsWith third second → StartsWith shared.engine.history third → KeepsMark a b → KeepsMark b c → Met c shared.engine.mark → count ≡ jobs
-    → SessionCausedBy why count shared
-caused-by AllLeft shared first second third a b c jobs count stops one two three m k met same =
-    record { front = first; begins = starts_through shared.engine.history second first (starts_through shared.engine.history third second three two) one; went = stops }
-caused-by (Broken at) shared first second third a b c jobs count stops one two three m k met same = mark-kept at a b c shared.engine.mark stops m k met
-caused-by LinksFull shared first second third a b c jobs count stops one two three m k met same = same ∙ stops
-caused-by AcceptFault shared first second third a b c jobs count stops one two three m k met same = tt
-caused-by SpawnFault shared first second third a b c jobs count stops one two three m k met same = tt
-caused-by NoMemory shared first second third a b c jobs count stops one two three m k met same = tt
+    → IsLegal shared.engine.limit shared.engine.history → SessionCausedBy why count shared
+caused-by AllLeft shared first second third a b c jobs count stops one two three m k met same legal =
+    let begins = starts_through shared.engine.history second first (starts_through shared.engine.history third second three two) one in
+    record { front = first; begins = begins; went = stops; alone = λ who. stays-away given_by shared.engine.limit first begins.0 who (subst (λ (h : List Entry). IsLegal shared.engine.limit h) begins.1 legal) stops }
+caused-by (Broken at) shared first second third a b c jobs count stops one two three m k met same legal = mark-kept at a b c shared.engine.mark stops m k met
+caused-by LinksFull shared first second third a b c jobs count stops one two three m k met same legal = same ∙ stops
+caused-by AcceptFault shared first second third a b c jobs count stops one two three m k met same legal = tt
+caused-by SpawnFault shared first second third a b c jobs count stops one two three m k met same legal = tt
+caused-by NoMemory shared first second third a b c jobs count stops one two three m k met same legal = tt

@@ -3,7 +3,7 @@ use Rattle.std.specs.Prelude.{◌≡◌, true, List, [], ◌∷◌, ◌++◌, So
 use Rattle.session_events.specs.declared.event.Event.TheVariants.{Join, Refresh, Leave}
 use Rattle.session_events.specs.declared.event.Entry.{Entry}
 use Rattle.session_events.specs.Entries.{entry_of}
-use Rattle.session_server.specs.declared.session.Served.TheVariants.{Ended, AcceptFault, SpawnFault, Broken, LinksFull, NoMemory}
+use Rattle.session_server.specs.declared.session.Served.TheVariants.{Ended, AcceptFault, SpawnFault, Broken, LinksFull}
 use Rattle.session_server.specs.declared.run.ServerStatus.TheVariants as status
 use Rattle.session_server.specs.Sessions.{AllWent, WasDeserted, lost, AcceptsFor, SpawnsFor}
 use Rattle.session_server.specs.Hosting.{LooksIn}

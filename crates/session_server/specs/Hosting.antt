@@ -1,14 +1,14 @@
 -- How the clients of a session are let in, and how their passes come back.
-use Rattle.std.specs.Prelude.{◌≡◌, ℕ, ◌+◌, ◌<◌, ◌≤◌, List, [], ◌∷◌, length, All, ⊤, Option, None, Some, Ok, Err}
+use Rattle.std.specs.Prelude.{◌≡◌, ℕ, ◌+◌, ◌<◌, ◌≤◌, List, [], ◌∷◌, All, ⊤, Option, None, Some, Ok, Err}
 use Rattle.std.specs.declared.result.Result.{Result}
 use Rattle.session_desk.specs.Histories.{GivenBack}
 use Rattle.session_desk.specs.Tokens.{Home, DeskPlace, IsOf, PassView, KeeperView}
 use Rattle.session_events.specs.declared.event.Entry.{Entry}
 use Rattle.link_lines.specs.declared.ended.Ended.{Ended}
-use Rattle.engine_desk.specs.Counting.{joined_among, comings}
+use Rattle.session_events.specs.Counting.{joined_among, comings}
 use Rattle.engine_desk.specs.Sharing.{Frame}
 use Rattle.session_server.specs.declared.session.Served.{Served}
-use Rattle.session_server.specs.declared.session.Served.TheVariants.{Ended as AllLeft, AcceptFault, SpawnFault, Broken, LinksFull, NoMemory}
+use Rattle.session_server.specs.declared.session.Served.TheVariants.{Ended as AllLeft, SpawnFault, Broken, LinksFull, NoMemory}
 use Rattle.session_server.specs.declared.host.TheConstants.{MAX_LINKS}
 use Rattle.session_server.specs.Sessions.{AllWent}
 

@@ -1,19 +1,18 @@
 -- What a run of a server did.
-use Rattle.std.specs.Prelude.{◌≡◌, ◌≤◌, ℕ, ◌+◌, List, length, ⊤, Option, IsSome, IfSome}
+use Rattle.std.specs.Prelude.{◌≡◌, ◌≤◌, ℕ, ◌+◌, List, length, Option, IsSome, IfSome}
 use Rattle.kak_ports.specs.Ports.{Rose}
-use Rattle.kak_files.specs.Files.{Shelf}
 use Rattle.client_links.specs.Wires.{Wire}
 use Rattle.client_links.specs.Doors.{Door, NoneCame, counted_on}
 use Rattle.link_lines.specs.declared.ended.Ended.{Ended}
-use Rattle.kak_engine.specs.Honesty.{outside_of}
-use Rattle.engine_desk.specs.Sharing.{Frame, Shared}
+use Rattle.kak_engine.specs.Honesty.{Outside}
+use Rattle.engine_desk.specs.Sharing.{Frame, Shared, WasAskedJustThat}
 use Rattle.session_server.specs.declared.session.Served.{Served}
 use Rattle.session_server.specs.declared.session.Served.TheVariants as served
 use Rattle.session_server.specs.declared.run.ServerStatus.{ServerStatus}
 use Rattle.session_server.specs.declared.run.ServerStatus.TheVariants.{Ended as AllLeft, Usage, AcceptFault, SpawnFault, NoMemory, Broken, LinksFull, BindFault}
 use Rattle.session_events.specs.declared.limits.TheConstants.{MAX_ENTRIES}
 use Rattle.session_server.specs.declared.host.TheConstants.{MAX_LINKS}
-use Rattle.session_server.specs.Sessions.{IfServed, lost, SessionStands, SessionCausedBy, AcceptsFor, SpawnsFor}
+use Rattle.session_server.specs.Sessions.{IfServed, lost, SessionStands, SessionCausedBy, NoneWaits, AcceptsFor, SpawnsFor}
 
 -- the status with which the process ends
 abbrev pub server_code : ServerStatus → ℕ
@@ -36,8 +35,8 @@ status_of served.LinksFull = LinksFull
 status_of served.NoMemory = NoMemory
 
 -- an engine of a server: so many entries there may be, and the outside is at first as it was handed in
-abbrev pub frame_at : Shelf → ℕ → Frame
-frame_at shelf refusals = record { limit = MAX_ENTRIES; first = outside_of shelf refusals }
+abbrev pub frame_at : Outside → Frame
+frame_at outside = record { limit = MAX_ENTRIES; first = outside }
 
 -- where there is no session: nothing was done, or it couldn't be listened for, which the acceptor counted; or memory was
 -- wanting. No job was started
@@ -48,14 +47,16 @@ HasNone NoMemory old new before now = (new.came ≡ old.came) × (new.faults ≡
 HasNone _ old new before now = ⊥
 
 -- A session was run with such an engine, whose first client opened the file, if one was named: why it ended, which the
--- status tells, and what is left of it.
+-- status tells, and what is left of it. The outside was asked for what its history says and for nothing else.
 pub record WasRun {S : Type 0} (closed : S → Wire) (frame : Frame) (file : Option (List ℕ)) (old new : Door) (before now : ℕ) (status : ServerStatus) (engine : Option Shared) (ends : List (Ended × S)) : Type 0 where
   pub why : Served
   pub status_is : status ≡ status_of why
   pub given : IfServed why (IsSome engine)
-  pub stands : IfSome engine (SessionStands closed frame file ends)
+  pub stands : IfSome engine (SessionStands closed frame file old.to_come new.to_come why ends)
+  pub outside : IfSome engine WasAskedJustThat
   pub cause : IfSome engine (SessionCausedBy why (length ends))
   pub most : length ends ≤ MAX_LINKS
   pub came : IfServed why (new.came ≡ counted_on old.came (length ends + lost why))
+  pub waits : NoneWaits why new
   pub accept_faults : AcceptsFor why old.faults new.faults
   pub spawn_faults : SpawnsFor why before now

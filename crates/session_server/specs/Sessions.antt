@@ -1,40 +1,66 @@
 -- What is left of a session that was served, and why its serving ended.
-use Rattle.std.specs.Prelude.{◌≡◌, ◌⊎◌, ℕ, ◌+◌, ◌<◌, List, [], ◌∷◌, length, All, ⊤, Option, None, Some}
+use Rattle.std.specs.Prelude.{◌≡◌, ◌⊎◌, ℕ, ◌+◌, ◌<◌, List, [], ◌∷◌, ◌++◌, length, All, IfSome, ⊤, Option, None, Some}
 use Rattle.kak_ports.specs.Ports.{Rose}
 use Rattle.client_links.specs.Wires.{Wire}
+use Rattle.client_links.specs.Doors.{Door, NoneIsToCome, led_by}
 use Rattle.session_desk.specs.Histories.{StartsWith}
+use Rattle.session_turns.specs.Histories.{own}
 use Rattle.session_events.specs.declared.event.Entry.{Entry}
+use Rattle.session_events.specs.Legal.{IsLegal}
+use Rattle.session_events.specs.Meaning.{rules}
 use Rattle.link_lines.specs.declared.ended.Ended.{Ended}
-use Rattle.engine_desk.specs.Counting.{joined_among, comings}
+use Rattle.kak_engine.specs.Steps.{given_by}
+use Rattle.session_events.specs.Counting.{joined_among, comings}
 use Rattle.engine_desk.specs.Sharing.{Frame, Shared, frame_of}
 use Rattle.session_server.specs.Rows.{ServedRow}
 use Rattle.session_server.specs.declared.session.Served.{Served}
 use Rattle.session_server.specs.declared.session.Served.TheVariants.{Ended as AllLeft, AcceptFault, SpawnFault, Broken, LinksFull, NoMemory}
 use Rattle.session_server.specs.declared.host.TheConstants.{MAX_LINKS}
 
--- the rows of links that were served under the numbers from this one on, the first of which opened the file, if one was named
-abbrev pub RowsFrom : {S : Type 0} → (S → Wire) → ℕ → List Entry → Option ℕ → ℕ → Option (List ℕ) → List (Ended × S) → Type 0
-RowsFrom closed limit history mark who file [] = ⊤
-RowsFrom closed limit history mark who file (end ∷ ends) =
-    ServedRow limit file who history mark end.0 (closed end.1) × RowsFrom closed limit history mark (who + 1) None ends
+-- the rows of links that were served under the numbers from this one on, one for each and in their order, of which the first
+-- opened the file, if one was named
+abbrev pub RowsFrom : {S : Type 0} → (S → Wire) → ℕ → List Entry → Option ℕ → ℕ → Option (List ℕ) → List Wire → List (Ended × S) → Type 0
+RowsFrom closed limit history mark who file [] [] = ⊤
+RowsFrom closed limit history mark who file (link ∷ links) (end ∷ ends) =
+    ServedRow limit file who history mark end.0 link (closed end.1) × RowsFrom closed limit history mark (who + 1) None links ends
+RowsFrom closed limit history mark who file links ends = ⊥
 
--- What stands of a session, by the engine that is left: it is the one that was served, each link has its row there, in the
--- order of their numbers, and nobody else is in its history.
-pub record SessionStands {S : Type 0} (closed : S → Wire) (frame : Frame) (file : Option (List ℕ)) (ends : List (Ended × S)) (shared : Shared) : Type 0 where
+-- these links came first of those that were to come, and one behind them, which isn't served
+abbrev pub IsDroppedBehind : List Wire → Option (List Wire) → Option (List Wire) → Type 0
+IsDroppedBehind links before now = (link : Wire) × (before ≡ led_by (links ++ link ∷ []) now)
+
+-- The links that are served came in this order, as the first of those that were to come, and the others still are, where
+-- these are told. A further one came where one was dropped, and where memory was wanting for it.
+abbrev pub CameInOrder : Served → List Wire → Option (List Wire) → Option (List Wire) → Type 0
+CameInOrder SpawnFault links before now = IsDroppedBehind links before now
+CameInOrder LinksFull links before now = IsDroppedBehind links before now
+CameInOrder NoMemory links before now = IsDroppedBehind links before now
+CameInOrder _ links before now = before ≡ led_by links now
+
+-- What stands of a session, by the engine that is left, why it ended, and the links that were to come before and still are: the
+-- engine is the one that was served, each link has its row there, in the order in which they came, and nobody else is in its
+-- history, which is one that there can be. A mark is the number of its entries.
+pub record SessionStands {S : Type 0} (closed : S → Wire) (frame : Frame) (file : Option (List ℕ)) (before now : Option (List Wire)) (why : Served) (ends : List (Ended × S)) (shared : Shared) : Type 0 where
   pub frame_is : frame_of shared ≡ frame
-  pub rows : RowsFrom closed frame.limit shared.engine.history shared.engine.mark 0 file ends
+  -- the links as they came
+  pub links : List Wire
+  pub in_order : CameInOrder why links before now
+  pub rows : RowsFrom closed frame.limit shared.engine.history shared.engine.mark 0 file links ends
   pub numbers : All (λ entry. entry.who < length ends) shared.engine.history
+  pub legal : IsLegal frame.limit shared.engine.history
+  pub marked : IfSome shared.engine.mark (λ at. at ≡ length shared.engine.history)
 
 -- a client had come, and none is here
 pub record AllWent (history : List Entry) : Type 0 where
   pub came : 0 < comings history
   pub none : joined_among history ≡ 0
 
--- at some moment of a history a client had come, and none was here
+-- at some moment of a history a client had come, and none was here; nobody of those who had come has an entry behind it
 pub record WasDeserted (history : List Entry) : Type 0 where
   pub front : List Entry
   pub begins : StartsWith history front
   pub went : AllWent front
+  pub alone : (who : ℕ) → (own (rules given_by) who front ≡ []) ⊎ (own (rules given_by) who begins.0 ≡ [])
 
 -- why a session ended that served so many links
 abbrev pub SessionCausedBy : Served → ℕ → Shared → Type 0
@@ -42,6 +68,12 @@ SessionCausedBy AllLeft count shared = WasDeserted shared.engine.history
 SessionCausedBy (Broken at) count shared = shared.engine.mark ≡ Some at
 SessionCausedBy LinksFull count shared = count ≡ MAX_LINKS
 SessionCausedBy _ count shared = ⊤
+
+-- that a session is over, or broken, is seen only where no link is left that is to come
+abbrev pub NoneWaits : Served → Door → Type 0
+NoneWaits AllLeft door = NoneIsToCome door
+NoneWaits (Broken at) door = NoneIsToCome door
+NoneWaits _ door = ⊤
 
 -- with every answer but want of memory
 abbrev pub IfServed : Served → Type 0 → Type 0

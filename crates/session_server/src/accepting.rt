@@ -1,12 +1,12 @@
 //! The links of a session, received one after another.
 
 ghost use Rattle.std.specs.Arc.{arc_value};
-ghost use Rattle.std.specs.Prelude.{◌≡◌, ◌+◌, ◌≤◌, ◌++◌, [], ◌∷◌, length, OnOk, IfErr, IfSome, option_map, string_bytes, Some, None};
+ghost use Rattle.std.specs.Prelude.{◌≡◌, ◌+◌, ◌≤◌, ◌++◌, [], ◌∷◌, length, map, IsSome, OnOk, IfErr, IfSome, option_map, string_bytes, Some, None};
 ghost use Rattle.client_links.specs.Doors.{counted_on};
 ghost use Rattle.session_desk.specs.Histories.{entries_by};
 ghost use Rattle.session_server.specs.Rows.{IsLinkReady};
 ghost use Rattle.session_server.specs.Hosting.{Admitted, job_view, passes_back, IsHandedBack, StopsHostingFor};
-ghost use Rattle.session_server.specs.Sessions.{IfServed, lost, AcceptsFor, SpawnsFor};
+ghost use Rattle.session_server.specs.Sessions.{CameInOrder, NoneWaits, IfServed, lost, AcceptsFor, SpawnsFor};
 
 use crate::host::Host;
 use crate::job::LinkJob;
@@ -14,21 +14,20 @@ use crate::session::Served;
 use client_links::{Acceptor, Link, Next};
 use engine_desk::SharedEngine;
 use jobs::{Spawner, Started};
-use kak_files::Files;
+use kak_engine::Outside;
 use line_gates::Gate;
-use regex_ports::PatternMaker;
 use session_desk::Pass;
 use std::sync::Wait;
 
 /// Why no further link is received, and the pass of a link that had come and isn't served.
 #[derive(Drop)]
-pub(crate) struct Stopped<F: Files + Drop, M: PatternMaker + Drop> {
+pub(crate) struct Stopped<O: Outside + Drop> {
     pub why: Served,
-    pub back: Option<Pass<SharedEngine<F, M>>>,
+    pub back: Option<Pass<SharedEngine<O>>>,
 }
 
 // No further link is received, and all that were let in are served.
-fn stopped_by<F: Files + Drop, M: PatternMaker + Drop>(why: Served) -> Stopped<F, M>
+fn stopped_by<O: Outside + Drop>(why: Served) -> Stopped<O>
     ensures why { result.why ≡ why }
     ensures back { result.back ≡ None }
 {
@@ -36,13 +35,10 @@ fn stopped_by<F: Files + Drop, M: PatternMaker + Drop>(why: Served) -> Stopped<F
 }
 
 // Starts the serving of a link. An `Err` has the pass of one that isn't served.
-fn start<
-    L: Link,
-    F: Files + Drop,
-    M: PatternMaker + Drop,
-    G: Gate,
-    P: Spawner<LinkJob<L, F, M, G>>,
->(spawner: &mut P, job: LinkJob<L, F, M, G>) -> Result<(), Stopped<F, M>>
+fn start<L: Link, O: Outside + Drop, G: Gate, P: Spawner<LinkJob<L, O, G>>>(
+    spawner: &mut P,
+    job: LinkJob<L, O, G>,
+) -> Result<(), Stopped<O>>
     requires ready { IsLinkReady (arc_value job.desk) job.pass (L.wire job.link) }
     requires fit { P.fit spawner.old }
     ensures fit { P.fit spawner.new }
@@ -67,11 +63,10 @@ fn start<
 pub(crate) fn accept_all<
     R: Wait,
     A: Acceptor,
-    F: Files + Drop,
-    M: PatternMaker + Drop,
+    O: Outside + Drop,
     G: Gate + Clone,
-    P: Spawner<LinkJob<A::Link, F, M, G>>,
->(rt: &R, host: &mut Host<F, M, G>, acceptor: &mut A, spawner: &mut P) -> Stopped<F, M>
+    P: Spawner<LinkJob<A::Link, O, G>>,
+>(rt: &R, host: &mut Host<O, G>, acceptor: &mut A, spawner: &mut P) -> Stopped<O>
     requires none { host.old.keeper.made ≡ 0 }
     requires idle { P.started spawner.old ≡ [] }
     requires fit { P.fit spawner.old }
@@ -86,6 +81,8 @@ pub(crate) fn accept_all<
     ensures why { StopsHostingFor result.why host.new.keeper.seen host.new.keeper.mark (length (P.started spawner.new)) }
     ensures listens { (A.door acceptor.new).listens ≡ (A.door acceptor.old).listens }
     ensures came { IfServed result.why ((A.door acceptor.new).came ≡ counted_on (A.door acceptor.old).came (length (P.started spawner.new) + lost result.why)) }
+    ensures in_order { CameInOrder result.why (map (λ job. A.Link.wire job.link) (P.started spawner.new)) (A.door acceptor.old).to_come (A.door acceptor.new).to_come }
+    ensures waits { IsSome (A.door acceptor.old).listens → NoneWaits result.why (A.door acceptor.new) }
     ensures accept_faults { AcceptsFor result.why (A.door acceptor.old).faults (A.door acceptor.new).faults }
     ensures spawn_faults { SpawnsFor result.why (P.faults spawner.old) (P.faults spawner.new) }
 {

@@ -6,18 +6,17 @@ ghost use Rattle.session_desk.specs.Tokens.{IsOf};
 ghost use Rattle.session_server.specs.Hosting.{noted, serving_end, passes_back, KeepsMark};
 
 use engine_desk::SharedEngine;
-use kak_files::Files;
+use kak_engine::Outside;
 use link_lines::Ended;
-use regex_ports::PatternMaker;
 use session_desk::{Desk, Keeper, Pass};
 use std::alloc::{AllocError, Global};
 
 /// Gives the passes of links that were served back to the keeper. What is left are the ends of the links, in the same order.
-pub(crate) fn take_back<F: Files + Drop, M: PatternMaker + Drop, S: Drop>(
+pub(crate) fn take_back<O: Outside + Drop, S: Drop>(
     alloc: Global,
-    desk: &Desk<SharedEngine<F, M>>,
-    keeper: &mut Keeper<SharedEngine<F, M>>,
-    results: Vec<(Ended, Pass<SharedEngine<F, M>>, S)>,
+    desk: &Desk<SharedEngine<O>>,
+    keeper: &mut Keeper<SharedEngine<O>>,
+    results: Vec<(Ended, Pass<SharedEngine<O>>, S)>,
 ) -> Result<Vec<(Ended, S)>, AllocError>
     requires own { IsOf keeper.old.place desk.now }
     requires places { All (λ result. result.1.place ≡ keeper.old.place) results.items }
@@ -37,10 +36,10 @@ pub(crate) fn take_back<F: Files + Drop, M: PatternMaker + Drop, S: Drop>(
 }
 
 /// Gives the pass of a link that isn't served back to the keeper, if there is one.
-pub(crate) fn take_rest<F: Files + Drop, M: PatternMaker + Drop>(
-    desk: &Desk<SharedEngine<F, M>>,
-    keeper: &mut Keeper<SharedEngine<F, M>>,
-    back: Option<Pass<SharedEngine<F, M>>>,
+pub(crate) fn take_rest<O: Outside + Drop>(
+    desk: &Desk<SharedEngine<O>>,
+    keeper: &mut Keeper<SharedEngine<O>>,
+    back: Option<Pass<SharedEngine<O>>>,
 )
     requires own { IsOf keeper.old.place desk.now }
     requires back { IfSome back (λ pass. pass.place ≡ keeper.old.place) }

@@ -12,9 +12,8 @@ use crate::job::LinkJob;
 use crate::session::Served;
 use client_links::Link;
 use engine_desk::SharedEngine;
-use kak_files::Files;
+use kak_engine::Outside;
 use line_gates::Gate;
-use regex_ports::PatternMaker;
 use session_desk::{Desk, Keeper};
 use std::alloc::{AllocError, Global};
 use std::marker::Model;
@@ -25,17 +24,17 @@ pub const MAX_LINKS: u32 = 1_000_000;
 
 /// Who lets the clients of a session in. Contracts see the desk, its keeper, and the file that the next client opens.
 #[derive(Drop)]
-pub(crate) struct Host<F: Files + Drop, M: PatternMaker + Drop, G: Gate> {
+pub(crate) struct Host<O: Outside + Drop, G: Gate> {
     alloc: Global,
-    desk: Arc<Desk<SharedEngine<F, M>>, Global>,
-    keeper: Keeper<SharedEngine<F, M>>,
+    desk: Arc<Desk<SharedEngine<O>>, Global>,
+    keeper: Keeper<SharedEngine<O>>,
     file: Option<String>,
     gate: G,
     // how many links were let in
     admitted: u32,
 }
 
-impl<F: Files + Drop, M: PatternMaker + Drop, G: Gate> Model for Host<F, M, G> {
+impl<O: Outside + Drop, G: Gate> Model for Host<O, G> {
     ghost use Rattle.std.specs.Arc.{arc_value};
     ghost use Rattle.std.specs.Prelude.{option_map, string_bytes};
     ghost use Rattle.session_server.specs.Hosting.{HostView, IsHosting};
@@ -47,15 +46,15 @@ impl<F: Files + Drop, M: PatternMaker + Drop, G: Gate> Model for Host<F, M, G> {
     ghost invariant = { λ h. IsHosting (arc_value h.desk) h.keeper h.admitted };
 }
 
-impl<F: Files + Drop, M: PatternMaker + Drop, G: Gate> Host<F, M, G> {
+impl<O: Outside + Drop, G: Gate> Host<O, G> {
     /// A host of a session in which nothing has happened, to which nobody was let in yet. Its first client opens the file,
     /// if one is named.
     pub fn new(
         alloc: Global,
-        engine: SharedEngine<F, M>,
+        engine: SharedEngine<O>,
         file: Option<String>,
         gate: G,
-    ) -> Result<Host<F, M, G>, AllocError>
+    ) -> Result<Host<O, G>, AllocError>
         requires entries { engine.engine.history ≡ [] }
         requires mark { engine.engine.mark ≡ None }
         ensures { IfOk result (IsNewHost (frame_of engine) (option_map (λ name. string_bytes name) file)) }
@@ -88,13 +87,14 @@ impl<F: Files + Drop, M: PatternMaker + Drop, G: Gate> Host<F, M, G> {
         }
     }
 
-    /// Gives a link that came a pass of its own, and makes the job that serves it. An `Err` tells why the link was dropped.
-    pub fn admit<L: Link>(&mut self, link: L) -> Result<LinkJob<L, F, M, G>, Served>
+    /// Gives a link that came a pass of its own, and makes the job that serves this link. An `Err` tells why it was dropped.
+    pub fn admit<L: Link>(&mut self, link: L) -> Result<LinkJob<L, O, G>, Served>
     where
         G: Clone,
         requires { IsFresh (L.wire link) }
         ensures ready { IfOk result (λ job. IsLinkReady (arc_value job.desk) job.pass (L.wire job.link)) }
         ensures ok { IfOk result (λ job. Admits self.old self.new (job_view (arc_value job.desk) job.pass (option_map (λ name. string_bytes name) job.file))) }
+        ensures link { IfOk result (λ job. L.wire job.link ≡ L.wire link) }
         ensures why { IfErr result (IsLinkRefused self.old) }
         ensures err { OnErr result (self.new ≡ self.old) }
     {
@@ -119,12 +119,7 @@ impl<F: Files + Drop, M: PatternMaker + Drop, G: Gate> Host<F, M, G> {
     }
 
     /// The desk, and its keeper.
-    pub fn into_parts(
-        self,
-    ) -> (
-        Arc<Desk<SharedEngine<F, M>>, Global>,
-        Keeper<SharedEngine<F, M>>,
-    )
+    pub fn into_parts(self) -> (Arc<Desk<SharedEngine<O>>, Global>, Keeper<SharedEngine<O>>)
         ensures desk { arc_value result.0 ≡ self.home }
         ensures keeper { result.1 ≡ self.keeper }
         ensures own { IsOf result.1.place (arc_value result.0) }

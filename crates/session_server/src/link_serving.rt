@@ -2,6 +2,7 @@
 
 ghost use Rattle.std.specs.Prelude.{◌≡◌, IfOk, option_map};
 ghost use Rattle.client_links.specs.Wires.{TellsNoMore};
+ghost use Rattle.session_desk.specs.Histories.{StartsWith};
 ghost use Rattle.session_desk.specs.Tokens.{IsOf, IsSamePass};
 ghost use Rattle.session_events.specs.Legal.{IsLegal};
 ghost use Rattle.session_lines.specs.Serving.{service};
@@ -12,12 +13,11 @@ ghost use Rattle.session_server.specs.Rows.{opening_keys, seat_by};
 
 use client_links::Link;
 use engine_desk::{DeskSeat, SharedEngine};
-use kak_files::Files;
+use kak_engine::Outside;
 use key_names::Key;
 use line_gates::Gate;
 use link_lines::{Ended, serve_over};
 use program_words::edit_keys;
-use regex_ports::PatternMaker;
 use session_desk::{Desk, Pass};
 use std::alloc::{AllocError, Global};
 use std::sync::Wait;
@@ -36,19 +36,20 @@ fn opening_keys(alloc: Global, file: Option<&str>) -> Result<Vec<Key>, AllocErro
 /// is named, and is drawn; its lines are played as they come, each when the gate lets it run, and where none comes it is
 /// drawn what it has missed. It leaves before every end at which it came, unless the session is broken. Where memory is
 /// wanting for the keys, nothing is played. The pass is given back with the history that it has seen, by which all of this
-/// holds.
-pub fn serve_link<R: Wait, L: Link, G: Gate, F: Files + Drop, M: PatternMaker + Drop>(
+/// holds, and in front of which stands what it had seen before.
+pub fn serve_link<R: Wait, L: Link, G: Gate, O: Outside + Drop>(
     rt: &R,
     alloc: Global,
-    desk: &Desk<SharedEngine<F, M>>,
-    pass: Pass<SharedEngine<F, M>>,
+    desk: &Desk<SharedEngine<O>>,
+    pass: Pass<SharedEngine<O>>,
     file: Option<&str>,
     link: &mut L,
     gate: &mut G,
-) -> (Ended, Pass<SharedEngine<F, M>>)
+) -> (Ended, Pass<SharedEngine<O>>)
     requires own { IsOf pass.place desk.now }
     requires new { NeverCame given_by pass.number pass.seen }
     ensures same { IsSamePass pass result.1 }
+    ensures sees { StartsWith result.1.seen pass.seen }
     ensures legal { IsLegal desk.now.frame.limit pass.seen → IsLegal desk.now.frame.limit result.1.seen }
     ensures served { WasServedOver (service given_by (opening_keys (option_map (λ name. name.now) file.entry))) pass.number result.1.seen (L.wire link.old) (L.wire link.new) result.0 }
     ensures left { HasLeftAt given_by result.0 pass.number result.1.seen }

@@ -11,10 +11,9 @@ use crate::session::{Served, Session};
 use client_links::{Acceptor, Bound, Link};
 use engine_desk::SharedEngine;
 use jobs::Spawner;
-use kak_files::Files;
+use kak_engine::Outside;
 use line_gates::Gate;
 use program_words::{WordsError, read_words};
-use regex_ports::PatternMaker;
 use session_events::MAX_ENTRIES;
 use std::alloc::Global;
 use std::sync::Wait;
@@ -73,15 +72,14 @@ fn status_of(served: Served) -> ServerStatus
 }
 
 /// Runs a server: its words are to be `-s` and a session's name, with a file's name behind them where the first client is to
-/// open one. It listens for the session, and serves it to its end. The files hold what they held when they were made, where
-/// they tell it.
+/// open one. It listens for the session, and serves it to its end. The outside's files hold what they held when they were made,
+/// where they tell it. The outside of the engine that is left was asked for just what the history of the session says.
 pub fn run_server<
     R: Wait,
     A: Acceptor,
-    F: Files + Drop,
-    M: PatternMaker + Drop,
+    O: Outside + Drop,
     G: Gate + Clone,
-    P: Spawner<LinkJob<A::Link, F, M, G>>,
+    P: Spawner<LinkJob<A::Link, O, G>>,
 >(
     rt: &R,
     alloc: Global,
@@ -89,13 +87,9 @@ pub fn run_server<
     acceptor: &mut A,
     spawner: &mut P,
     gate: G,
-    files: F,
-    patterns: M,
-) -> (
-    ServerStatus,
-    Option<Session<F, M, <A::Link as Link>::Spent>>,
-)
-    requires untouched { IsUntouched (F.shelf files).told }
+    outside: O,
+) -> (ServerStatus, Option<Session<O, <A::Link as Link>::Spent>>)
+    requires untouched { IsUntouched (O.seen outside).shelf.told }
     requires idle { P.started spawner.old ≡ [] }
     requires fit { P.fit spawner.old }
     ensures fit { P.fit spawner.new }
@@ -104,7 +98,7 @@ pub fn run_server<
     ensures taken { is_call (map (λ word. string_bytes word) words.now) ≡ true → result.0 ≡ ServerStatus.Usage → ⊥ }
     ensures none { IfNone result.1 (HasNone result.0 (A.door acceptor.old) (A.door acceptor.new) (P.faults spawner.old) (P.faults spawner.new)) }
     ensures listens { IfSome result.1 (λ session. (A.door acceptor.new).listens ≡ Some (session_of (map (λ word. string_bytes word) words.now))) }
-    ensures run { IfSome result.1 (λ session. WasRun A.Link.spent (frame_at (F.shelf files) (M.refusals patterns)) (file_of (map (λ word. string_bytes word) words.now)) (A.door acceptor.old) (A.door acceptor.new) (P.faults spawner.old) (P.faults spawner.new) result.0 session.engine session.ends.items) }
+    ensures run { IfSome result.1 (λ session. WasRun A.Link.spent (frame_at (O.seen outside)) (file_of (map (λ word. string_bytes word) words.now)) (A.door acceptor.old) (A.door acceptor.new) (P.faults spawner.old) (P.faults spawner.new) result.0 session.engine session.ends.items) }
 {
     let named = match read_words(alloc, words) {
         Ok(named) => named,
@@ -115,7 +109,7 @@ pub fn run_server<
         Bound::Up => {}
         Bound::Failed => return (ServerStatus::BindFault, None),
     }
-    let Ok(engine) = SharedEngine::new(alloc, files, patterns, MAX_ENTRIES) else {
+    let Ok(engine) = SharedEngine::new(alloc, outside, MAX_ENTRIES) else {
         return (ServerStatus::NoMemory, None);
     };
     let (served, session) = serve(rt, alloc, engine, named.file, acceptor, spawner, gate);

@@ -2,8 +2,8 @@
 
 ghost use Rattle.std.specs.Prelude.{◌≡◌, ◌+◌, ◌≤◌, [], length, IsSome, IfSome, None, option_map, string_bytes};
 ghost use Rattle.client_links.specs.Doors.{counted_on};
-ghost use Rattle.engine_desk.specs.Sharing.{frame_of};
-ghost use Rattle.session_server.specs.Sessions.{IfServed, lost, AcceptsFor, SpawnsFor, SessionStands, SessionCausedBy};
+ghost use Rattle.engine_desk.specs.Sharing.{frame_of, WasAskedJustThat};
+ghost use Rattle.session_server.specs.Sessions.{IfServed, lost, NoneWaits, AcceptsFor, SpawnsFor, SessionStands, SessionCausedBy};
 
 use crate::accepting::accept_all;
 use crate::closing::{take_back, take_rest};
@@ -13,16 +13,13 @@ use crate::session::{Served, Session};
 use client_links::{Acceptor, Link};
 use engine_desk::SharedEngine;
 use jobs::Spawner;
-use kak_files::Files;
+use kak_engine::Outside;
 use line_gates::Gate;
-use regex_ports::PatternMaker;
 use std::alloc::Global;
 use std::sync::Wait;
 
 // What is left where memory ran out.
-fn out_of_memory<F: Files + Drop, M: PatternMaker + Drop, T: Drop>(
-    alloc: Global,
-) -> (Served, Session<F, M, T>)
+fn out_of_memory<O: Outside + Drop, T: Drop>(alloc: Global) -> (Served, Session<O, T>)
     ensures why { result.0 ≡ Served.NoMemory }
     ensures engine { result.1.engine ≡ None }
     ensures ends { result.1.ends.items ≡ [] }
@@ -35,25 +32,24 @@ fn out_of_memory<F: Files + Drop, M: PatternMaker + Drop, T: Drop>(
 }
 
 /// Serves a session in which nothing has happened yet: each link that comes is served under a pass of its own, as the spawner
-/// runs it, and the first client opens the file, if one is named. It waits until all have ended, and gives what is left. By
-/// the history of the engine that it gives, the row of each link holds; what else holds of a history, and of the files, the
-/// engine says itself (`history`, `into_outside`).
+/// runs it, and the first client opens the file, if one is named. It waits until all have ended, and gives what is left. By a
+/// front of the history of the engine that it gives, the row of each link holds, in the order in which they came; its outside
+/// was asked for just what that history says; what else holds of the files the engine says itself (`into_outside`).
 pub fn serve<
     R: Wait,
     A: Acceptor,
-    F: Files + Drop,
-    M: PatternMaker + Drop,
+    O: Outside + Drop,
     G: Gate + Clone,
-    P: Spawner<LinkJob<A::Link, F, M, G>>,
+    P: Spawner<LinkJob<A::Link, O, G>>,
 >(
     rt: &R,
     alloc: Global,
-    engine: SharedEngine<F, M>,
+    engine: SharedEngine<O>,
     file: Option<String>,
     acceptor: &mut A,
     spawner: &mut P,
     gate: G,
-) -> (Served, Session<F, M, <A::Link as Link>::Spent>)
+) -> (Served, Session<O, <A::Link as Link>::Spent>)
     requires entries { engine.engine.history ≡ [] }
     requires mark { engine.engine.mark ≡ None }
     requires idle { P.started spawner.old ≡ [] }
@@ -61,10 +57,12 @@ pub fn serve<
     ensures fit { P.fit spawner.new }
     ensures gathered { P.started spawner.new ≡ [] }
     ensures engine { IfServed result.0 (IsSome result.1.engine) }
-    ensures stands { IfSome result.1.engine (SessionStands A.Link.spent (frame_of engine) (option_map (λ name. string_bytes name) file) result.1.ends.items) }
+    ensures stands { IfSome result.1.engine (SessionStands A.Link.spent (frame_of engine) (option_map (λ name. string_bytes name) file) (A.door acceptor.old).to_come (A.door acceptor.new).to_come result.0 result.1.ends.items) }
+    ensures outside { IfSome result.1.engine WasAskedJustThat }
     ensures cause { IfSome result.1.engine (SessionCausedBy result.0 (length result.1.ends.items)) }
     ensures most { length result.1.ends.items ≤ 1000000 }
     ensures came { IfServed result.0 ((A.door acceptor.new).came ≡ counted_on (A.door acceptor.old).came (length result.1.ends.items + lost result.0)) }
+    ensures waits { IsSome (A.door acceptor.old).listens → NoneWaits result.0 (A.door acceptor.new) }
     ensures listens { (A.door acceptor.new).listens ≡ (A.door acceptor.old).listens }
     ensures accept_faults { AcceptsFor result.0 (A.door acceptor.old).faults (A.door acceptor.new).faults }
     ensures spawn_faults { SpawnsFor result.0 (P.faults spawner.old) (P.faults spawner.new) }
@@ -84,6 +82,8 @@ pub fn serve<
     let Ok(engine) = desk.close(keeper) else {
         unreachable!()
     };
+    engine.history();
+    engine.outside_was_asked();
     let session = Session {
         engine: Some(engine),
         ends,

@@ -1,9 +1,8 @@
 //! What a server gives.
 
 use engine_desk::SharedEngine;
-use kak_files::Files;
+use kak_engine::Outside;
 use link_lines::Ended;
-use regex_ports::PatternMaker;
 
 /// Why the serving of a session ended. All links that were served have ended then.
 #[derive(Clone, Copy, PartialEq, Eq, Debug)]
@@ -24,9 +23,9 @@ pub enum Served {
 
 /// What is left of a session.
 #[derive(Drop)]
-pub struct Session<F: Files + Drop, M: PatternMaker + Drop, T: Drop> {
+pub struct Session<O: Outside + Drop, T: Drop> {
     /// The engine. It is lost only where memory ran out.
-    pub engine: Option<SharedEngine<F, M>>,
+    pub engine: Option<SharedEngine<O>>,
     /// How the serving of each link ended, and what is left of the link, in the order in which they came. Only where memory
     /// ran out some may be lost.
     pub ends: Vec<(Ended, T)>,

@@ -1,11 +1,12 @@
 //! Boxes and a board, as a program uses them.
 
-use drawings::{Atoms, Cursor, Drawing, DrawnLine, DrawnLines, Info, Refusal};
+use drawings::{Atom, Atoms, Cursor, Drawing, DrawnLine, DrawnLines, Info, Refusal};
 use json_writing::encode_drawing;
 use kak_faces::{Face, StandardFace};
-use std::alloc::Global;
+use kak_text::Chars;
+use std::alloc::{AllocError, Global};
 use std::test::Fail;
-use ui_board::{Board, JsonUi, SilentUi, Ui};
+use ui_board::{Board, JsonUi, ScreenUi, SilentUi, Ui};
 
 const KEY_1: &str =
     "{\"error\":{\"code\":-32602,\"message\":\"Key 1\"},\"id\":null,\"jsonrpc\":\"2.0\"}\n";
@@ -59,6 +60,34 @@ fn a_silent_box_reports_nothing(rt: HostRuntime) -> Result<(), Fail> {
     ui.show(alloc, &drawing(alloc, 0))?;
     ui.refuse(alloc, Refusal::Method)?;
     assert!(rt; ui.report(alloc)?.is_empty());
+    Ok(())
+}
+
+// A drawing of these lines, each in one atom.
+fn drawing_of(alloc: Global, lines: &[&str]) -> Result<Drawing, AllocError> {
+    let mut shown = drawing(alloc, 0);
+    for line in lines {
+        let mut atoms = Atoms::new(alloc);
+        atoms.push(Atom {
+            contents: Chars::from_str(alloc, *line)?,
+            face: Face::DEFAULT,
+        })?;
+        shown.lines.push(DrawnLine { atoms })?;
+    }
+    Ok(shown)
+}
+
+#[test]
+fn a_screen_reports_the_lines_of_the_last_drawing(rt: HostRuntime) -> Result<(), Fail> {
+    let alloc = rt.alloc();
+    let mut ui = ScreenUi::new(alloc);
+    assert!(rt; ui.report(alloc)?.is_empty());
+    ui.refuse(alloc, Refusal::Method)?;
+    assert!(rt; ui.report(alloc)?.is_empty());
+    ui.show(alloc, &drawing_of(alloc, &["gone\n", "too\n"])?)?;
+    ui.show(alloc, &drawing_of(alloc, &["\u{e9}\n", "cut", ""])?)?;
+    ui.refuse(alloc, Refusal::Parse)?;
+    assert!(rt; ui.report(alloc)?.as_slice() == "\u{e9}\ncut\n\n".as_bytes());
     Ok(())
 }
 

@@ -41,7 +41,7 @@ fn the_place_of_a_bad_key_counts_characters(rt: HostRuntime) {
 
 #[test]
 fn keys_are_given_back_as_they_were(rt: HostRuntime) -> Result<(), Fail> {
-    let keys = Keys::from_vec(read_keys(rt.alloc(), "<c-x>")?);
+    let keys = Keys::of_vec(read_keys(rt.alloc(), "<c-x>")?);
     let wanted = Key {
         control: true,
         alt: false,

@@ -1,2 +1,4 @@
 pub mod BoardLemmas
 pub mod ReportLemmas
+pub mod ScreenLemmas
+pub mod ToldLemmas

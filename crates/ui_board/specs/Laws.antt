@@ -1,6 +1,10 @@
 -- What boards keep, and how reports grow.
-use Rattle.std.specs.Prelude.{◌≡◌, ◌≢◌, ◌<◌, ℕ, List, [], ◌∷◌, ◌++◌, Option, Some, None}
-use Rattle.ui_board.specs.Told.{Told, Json, Silent, Shown, untold, telling, told_bytes, report_of}
+use Rattle.std.specs.Prelude.{◌≡◌, ◌≢◌, ◌<◌, ℕ, List, [], ◌++◌, Option, Some, None}
+use Rattle.drawings.specs.declared.drawing.Drawing.{Drawing}
+use Rattle.drawings.specs.declared.refusal.Refusal.{Refusal}
+use Rattle.ui_board.specs.Screens.{screen_bytes}
+use Rattle.ui_board.specs.declared.ui.Kind.TheVariants.{Json, Silent, Screen}
+use Rattle.ui_board.specs.Told.{Told, Drawn, Refused, Shown, untold, telling, told_bytes, report_of}
 use Rattle.ui_board.specs.Boards.{seat_at, IsTaken, free_seat, seated, left_at, OthersStay}
 
 -- the laws of seats, said of what boxes have shown
@@ -28,3 +32,9 @@ pub record ReportLaws : Type 0 where
   pub json : (what : Told) (told : List Told) → report_of (telling what (record { kind = Json; told = told })) ≡ report_of (record { kind = Json; told = told }) ++ told_bytes what
   -- a silent box reports nothing
   pub silent : (told : List Told) → report_of (record { kind = Silent; told = told }) ≡ []
+  -- a screen has nothing on it before anything was told
+  pub blank : report_of (untold Screen) ≡ []
+  -- behind a drawing it has the lines of that one, whatever was told before
+  pub drawn : (drawing : Drawing) (told : List Told) → report_of (telling (Drawn drawing) (record { kind = Screen; told = told })) ≡ screen_bytes drawing.lines
+  -- and behind a refusal what it had before
+  pub refused : (refusal : Refusal) (told : List Told) → report_of (telling (Refused refusal) (record { kind = Screen; told = told })) ≡ report_of (record { kind = Screen; told = told })

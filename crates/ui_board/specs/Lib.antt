@@ -1,3 +1,4 @@
+pub mod Screens
 pub mod Told
 pub mod Notes
 pub mod Boards

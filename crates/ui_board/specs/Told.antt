@@ -4,16 +4,14 @@ use Rattle.drawings.specs.declared.drawing.Drawing.{Drawing}
 use Rattle.drawings.specs.declared.refusal.Refusal.{Refusal}
 use Rattle.json_writing.specs.Drawings.{drawing_bytes}
 use Rattle.json_writing.specs.Refusals.{refusal_bytes}
+use Rattle.ui_board.specs.Screens.{screen_bytes}
+use Rattle.ui_board.specs.declared.ui.Kind.{Kind}
+use Rattle.ui_board.specs.declared.ui.Kind.TheVariants.{Json, Silent, Screen}
 
 -- One thing that a user interface is told: what is drawn for its client, or why a line of its client is refused.
 pub data Told : Type 0 where
   Drawn : (drawing : Drawing) → Told
   Refused : (refusal : Refusal) → Told
-
--- The kinds of user interfaces: one reports the JSON lines of all that it was told, another reports nothing.
-pub data Kind : Type 0 where
-  Json : Kind
-  Silent : Kind
 
 -- What a user interface has shown.
 pub record Shown : Type 0 where
@@ -40,10 +38,25 @@ abbrev pub json_lines : List Told → List ℕ
 json_lines [] = []
 json_lines (what ∷ more) = told_bytes what ++ json_lines more
 
+-- what stands on a screen behind one thing more: a drawing takes the place of what stood there, and a refusal leaves it
+abbrev pub screen_after : List ℕ → Told → List ℕ
+screen_after before (Drawn drawing) = screen_bytes drawing.lines
+screen_after before (Refused refusal) = before
+
+-- what stands there behind some things more
+abbrev pub screen_behind : List ℕ → List Told → List ℕ
+screen_behind before [] = before
+screen_behind before (what ∷ more) = screen_behind (screen_after before what) more
+
+-- what stands there behind all that was told; nothing did at first
+abbrev pub screen_text : List Told → List ℕ
+screen_text told = screen_behind [] told
+
 -- what a kind of user interface reports of what it was told
 abbrev pub kind_report : Kind → List Told → List ℕ
 kind_report Json told = json_lines told
 kind_report Silent told = []
+kind_report Screen told = screen_text told
 
 -- what a user interface reports
 abbrev pub report_of : Shown → List ℕ

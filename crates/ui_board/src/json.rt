@@ -3,11 +3,12 @@
 ghost use Rattle.std.specs.Prelude.{◌≡◌, ◌≤◌, [], ◌∷◌, ◌++◌, length, take, IfOk, OnOk, OnErr};
 ghost use Rattle.json_writing.specs.Drawings.{drawing_bytes};
 ghost use Rattle.json_writing.specs.Refusals.{refusal_bytes};
-ghost use Rattle.ui_board.specs.Told.{Json, Drawn, Refused, told_bytes};
+ghost use Rattle.ui_board.specs.declared.ui.Kind.TheVariants.{Json};
+ghost use Rattle.ui_board.specs.Told.{Drawn, Refused, told_bytes};
 ghost use Rattle.ui_board.specs.Notes.{told_of};
 
 use crate::notes::{Note, Notes};
-use crate::ui::Ui;
+use crate::ui::{Kind, Ui};
 use drawings::{Drawing, Refusal};
 use json_writing::{encode_drawing, encode_refusal};
 use std::alloc::{AllocError, Global};
@@ -48,6 +49,10 @@ impl JsonUi {
 
 impl Ui for JsonUi {
     ghost shown = { λ u. record { kind = Json; told = u } };
+
+    fn kind(&self) -> Kind {
+        Kind::Json
+    }
 
     fn is_new(&self) -> bool {
         self.notes.is_empty()

@@ -6,11 +6,13 @@ pub mod board;
 pub mod json;
 pub mod laws;
 mod notes;
+pub mod screen;
 pub mod silent;
 pub mod ui;
 
 pub use board::Board;
 pub use json::JsonUi;
 pub use laws::{reports_add_up, seats_are_apart, worked_examples};
+pub use screen::ScreenUi;
 pub use silent::SilentUi;
-pub use ui::Ui;
+pub use ui::{Kind, Ui};

@@ -1,10 +1,10 @@
 //! The user interface that reports nothing.
 
 ghost use Rattle.std.specs.Prelude.{◌≡◌, []};
-ghost use Rattle.ui_board.specs.Told.{Silent};
+ghost use Rattle.ui_board.specs.declared.ui.Kind.TheVariants.{Silent};
 
 use crate::notes::{Note, Notes};
-use crate::ui::Ui;
+use crate::ui::{Kind, Ui};
 use drawings::{Drawing, Refusal};
 use std::alloc::{AllocError, Global};
 use std::marker::Model;
@@ -38,6 +38,10 @@ impl SilentUi {
 
 impl Ui for SilentUi {
     ghost shown = { λ u. record { kind = Silent; told = u } };
+
+    fn kind(&self) -> Kind {
+        Kind::Silent
+    }
 
     fn is_new(&self) -> bool {
         self.notes.is_empty()

@@ -6,10 +6,25 @@ ghost use Rattle.ui_board.specs.Told.{Shown, Drawn, Refused, telling, report_of}
 use drawings::{Drawing, Refusal};
 use std::alloc::{AllocError, Global};
 
+/// The kinds of user interfaces.
+#[derive(Clone, Copy, PartialEq, Eq, Debug)]
+pub enum Kind {
+    /// It reports the JSON lines of all that it was told.
+    Json,
+    /// It reports nothing.
+    Silent,
+    /// It reports what stands on the screen behind all that it was told.
+    Screen,
+}
+
 /// A user interface, which shows one client what it is told.
 pub trait Ui: Drop {
     // Its kind, and all that it was told, in order.
     ghost shown: { Self → Shown };
+
+    /// Its kind.
+    fn kind(&self) -> Kind
+        ensures { result ≡ (shown self.now).kind };
 
     /// Whether it was told nothing yet.
     fn is_new(&self) -> bool
@@ -33,6 +48,10 @@ pub trait Ui: Drop {
 /// A box is the user interface in it.
 impl Ui for Box<dyn Ui> {
     ghost shown = { λ ui. (Ui-box ui).shown ui.value };
+
+    fn kind(&self) -> Kind {
+        (**self).kind()
+    }
 
     fn is_new(&self) -> bool {
         (**self).is_new()

@@ -1,7 +1,7 @@
 //! A session's socket: how it is made so that nobody but its owner ever may connect, and how it goes.
 
-use crate::link::is_pause;
 use crate::paths::Paths;
+use crate::pausing::is_pause;
 use mio::net::{UnixListener, UnixStream};
 use mio::{Events, Interest, Poll, Token};
 use std::alloc::Global;

@@ -6,6 +6,8 @@ pub mod acceptor;
 mod door;
 pub mod link;
 mod paths;
+pub mod pausing;
 
 pub use acceptor::UnixAcceptor;
 pub use link::{ClosedLink, StreamLink, UnixLink};
+pub use pausing::PausingRead;

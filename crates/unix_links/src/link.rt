@@ -5,10 +5,11 @@ ghost use Rattle.kak_ports.specs.Ports.{Puts};
 ghost use Rattle.client_links.specs.Wires.{IsFresh};
 ghost use Rattle.unix_links.specs.Streams.{told_since, StaysTold, faultless_outlet, stream_wire};
 
+use crate::pausing::{PausingRead, is_pause};
 use client_links::{Heard, Link};
 use kak_ports::Put;
 use std::io;
-use std::io::{ErrorKind, Read, Write};
+use std::io::{Read, Write};
 use std::os::unix::net::UnixStream;
 use std::snapshot::Snapshot;
 use std::sync::Wait;
@@ -36,7 +37,8 @@ pub struct ClosedLink<R, W> {
 }
 
 /// A connection: what the reader gives is received, and what is sent is written by the writer. It tells what they tell,
-/// which for the directions of a socket is nothing. They are dropped, and so closed, where the link is.
+/// which for the directions of a socket is nothing. They are dropped, and so closed, where the link is. It is a link where
+/// the reader makes its caller wait only before its end (`PausingRead`).
 #[derive(Drop)]
 pub struct StreamLink<R: Read, W: Write> {
     reader: R,
@@ -51,14 +53,6 @@ pub struct StreamLink<R: Read, W: Write> {
 
 /// A connection over a Unix socket.
 pub type UnixLink = StreamLink<UnixStream, UnixStream>;
-
-// Whether a call would have had to wait for longer, which is no fault.
-pub(crate) fn is_pause(error: &io::Error) -> bool {
-    matches!(
-        error.kind(),
-        ErrorKind::WouldBlock | ErrorKind::TimedOut | ErrorKind::Interrupted
-    )
-}
 
 // The bytes behind the first `count`.
 fn all_after(bytes: &[u8], count: usize) -> &[u8]
@@ -85,7 +79,7 @@ fn write_all<W: Write>(writer: &mut W, bytes: &[u8]) -> Put
     Put::Done
 }
 
-impl<R: Read + Drop, W: Write + Drop> StreamLink<R, W> {
+impl<R: PausingRead + Drop, W: Write + Drop> StreamLink<R, W> {
     /// A link over a reader and a writer, which has not failed yet.
     pub fn new(reader: R, writer: W) -> StreamLink<R, W>
         ensures left { (⟦<StreamLink<R, W> as Link>⟧.wire result).left ≡ R.remaining reader }
@@ -104,7 +98,7 @@ impl<R: Read + Drop, W: Write + Drop> StreamLink<R, W> {
     }
 }
 
-impl<R: Read + Drop, W: Write + Drop> Link for StreamLink<R, W> {
+impl<R: PausingRead + Drop, W: Write + Drop> Link for StreamLink<R, W> {
     type Spent = ClosedLink<R, W>;
 
     ghost wire = { λ link. stream_wire (told_since (R.remaining link.first_reader.value) (R.remaining link.reader)) (told_since (W.contents link.first_writer.value) (W.contents link.writer)) link.read_faults link.send_faults };
@@ -112,7 +106,7 @@ impl<R: Read + Drop, W: Write + Drop> Link for StreamLink<R, W> {
     ghost spent = { λ closed. stream_wire (told_since (R.remaining closed.first_reader.value) (R.remaining closed.reader.value)) (told_since (W.contents closed.first_writer.value) (W.contents closed.writer.value)) closed.read_faults closed.send_faults };
 
     fn recv<H: Wait>(&mut self, _rt: &H, into: &mut [u8]) -> Heard {
-        match self.reader.read(into) {
+        match self.reader.read_or_pause(into) {
             Ok(0) => Heard::End,
             Ok(count) => Heard::Got(count),
             Err(error) if is_pause(&error) => Heard::Idle,

@@ -50,7 +50,7 @@ returns c =
     ∙ ap₂ (λ a m. line_of (mode_shown c.buffer_name.result.now a m sels c.number.result)) c.find_cursor-main.ensures.at is_mode
     ∙ ap₂ (λ b n. line_of (mode_shown b (main_cursor text sels) mode sels n)) c.buffer_name.ensures c.number.ensures in
     let cursor : c.in_ok-cursor_of.field-0 ≡ cursor_drawn tabstop mode (main_cursor text sels).line (main_column tabstop text sels) (view_of who flat) (purpose_of who flat) (prompt_of who flat) =
-    c.in_ok-cursor_of.ensures
+    c.in_ok-cursor_of.ensures.value
     ∙ ap₂ (λ m (a : Coord). cursor_drawn c.tabstop-tabstop.result m a.line c.find_cursor-main.result.column (window_seen c.window-window.result) c.own-own.result.now.purpose c.own-own.result.now.prompt) is_mode c.find_cursor-main.ensures.at
     ∙ ap₂ (λ k v. cursor_drawn c.tabstop-tabstop.result mode (main_cursor text sels).line k v c.own-own.result.now.purpose c.own-own.result.now.prompt) c.find_cursor-main.ensures.column c.window-window.ensures
     ∙ ap₂ (λ n (o : Own). cursor_drawn n mode (main_cursor text sels).line (main_column tabstop text sels) (view_of who flat) o.purpose o.prompt) c.tabstop-tabstop.ensures.value c.own-own.ensures in

@@ -11,4 +11,4 @@ pub returns-clause-request : goal.returns-clause-request
 returns-clause-request c =
     texts_request-strings c.args.items.now (sym c.are_texts.ensures ∙ c.if-not-are_texts.false)
     ∙ ap keys_request c.in_ok-keys.ensures.keys
-    ∙ ap (λ keys. Ok (Keys keys)) (sym c.from_vec.ensures)
+    ∙ ap (λ keys. Ok (Keys keys)) (sym c.of_vec.ensures)

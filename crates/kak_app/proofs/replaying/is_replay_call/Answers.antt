@@ -1,9 +1,12 @@
-use Rattle.std.proofs.Common.{string_bytes, sym, ◌∙◌}
-use Rattle.kak_app.proofs.ReplayLemmas.{call-fits, call-fails}
+use Rattle.std.proofs.Common.{string_bytes, ◌∙◌}
+use Rattle.kak_app.proofs.ReplayLemmas.{call-fits, call-fails, count-fits}
 use Rattle.kak_app.proofs.replaying.is_replay_call.Goals as goal
 
-pub returns-then-are_kinds : goal.returns-then-are_kinds
-returns-then-are_kinds c = call-fits (λ word. string_bytes word) c.args.words.now c.args.count _ (sym c.if-are_kinds.ensures) c.is_ui_count.ensures
+pub say_kinds-requires : goal.say_kinds-requires
+say_kinds-requires g c = count-fits _ _ c.if-is_ui_count.ensures
 
-pub returns-else-are_kinds : goal.returns-else-are_kinds
-returns-else-are_kinds c = c.if-are_kinds.false ∙ call-fails (λ word. string_bytes word) c.args.words.now c.args.count (sym c.if-are_kinds.ensures)
+pub returns-then-is_ui_count : goal.returns-then-is_ui_count
+returns-then-is_ui_count g c = call-fits (λ word. string_bytes word) (λ ui. (g.U.Ui.shown ui).kind) c.args.words.now c.args.uis.now _ c.if-is_ui_count.ensures c.say_kinds.ensures
+
+pub returns-else-is_ui_count : goal.returns-else-is_ui_count
+returns-else-is_ui_count g c = c.if-is_ui_count.false ∙ call-fails (λ word. string_bytes word) (λ ui. (g.U.Ui.shown ui).kind) c.args.words.now c.args.uis.now c.if-is_ui_count.ensures

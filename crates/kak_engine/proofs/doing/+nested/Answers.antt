@@ -1,7 +1,5 @@
-use Rattle.std.proofs.Common.{rules, ◌≡◌, refl, sym, ap, ◌∙◌, subst, Ok}
-use Rattle.std.specs.Prelude.{encode_utf8_all}
+use Rattle.std.proofs.Common.{rules, refl, sym, ap, ◌∙◌, Ok}
 use Rattle.std.proofs.lemmas.Result.{err_from_is_err_and}
-use Rattle.regex_ports.specs.Making.{IfBuilt}
 use Rattle.kak_world.specs.Flat.{Flat}
 use Rattle.command_set.specs.Rows.{row_command}
 use Rattle.command_set.specs.Files.{row_read, row_saved}
@@ -10,14 +8,14 @@ use Rattle.command_set.proofs.CommandLaws.{command_units, keeps_command}
 use Rattle.command_set.proofs.FileLaws.{read_falls, keeps_read, saved_falls, keeps_saved}
 use Rattle.command_set.proofs.FinishLaws.{finish_falls, keeps_finish}
 use Rattle.kak_engine.specs.Doing.{Do, go_on, top}
-use Rattle.kak_world.specs.declared.ask.Ask.TheVariants.{Nothing, Commands, Leave}
+use Rattle.kak_world.specs.declared.ask.Ask.TheVariants.{Nothing, Commands, Make, Read, Write, Leave}
 use Rattle.kak_world.specs.Rows.{Asks, RowEnd}
 use Rattle.kak_engine.specs.Seen.{moment_of}
 use Rattle.kak_engine.proofs.DoingLemmas.{Do-body}
-use Rattle.kak_engine.proofs.EndLemmas.{ends-by, does-alone, ends-there, row-asks, row-fails, all-read, unread, made-ends, read-ends, write-ends, unit-taken, unit-wanting, unit-joined, joined-row}
+use Rattle.kak_engine.proofs.AskingLaws.{grows-read, grows-do}
+use Rattle.kak_engine.proofs.EndLemmas.{ends-by, does-alone, ends-there, row-asks, row-fails, all-read, unread, ask-unasked, made-ends, made-unkept, read-ends, read-unkept, write-ends, write-unkept, unit-taken, unit-wanting, unit-joined, joined-row}
 use Rattle.kak_engine.proofs.KeepingLaws.{clients-joined}
-use Rattle.kak_engine.proofs.LoopLemmas.{one-more-run, one-failed, one-given-up, all-run}
-use Rattle.kak_engine.proofs.HonestLemmas.{stays-behind}
+use Rattle.kak_engine.proofs.LoopLemmas.{one-more-run, one-failed, one-given-up, one-cut, all-run}
 use Rattle.kak_engine.proofs.StageLemmas.{low-answered, low-taken}
 use Rattle.kak_engine.proofs.doing.+nested.Goals as goal
 
@@ -41,20 +39,30 @@ go_on-returns-in-Err g t c = record { does = rw c.in-Err.is (row-fails c.args.wh
 
 pub make_and_use-go_on-requires : goal.make_and_use-go_on-requires
 make_and_use-go_on-requires g t c =
-    let end : RowEnd = row_finish c.args.wanted.then (source_of g.M.P.Pattern.source c.in_ok-made.made) c.args.who c.args.world.now.flat in
-    let low = low-answered c.finish-row.result _ c.finish-row.new.world.flat end c.finish-row.ensures.row (finish_falls c.args.wanted.then (source_of g.M.P.Pattern.source c.in_ok-made.made) c.args.who c.args.world.now.flat) in
+    let end : RowEnd = row_finish c.args.wanted.then (source_of g.O.P.Pattern.source c.in_ok-made.made) c.args.who c.args.world.now.flat in
+    let low = low-answered c.finish-row.result _ c.finish-row.new.world.flat end c.finish-row.ensures.row (finish_falls c.args.wanted.then (source_of g.O.P.Pattern.source c.in_ok-made.made) c.args.who c.args.world.now.flat) in
     let joined = joined-row c.args.who c.finish-row.result c.args.world.now.flat c.finish-row.new.world.flat end c.finish-row.ensures.row
-    (clients-joined _ _ (keeps_finish c.args.wanted.then (source_of g.M.P.Pattern.source c.in_ok-made.made) c.args.who c.args.world.now.flat)) c.requires in
+    (clients-joined _ _ (keeps_finish c.args.wanted.then (source_of g.O.P.Pattern.source c.in_ok-made.made) c.args.who c.args.world.now.flat)) c.requires in
     search rules
 
 pub make_and_use-returns : goal.make_and_use-returns
 make_and_use-returns g t c =
-    let end : RowEnd = row_finish c.args.wanted.then (source_of g.M.P.Pattern.source c.in_ok-made.made) c.args.who c.args.world.now.flat in
+    let end : RowEnd = row_finish c.args.wanted.then (source_of g.O.P.Pattern.source c.in_ok-made.made) c.args.who c.args.world.now.flat in
     record {
-      does = made-ends c.args.who c.args.wanted g.M.P.Pattern.source c.in_ok-made.made c.go_on.result c.args.world.now.flat _ _ _ _ _
-          (subst (λ text. IfBuilt c.in_ok-made.made (λ p. g.M.P.Pattern.source p ≡ encode_utf8_all text)) c.as_slice.ensures (c.in_ok-made.ensures.built))
-          c.in_ok-made.ensures.honest c.in_ok-made.ensures.kept (c.go_on.ensures.does c.args.world.now.flat end c.finish-row.ensures.row);
+      does = made-ends c.args.who c.args.wanted _ g.O.P.Pattern.source c.in_ok-made.made _ c.go_on.result c.args.world.now.flat _ _ _ _ _ c.as_slice.ensures c.made_told.ensures c.in_ok-made.ensures.built c.in_ok-made.ensures.honest c.in_ok-push.ensures.ok
+          (c.go_on.ensures.does c.args.world.now.flat end c.finish-row.ensures.row);
     }
+
+-- where the outside wasn't asked, and where it was and its answer couldn't be kept
+pub make_and_use-returns-in_err-made : goal.make_and_use-returns-in_err-made
+make_and_use-returns-in_err-made g t c =
+    let p = err_from_is_err_and c.from_residual.result c.from_residual.ensures.1 in
+    record { does = rw p.1 (ask-unasked c.args.who (Make c.args.wanted) _ _ c.in_err-made.ensures.err) }
+
+pub make_and_use-returns-in_err-push : goal.make_and_use-returns-in_err-push
+make_and_use-returns-in_err-push g t c =
+    let p = err_from_is_err_and c.from_residual-in_err-push.result c.from_residual-in_err-push.ensures.1 in
+    record { does = rw p.1 (made-unkept c.args.who c.args.wanted _ g.O.P.Pattern.source c.in_ok-made.made c.args.world.now.flat _ _ _ c.as_slice.ensures c.in_ok-made.ensures.built c.in_ok-made.ensures.honest) }
 
 pub run_one-go_on-requires : goal.run_one-go_on-requires
 run_one-go_on-requires g t c =
@@ -84,7 +92,10 @@ pub run_text-returns-in-Ok : goal.run_text-returns-in-Ok
 run_text-returns-in-Ok g t c = record { does = all-read (Do c.args.who) c.args.who _ _ c.run_each.result _ _ (c.in-Ok.ensures.commands ∙ ap Ok (sym c.as_slice.ensures.value)) c.run_each.ensures.does }
 
 pub run_text-returns-in-Err : goal.run_text-returns-in-Err
-run_text-returns-in-Err g t c = record { does = unread (Do c.args.who) c.args.who _ c.in-Err.error c.ending_of.result _ _ _ c.in-Err.ensures.why c.ending_of.ensures.ends c.ending_of.ensures.memory }
+run_text-returns-in-Err g t c = record {
+  does = unread (Do c.args.who) c.args.who _ c.in-Err.error c.ending_of.result _ _ _ c.in-Err.ensures.why c.ending_of.ensures.ends c.ending_of.ensures.memory
+      (grows-read (Do c.args.who) c.args.who top _ (grows-do c.args.who));
+}
 
 pub read_and_show-go_on-requires : goal.read_and_show-go_on-requires
 read_and_show-go_on-requires g t c =
@@ -99,6 +110,16 @@ read_and_show-returns g t c = record {
       (c.go_on.ensures.does c.args.world.now.flat _ c.open_read-row.ensures.row);
 }
 
+pub read_and_show-returns-in_err-read : goal.read_and_show-returns-in_err-read
+read_and_show-returns-in_err-read g t c =
+    let p = err_from_is_err_and c.from_residual.result c.from_residual.ensures.1 in
+    record { does = rw p.1 (ask-unasked c.args.who (Read c.args.name) _ _ c.in_err-read.ensures.err) }
+
+pub read_and_show-returns-in_err-push : goal.read_and_show-returns-in_err-push
+read_and_show-returns-in_err-push g t c =
+    let p = err_from_is_err_and c.from_residual-in_err-push.result c.from_residual-in_err-push.ensures.1 in
+    record { does = rw p.1 (read-unkept c.args.who c.args.name _ c.in_ok-read.read c.args.world.now.flat _ _ _ c.as_str.ensures c.in_ok-read.ensures.honest) }
+
 pub write_and_note-go_on-requires : goal.write_and_note-go_on-requires
 write_and_note-go_on-requires g t c =
     let end : RowEnd = row_saved c.args.saving c.in_ok-put.put c.args.who c.args.world.now.flat in
@@ -107,7 +128,19 @@ write_and_note-go_on-requires g t c =
     search rules
 
 pub write_and_note-returns : goal.write_and_note-returns
-write_and_note-returns g t c = record { does = write-ends c.args.who c.args.saving c.in_ok-put.put c.go_on.result c.args.world.now.flat _ _ _ _ _ c.in_ok-put.ensures.honest c.in_ok-put.ensures.kept (c.go_on.ensures.does c.args.world.now.flat _ c.note_saved-row.ensures.row) }
+write_and_note-returns g t c = record {
+  does = write-ends c.args.who c.args.saving c.in_ok-put.put _ c.go_on.result c.args.world.now.flat _ _ _ _ _ c.put_told.ensures c.in_ok-put.ensures.honest c.in_ok-push.ensures.ok (c.go_on.ensures.does c.args.world.now.flat _ c.note_saved-row.ensures.row);
+}
+
+pub write_and_note-returns-in_err-put : goal.write_and_note-returns-in_err-put
+write_and_note-returns-in_err-put g t c =
+    let p = err_from_is_err_and c.from_residual.result c.from_residual.ensures.1 in
+    record { does = rw p.1 (ask-unasked c.args.who (Write c.args.saving) _ _ c.in_err-put.ensures.err) }
+
+pub write_and_note-returns-in_err-push : goal.write_and_note-returns-in_err-push
+write_and_note-returns-in_err-push g t c =
+    let p = err_from_is_err_and c.from_residual-in_err-push.result c.from_residual-in_err-push.ensures.1 in
+    record { does = rw p.1 (write-unkept c.args.who c.args.saving c.in_ok-put.put c.args.world.now.flat _ _ _ c.in_ok-put.ensures.honest) }
 
 pub run_each-loop-command-preserved : goal.run_each-loop-command-preserved
 run_each-loop-command-preserved g t c = one-more-run c.args.who c.args.commands.now c.loop-command.command-index _ _ _ _ _ _ c.command-item.is c.loop-command-test.true c.loop-command.invariant c.in-Fine.is c.in_ok-run_one.ensures.does
@@ -128,4 +161,4 @@ run_each-returns g t c = record { does = all-run c.args.who c.args.commands.now 
 pub run_each-returns-in_err-run_one : goal.run_each-returns-in_err-run_one
 run_each-returns-in_err-run_one g t c =
     let p = err_from_is_err_and c.from_residual.result c.from_residual.ensures.1 in
-    record { does = rw p.1 (stays-behind _ _ _ c.loop-command.invariant.leads.stays c.in_err-run_one.ensures.does) }
+    record { does = rw p.1 (one-cut c.args.who c.args.commands.now c.loop-command.command-index _ _ _ _ _ c.command-item.is c.loop-command-test.true c.loop-command.invariant c.in_err-run_one.ensures.does) }

@@ -32,4 +32,4 @@ decreases-go_on g l = measure_of l.row (units_of l.world.now.flat)
 
 -- the commands so far were run, and ended well
 abbrev pub invariant-run_each-loop-command : goal.invariant-run_each-loop-command
-invariant-run_each-loop-command g l = AreRun l.who l.commands l.command-index (under_way l.fn.world.flat l.fn.answers l.fn.outside) (under_way l.world.flat l.answers l.outside)
+invariant-run_each-loop-command g l = AreRun l.who l.commands l.command-index (under_way l.fn.world.flat l.fn.answers (g.O.Outside.seen l.fn.outside)) (under_way l.world.flat l.answers (g.O.Outside.seen l.outside))

@@ -1,4 +1,5 @@
-use Rattle.kak_engine.proofs.KeyLemmas.{after-struck, asked-struck, honest-struck}
+use Rattle.buffer_store.proofs.MakingLemmas.{on_any}
+use Rattle.kak_engine.proofs.KeyLemmas.{after-struck, asked-struck, honest-struck, cut-struck, cut-told}
 use Rattle.kak_engine.proofs.engine.run_struck.Goals as goal
 
 pub returns-clause-leads : goal.returns-clause-leads
@@ -10,3 +11,10 @@ returns-clause-asked g c = asked-struck c.args.who c.args.key c.args.world.now.f
 
 pub returns-clause-honest : goal.returns-clause-honest
 returns-clause-honest g c = honest-struck c.args.who c.args.key c.args.world.now.flat c.begin.new.world.flat _ _ _ c.in_ok-ending.ending c.requires.stays c.begin.ensures c.requires.fresh c.in_ok-ending.ensures.does
+
+pub returns-in_err-ending-clause-cut : goal.returns-in_err-ending-clause-cut
+returns-in_err-ending-clause-cut g c = on_any c.from_residual.result _ (cut-struck c.args.who c.args.key c.args.world.now.flat c.begin.new.world.flat _ _ _ c.requires.stays c.begin.ensures c.in_err-ending.ensures.does)
+
+pub returns-in_err-tell-clause-cut : goal.returns-in_err-tell-clause-cut
+returns-in_err-tell-clause-cut g c =
+    on_any c.from_residual-in_err-tell.result _ (cut-told c.args.who c.args.key c.args.world.now.flat c.begin.new.world.flat _ _ _ c.in_ok-ending.ending c.requires.stays c.begin.ensures c.requires.fresh c.in_ok-ending.ensures.does)

@@ -1,6 +1,12 @@
+use Rattle.std.proofs.lemmas.Result.{err_from_is_err_and}
 use Rattle.session_lines.proofs.StayingLemmas.{unseen-same}
-use Rattle.session_lines.proofs.ConnectionLemmas.{opening-left, opened-played}
+use Rattle.session_lines.proofs.ConnectionLemmas.{opening-stopped, opening-left, opened-played}
 use Rattle.session_lines.proofs.connection.play_connection.Goals as goal
+
+pub returns-in_err-open-clause-plays : goal.returns-in_err-open-clause-plays
+returns-in_err-open-clause-plays g c =
+    let p = err_from_is_err_and c.from_residual.result c.from_residual.ensures.1 in
+    rw (p.1, p.2) ((opening-stopped _ _ _ _ _ _ _ _ c.in_err-open.ensures.serves).0)
 
 pub returns-then-branch-clause-plays : goal.returns-then-branch-clause-plays
 returns-then-branch-clause-plays g c = (opening-left _ _ _ _ _ _ _ _ c.if-branch.true c.in_ok-open.ensures.serves).0

@@ -1,5 +1,5 @@
 use Rattle.std.proofs.Common.{◌≡◌, ◌≤◌, ℕ, List, length}
-use Rattle.ui_board.specs.Told.{Kind}
+use Rattle.ui_board.specs.declared.ui.Kind.{Kind}
 use Rattle.ui_board.specs.contracts.ui.BoxDynUiUi.TheImpl.{shown-value}
 use Rattle.session_turns.specs.Growth.{Begins, How}
 use Rattle.session_events.specs.declared.event.Entry.{Entry}

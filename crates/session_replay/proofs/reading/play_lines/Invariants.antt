@@ -1,5 +1,5 @@
 use Rattle.std.proofs.Common.{◌+◌, ◌-◌, ◌≡◌, List, [], length}
-use Rattle.ui_board.specs.Told.{Kind}
+use Rattle.ui_board.specs.declared.ui.Kind.{Kind}
 use Rattle.ui_board.specs.contracts.ui.BoxDynUiUi.TheImpl.{shown-value}
 use Rattle.line_reading.specs.declared.limits.TheConstants.{MAX_INPUT}
 use Rattle.session_events.specs.Seats.{IsLegalSeat}

@@ -1,13 +1,13 @@
 use Rattle.std.proofs.Common.{List, refl, sym, ap, ◌∙◌}
 use Rattle.std.proofs.lemmas.List.{length-map}
-use Rattle.ui_board.specs.Told.{Kind}
+use Rattle.ui_board.specs.declared.ui.Kind.{Kind}
 use Rattle.ui_board.specs.contracts.ui.BoxDynUiUi.TheImpl.{shown-value}
 use Rattle.session_replay.specs.Players.{kinds_of}
 use Rattle.session_replay.proofs.AnswerLemmas.{played-replayed, nothing-replayed}
 use Rattle.session_replay.proofs.replaying.replay_session.Goals as goal
 
 pub returns-in-Err-clause-replayed : goal.returns-in-Err-clause-replayed
-returns-in-Err-clause-replayed g c = nothing-replayed _ _ _ _ _ _ (ap (λ q. (g.S.Seat.seated q).seen) c.in-Err.ensures.back ∙ c.requires.new)
+returns-in-Err-clause-replayed g c = nothing-replayed _ _ _ _ _ _ _ (ap (λ q. (g.S.Seat.seated q).seen) c.in-Err.ensures.back ∙ c.requires.new)
 
 pub returns-clause-replayed : goal.returns-clause-replayed
 returns-clause-replayed g c =

@@ -1,50 +1,67 @@
-use Rattle.std.proofs.Common.{◌≡◌, ⊎_elim, ◌⊎◌, inl, inr, Bool, true, false, List, [], ◌∷◌, ◌++◌, refl, ap, sym, ◌∙◌}
+use Rattle.std.proofs.Common.{◌≡◌, ◌<◌, ℕ, ⊎_elim, ◌⊎◌, inl, inr, true, false, List, [], ◌∷◌, ◌++◌, Option, Some, None, refl, ap, ◌∙◌, arith}
+use Rattle.std.specs.Prelude.{if◌then◌else◌}
 use Rattle.std.specs.Str.{chars}
 use Rattle.session_events.specs.declared.event.Event.{Event}
-use Rattle.session_events.specs.declared.event.Event.TheVariants.{Join, Refresh, Leave}
-use Rattle.session_events.specs.Entries.{is_leave}
-use Rattle.session_events.specs.Meaning.{rules}
-use Rattle.link_lines.specs.Endings.{NeverCame}
+use Rattle.session_events.specs.declared.event.Event.TheVariants.{Join, Leave}
+use Rattle.session_events.specs.declared.event.Answered.{Answered}
+use Rattle.session_events.specs.declared.event.Entry.{Entry}
+use Rattle.session_events.specs.Entries.{entry_with, is_leave}
+use Rattle.link_lines.specs.Endings.{EndsInLeaving, NeverCame}
+use Rattle.session_lines.specs.Stops.{IsFull}
 use Rattle.kak_world.specs.Flat.{joined_by, left_by_client, with_own, with_view, with_list_of}
 use Rattle.kak_engine.specs.Steps.{given_by}
-use Rattle.session_server.specs.Rows.{LeavesLast}
-use Rattle.session_server.specs.RowExamples.{one_went}
+use Rattle.session_server.specs.Rows.{seat_by}
+use Rattle.session_server.specs.RowExamples.{both_came, one_went, behind}
 use Rattle.session_server.proofs.examples.row_examples.Goals as goal
 
--- whether the last of some events is a leaving
-abbrev ends_leaving : List Event → Bool
-ends_leaving [] = false
-ends_leaving (event ∷ []) = is_leave event
-ends_leaving (event ∷ next ∷ events) = ends_leaving (next ∷ events)
+-- who left by the last of some entries, if that is a leaving
+abbrev who_left_last : List Entry → Option ℕ
+who_left_last [] = None
+who_left_last (entry ∷ []) = if is_leave entry.event then Some entry.who else None
+who_left_last (entry ∷ next ∷ entries) = who_left_last (next ∷ entries)
 
-leaving-last : (before : List Event) → ends_leaving (before ++ Leave ∷ []) ≡ true
-leaving-last [] = refl
-leaving-last (event ∷ []) = refl
-leaving-last (event ∷ next ∷ events) = leaving-last (next ∷ events)
+leaving-last : (before : List Entry) (who : ℕ) (answers : List Answered) → who_left_last (before ++ entry_with who Leave answers ∷ []) ≡ Some who
+leaving-last [] who answers = refl
+leaving-last (entry ∷ []) who answers = refl
+leaving-last (entry ∷ next ∷ entries) who answers = leaving-last (next ∷ entries) who answers
 
-not_left : (events before : List Event) → ends_leaving events ≡ false → events ≡ before ++ Leave ∷ [] → ⊥
-not_left events before here e = let h : false ≡ true = sym here ∙ ap ends_leaving e ∙ leaving-last before in cc
+last-is : (who : ℕ) (history : List Entry) → EndsInLeaving who history → who_left_last history ≡ Some who
+last-is who history e = ap who_left_last e.stands ∙ leaving-last e.before who e.answers
+
+none_is : (who : ℕ) → ◌≡◌ {A = Option ℕ} None (Some who) → ⊥
+none_is who e = cc
+
+zero_is : ◌≡◌ {A = Option ℕ} (Some 0) (Some 1) → ⊥
+zero_is e = cc
 
 not_none : (events : List Event) → Join ∷ events ≡ [] → ⊥
 not_none events e = cc
+
+not_filled : (4 < 4) ⊎ (NeverCame given_by 0 one_went × IsFull (seat_by 4 0 one_went None)) → ⊥
+not_filled room = ⊎_elim (λ (l : 4 < 4). absurd (omega (arith, l))) (λ (n : NeverCame given_by 0 one_went × IsFull (seat_by 4 0 one_went None)). not_none _ n.0) room
 
 pub returns : goal.returns
 unfolding chars joined_by left_by_client with_own with_view with_list_of
 returns c = record {
   file = refl;
   no_file = refl;
-  left = record { before = Join ∷ Refresh true ∷ []; stands = refl };
-  here = λ l. not_left (Join ∷ Refresh true ∷ []) l.before refl l.stands;
-  other_here = λ l. not_left (Join ∷ []) l.before refl l.stands;
+  left = record { before = both_came; answers = []; stands = refl };
+  others = refl;
+  here = λ l. none_is 0 (last-is 0 both_came l);
+  other_here = λ l. zero_is (last-is 1 one_went l);
+  others_in_front = λ l. none_is 0 (last-is 0 (one_went ++ behind) l);
   no_room = refl;
   came_though_full = λ n. not_none [] n;
-  full = inl (record { before = Join ∷ Refresh true ∷ []; stands = refl });
+  full = inl (record { before = both_came; answers = []; stands = refl });
   full_never_came = inr refl;
-  full_here = λ l. ⊎_elim (λ (e : LeavesLast 1 one_went). not_left (Join ∷ []) e.before refl e.stands) (λ (n : NeverCame given_by 1 one_went). not_none [] n) l;
+  full_here = λ l. ⊎_elim (λ (e : EndsInLeaving 1 one_went). zero_is (last-is 1 one_went e)) (λ (n : NeverCame given_by 1 one_went). not_none [] n) l;
   last_place = refl;
   no_place = refl;
   place_again = refl;
   refused = λ link. (refl, refl);
-  refused_early = λ link f. let no : false ≡ true = f.0 in cc;
-  broken = tt;
+  refused_later = λ link f. let no : false ≡ true = f.0 in cc;
+  broken = λ link. (refl, inl (refl, refl));
+  broken_later = λ link f. none_is 3 f.0;
+  filled = λ link. (inl (omega arith), (refl, refl));
+  filled_later = λ link f. not_filled f.0;
 }

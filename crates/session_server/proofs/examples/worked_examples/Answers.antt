@@ -1,10 +1,15 @@
-use Rattle.std.proofs.Common.{◌≡◌, ◌<◌, ℕ, true, List, [], ◌∷◌, ◌++◌, Option, Some, None, refl, ap, sym, ◌∙◌, arith, subst}
-use Rattle.session_desk.specs.Histories.{StartsWith}
+use Rattle.std.proofs.Common.{◌≡◌, ◌⊎◌, inl, inr, ℕ, Bool, true, false, List, [], ◌∷◌, ◌++◌, Option, Some, None, refl, sym, arith, subst, ◌==◌}
+use Rattle.std.specs.Prelude.{if◌then◌else◌}
+use Rattle.std.proofs.lemmas.Bool.{eqb-true}
+use Rattle.session_turns.specs.Histories.{own}
+use Rattle.session_events.specs.declared.event.Event.{Event}
 use Rattle.session_events.specs.declared.event.Event.TheVariants.{Join, Refresh, Leave}
 use Rattle.session_events.specs.declared.event.Entry.{Entry}
 use Rattle.session_events.specs.Entries.{entry_of}
-use Rattle.engine_desk.specs.Counting.{joined_among, comings}
-use Rattle.session_server.specs.Sessions.{AllWent, WasDeserted}
+use Rattle.session_events.specs.Meaning.{rules}
+use Rattle.kak_engine.specs.Steps.{given_by}
+use Rattle.session_events.specs.Counting.{joined_among}
+use Rattle.session_server.specs.Sessions.{AllWent}
 use Rattle.session_server.specs.Examples.{came, went}
 use Rattle.session_server.proofs.examples.worked_examples.Goals as goal
 
@@ -25,6 +30,24 @@ never (a ∷ b ∷ c ∷ front) rest e w =
     let behind : ◌≡◌ {A = List Entry} [] (c ∷ (front ++ rest)) = cc in
     cc
 
+-- what is a client's own of those who had come when it was over, by whether it is client 0
+abbrev last_of : Bool → List Event
+last_of t = if t then Leave ∷ [] else []
+
+abbrev drawn_of : Bool → List Event
+drawn_of t = if t then Refresh true ∷ last_of t else last_of t
+
+abbrev own_of : Bool → List Event
+own_of t = if t then Join ∷ drawn_of t else drawn_of t
+
+-- who had come then is another one than who comes behind that
+another : (who : ℕ) → (own (rules given_by) who went ≡ []) ⊎ (own (rules given_by) who (entry_of 1 Join ∷ []) ≡ [])
+another who = by (0 == who) refl
+  where
+    by : (t : Bool) → (0 == who) ≡ t → (own_of t ≡ []) ⊎ (own (rules given_by) who (entry_of 1 Join ∷ []) ≡ [])
+    by true e = inr (subst (λ k. own (rules given_by) k (entry_of 1 Join ∷ []) ≡ []) (eqb-true 0 who e) refl)
+    by false e = inl refl
+
 none_is : (at : ℕ) → ◌≡◌ {A = Option ℕ} (Some at) None → ⊥
 none_is at e = cc
 
@@ -34,7 +57,7 @@ returns c = record {
   not_begun = λ w. absurd (omega (arith, w.came));
   still_here = λ w. absurd (omega (arith, w.none));
   here_again = λ w. absurd (omega (arith, w.none));
-  was_over = record { front = went; begins = (entry_of 1 Join ∷ [], refl); went = record { came = omega arith; none = refl } };
+  was_over = record { front = went; begins = (entry_of 1 Join ∷ [], refl); went = record { came = omega arith; none = refl }; alone = another };
   never_over = λ d. never d.front d.begins.0 d.begins.1 d.went;
   looked_over = record { came = omega arith; none = refl };
   looked_broken = refl;

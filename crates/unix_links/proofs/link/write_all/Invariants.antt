@@ -1,4 +1,4 @@
-use Rattle.std.proofs.Common.{ℕ, ◌+◌, ◌-◌, length}
+use Rattle.std.proofs.Common.{◌+◌, ◌-◌, length}
 use Rattle.kak_ports.proofs.Writing.{Written}
 use Rattle.unix_links.proofs.link.write_all.Given as goal
 

@@ -4,11 +4,14 @@ use Rattle.session_events.specs.Seats.{IsIn, Sees, Steps, Refuses}
 use Rattle.kak_engine.specs.Steps.{given_by, crowded_by}
 use Rattle.engine_desk.specs.Sitting.{DeskSeated, desk_seat_of}
 use Rattle.engine_desk.proofs.SeatLemmas.{at_desk, seat-steps, desk-taken, refused-sees, refused-stays}
-use Rattle.engine_desk.proofs.RefusalLemmas.{seat-refused}
+use Rattle.engine_desk.proofs.RefusalLemmas.{seat-refused, desk-refused}
 use Rattle.engine_desk.proofs.seat.DeskSeatSeat.step.Goals as goal
 
 pub invariant_of-self : goal.invariant_of-self
-invariant_of-self g c = desk-taken c.self.inside.desk.now c.self.inside.pass c.step.new.pass c.self.inside.told c.args.event c.in-Ok.output c.misses.result c.self.invariant c.in-Ok.ensures.same c.in-Ok.ensures.ok c.misses.ensures
+invariant_of-self g c = desk-taken c.self.inside.desk.now c.self.inside.pass c.step.new.pass c.self.inside.first.value.seen c.self.inside.told c.args.event c.in-Ok.output c.misses.result c.self.invariant c.in-Ok.ensures.same c.in-Ok.ensures.ok c.misses.ensures
+
+pub invariant_of-self-in-Err : goal.invariant_of-self-in-Err
+invariant_of-self-in-Err g c = desk-refused c.self.inside.desk.now c.self.inside.pass c.step.new.pass c.self.inside.first.value.seen c.self.inside.told c.told_by-self-inside.result c.args.event c.in-Err.fault c.seen.result c.self.invariant c.in-Err.ensures.same c.in-Err.ensures.fault c.seen.ensures c.told_by-self-inside.ensures
 
 pub returns-in-Ok-clause-ok : goal.returns-in-Ok-clause-ok
 returns-in-Ok-clause-ok g c =

@@ -17,14 +17,14 @@ pub invariant_of-self : goal.invariant_of-self
 invariant_of-self g c =
     let x = c.self.inside.engine in let y = c.step.new.self in
     let free = granted c.args.who c.args.mv x y c.in-Ok.output c.in-Ok.ensures.refused in (
-      step-honest _ c.args.who c.args.mv x y c.self.invariant.0 c.step.result c.step.ensures.refused c.step.ensures.answered c.step.ensures.takes c.step.ensures.err c.step.ensures.mark,
+      step-honest _ c.args.who c.args.mv x y c.self.invariant.0 c.step.result c.step.ensures.refused c.step.ensures.answered c.step.ensures.takes c.step.ensures.err c.step.ensures.cut c.step.ensures.mark,
       beside-taken x y _ _ _ _ c.self.invariant.1 c.args.who c.args.mv c.in-Ok.ensures.takes.answers free c.in-Ok.ensures.takes.keeps c.in-Ok.ensures.mark _ _ _ c.note.ensures.here c.note.ensures.room c.note.ensures.joins,
     )
 
 pub invariant_of-self-in-Err : goal.invariant_of-self-in-Err
 invariant_of-self-in-Err g c =
     let x = c.self.inside.engine in let y = c.step.new.self in (
-      step-honest _ c.args.who c.args.mv x y c.self.invariant.0 c.step.result c.step.ensures.refused c.step.ensures.answered c.step.ensures.takes c.step.ensures.err c.step.ensures.mark,
-      beside-refused x y _ _ _ _ c.self.invariant.1 _ c.in-Err.ensures.err.0
+      step-honest _ c.args.who c.args.mv x y c.self.invariant.0 c.step.result c.step.ensures.refused c.step.ensures.answered c.step.ensures.takes c.step.ensures.err c.step.ensures.cut c.step.ensures.mark,
+      beside-refused x y _ _ _ _ c.self.invariant.1 _ c.in-Err.ensures.err
           (marks-behind x y c.self.inside.mark c.in-Err.fault c.count-count.result c.in-Err.ensures.mark c.self.invariant.1.mark_is (c.count-count.ensures.exact ∙ ap (λ (s : Shared). length s.engine.history) (sym c.self.view_is)) ∙ sym c.mark_behind-self-inside.ensures),
     )

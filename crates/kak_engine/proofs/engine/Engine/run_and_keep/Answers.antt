@@ -1,7 +1,8 @@
 use Rattle.std.proofs.Common.{◌≡◌, None, [], ◌∷◌, ◌++◌, sym, ◌∙◌, subst, ap, arith}
 use Rattle.session_events.specs.Entries.{entry_with}
 use Rattle.kak_engine.specs.Held.{HeldEngine, refused_at}
-use Rattle.kak_engine.proofs.RunLemmas.{can-step, leaver-joined, stands-more, left-stands, in-more}
+use Rattle.kak_engine.specs.Steps.{run, IsStepCutShort}
+use Rattle.kak_engine.proofs.RunLemmas.{can-step, leaver-joined, stands-more, left-stands, in-more, cut-known}
 use Rattle.kak_engine.proofs.engine.Engine.run_and_keep.Goals as goal
 
 pub keep_leaving-requires-clause-joined : goal.keep_leaving-requires-clause-joined
@@ -37,3 +38,8 @@ returns-in-Ok-clause-joined g c = in-more _ _ _ _ c.args.who c.args.event c.run_
 
 pub returns-in-Ok-clause-legal : goal.returns-in-Ok-clause-legal
 returns-in-Ok-clause-legal g c = (invariant_of-self-in-Ok g c).0.legal
+
+pub returns-in-Err-clause-cut : goal.returns-in-Err-clause-cut
+returns-in-Err-clause-cut g c =
+    subst (λ (h : HeldEngine). IsStepCutShort c.args.who c.args.event (run h.history) h.outside (g.O.Outside.seen c.run_with_places-ran.new.outside)) c.self.view_is
+    (cut-known _ _ _ _ _ c.args.who c.args.event _ _ c.self.invariant.0 (subst (λ (h : HeldEngine). refused_at h.mark h.history h.limit c.args.who c.args.event ≡ None) (sym c.self.view_is) c.requires.allowed) c.in-Err.ensures.cut)

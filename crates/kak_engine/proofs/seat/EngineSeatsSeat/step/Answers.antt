@@ -7,7 +7,7 @@ use Rattle.kak_engine.proofs.SeatingLemmas.{others-same, alone-steps, step-hones
 use Rattle.kak_engine.proofs.seat.EngineSeatsSeat.step.Goals as goal
 
 pub invariant_of-self : goal.invariant_of-self
-invariant_of-self g c = step-honest _ _ c.args.event _ _ c.self.invariant c.step.result c.step.ensures.refused c.step.ensures.answered c.step.ensures.takes c.step.ensures.err c.step.ensures.mark
+invariant_of-self g c = step-honest _ _ c.args.event _ _ c.self.invariant c.step.result c.step.ensures.refused c.step.ensures.answered c.step.ensures.takes c.step.ensures.err c.step.ensures.cut c.step.ensures.mark
 
 pub returns-clause-same : goal.returns-clause-same
 returns-clause-same g c =

@@ -1,13 +1,13 @@
 use Rattle.std.proofs.Common.{refl}
 use Rattle.std.proofs.lemmas.Result.{err_from_is_err_and}
-use Rattle.session_replay.proofs.PlayersLemmas.{held-off, held-others, left-apart, lost-stands}
+use Rattle.session_replay.proofs.PlayersLemmas.{held-off, held-others, lost-stands}
 use Rattle.session_replay.proofs.players.Players.dismiss.Goals as goal
 
 pub returns-clause-off : goal.returns-clause-off
-returns-clause-off g c = held-off _ c.args.self.now.board.seats.items _ c.args.self.now.clients.items c.args.who _ c.requires.inside c.in_ok-report.ensures.gone refl c.in_ok-report.ensures.reports
+returns-clause-off g c = held-off _ c.args.self.now.board.seats.items c.args.self.now.clients.items c.args.who _ c.requires.inside refl c.in_ok-report.ensures.reports
 
 pub returns-clause-others : goal.returns-clause-others
-returns-clause-others g c = held-others _ c.args.self.now.board.seats.items _ c.args.self.now.clients.items c.args.who _ (left-apart c.args.who c.args.self.now.board.seats.items _ c.in_ok-report.ensures.gone)
+returns-clause-others g c = held-others _ c.args.self.now.board.seats.items c.args.self.now.board.seats.items c.args.self.now.clients.items c.args.who _ (λ other differs. refl)
 
 pub returns-in_err-report-clause-lost : goal.returns-in_err-report-clause-lost
 returns-in_err-report-clause-lost g c =

@@ -1,6 +1,7 @@
 use Rattle.std.proofs.Common.{◌≡◌, ◌<◌, ℕ, List, length, get_or, arith}
 use Rattle.std.proofs.lemmas.Result.{err_from_is_err_and}
-use Rattle.ui_board.specs.Told.{Kind, Silent}
+use Rattle.ui_board.specs.declared.ui.Kind.{Kind}
+use Rattle.ui_board.specs.declared.ui.Kind.TheVariants.{Silent}
 use Rattle.session_replay.specs.Written.{lines_for}
 use Rattle.session_replay.proofs.PlayersLemmas.{written-left, written-stayed, written-cut, written-of, written-blank, rest-of}
 use Rattle.session_replay.proofs.players.Players.take_written.Goals as goal
