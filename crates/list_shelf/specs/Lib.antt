@@ -1,0 +1,4 @@
+pub mod Lagging
+pub mod Shelves
+pub mod Laws
+pub mod Examples

@@ -1,0 +1,220 @@
+//! The shelf of the lists on one text.
+
+ghost use Rattle.std.specs.Prelude.{◌≡◌, ◌<◌, ◌≤◌, true, length, take, OnOk, OnErr};
+ghost use Rattle.change_list.specs.Logs.{stamp_of};
+ghost use Rattle.change_list.specs.declared.log.TheConstants.{MAX_STAMP};
+ghost use Rattle.list_shelf.specs.Shelves.{empty_shelf, has_list, row_of, brought_up, with_sels, with_main, listed, unlisted, room_made, noted, all_noted, all_moved, trimmed_shelf, CanStand, CanFollow};
+
+use crate::holder::Holder;
+use crate::lag::Lag;
+use crate::log::SliceLog;
+use crate::rows::{ShelfRow, bring_up, least, move_all, place, renew_all};
+use change_list::MAX_STAMP;
+use selection_set::Sels;
+use std::alloc::{AllocError, Global};
+use std::marker::Model;
+use text_model::Shift;
+
+/// The lists of all holders on one text, each with the stamp at which it stands, and the log of the shifts since the least
+/// of these stamps. Contracts see the log and the lists as they stand; from these each list follows that it would be if it
+/// had been moved at every change.
+#[derive(Drop, Debug)]
+pub struct Shelf {
+    limit: u64,
+    log: SliceLog,
+    rows: Vec<ShelfRow>,
+}
+
+impl Model for Shelf {
+    ghost use Rattle.std.specs.Prelude.{◌<◌, ◌≤◌};
+    ghost use Rattle.change_list.specs.declared.log.TheConstants.{MAX_STAMP};
+    ghost use Rattle.list_shelf.specs.Shelves.{Shelved};
+
+    ghost Value = { Shelved };
+
+    ghost view = { λ s. record { limit = s.limit; log = s.log; rows = s.rows.items } };
+
+    ghost invariant = { λ s. (0 < s.limit) × (s.limit ≤ MAX_STAMP) };
+}
+
+impl Shelf {
+    /// A shelf with nobody's list on it; takes no memory.
+    pub fn new(alloc: Global) -> Shelf
+        ensures { result ≡ empty_shelf MAX_STAMP }
+    {
+        Shelf::with_limit(alloc, MAX_STAMP)
+    }
+
+    /// The same with another stamp at which the log begins again, for trials.
+    pub fn with_limit(alloc: Global, limit: u64) -> Shelf
+        requires some { 0 < limit }
+        requires few { limit ≤ MAX_STAMP }
+        ensures { result ≡ empty_shelf limit }
+    {
+        Shelf {
+            limit,
+            log: SliceLog::new(alloc),
+            rows: Vec::new(alloc),
+        }
+    }
+
+    /// The log of the shifts that some list has yet to go through.
+    pub fn log(&self) -> &SliceLog
+        ensures { result.now ≡ self.now.log }
+    {
+        &self.log
+    }
+
+    /// Whether a holder has a list.
+    pub fn has_list(&self, holder: Holder) -> bool
+        ensures { result ≡ has_list holder self.now }
+    {
+        place(self.rows.as_slice(), holder) < self.rows.len()
+    }
+
+    /// The stamp at which a holder's list stands.
+    pub fn stamp(&self, holder: Holder) -> u64
+        requires { has_list holder self.now ≡ true }
+        ensures { result ≡ (row_of holder self.now).lag.stamp }
+    {
+        let row = &self.rows[place(self.rows.as_slice(), holder)];
+        row.lag.stamp
+    }
+
+    /// A holder's list, which is up to date: no list that lags is handed out.
+    pub fn sels(&self, holder: Holder) -> &Sels
+        requires list { has_list holder self.now ≡ true }
+        requires up { (row_of holder self.now).lag.stamp ≡ stamp_of self.now.log }
+        ensures { result.now ≡ (row_of holder self.now).lag.sels }
+    {
+        let row = &self.rows[place(self.rows.as_slice(), holder)];
+        &row.lag.sels
+    }
+
+    /// Gives a holder another list, of the text as it is now.
+    pub fn set_sels(&mut self, holder: Holder, sels: Sels)
+        requires { has_list holder self.old ≡ true }
+        ensures { self.new ≡ with_sels holder sels self.old }
+    {
+        let now = self.log.stamp();
+        let at = place(self.rows.as_slice(), holder);
+        let row = &mut self.rows[at];
+        row.lag = Lag { stamp: now, sels };
+    }
+
+    /// Makes the n-th selection of a holder's list the main one, where the list is up to date.
+    pub fn set_main(&mut self, holder: Holder, n: usize)
+        requires list { has_list holder self.old ≡ true }
+        requires up { (row_of holder self.old).lag.stamp ≡ stamp_of self.old.log }
+        requires there { n < length (row_of holder self.old).lag.sels.list }
+        ensures { self.new ≡ with_main holder n self.old }
+    {
+        let at = place(self.rows.as_slice(), holder);
+        let row = &mut self.rows[at];
+        row.lag.sels.set_main(n);
+    }
+
+    /// Gives a holder a list of the text as it is now, where it has none. An `Err` leaves the shelf.
+    pub fn add_list(&mut self, holder: Holder, sels: Sels) -> Result<(), AllocError>
+        ensures ok { OnOk result (self.new ≡ listed holder sels self.old) }
+        ensures err { OnErr result (self.new ≡ self.old) }
+    {
+        if place(self.rows.as_slice(), holder) < self.rows.len() {
+            return Ok(());
+        }
+        let now = self.log.stamp();
+        let lag = Lag { stamp: now, sels };
+        self.rows.push(ShelfRow { holder, lag })?;
+        Ok(())
+    }
+
+    /// How many lists there are.
+    pub fn count(&self) -> usize
+        ensures { result ≡ length self.now.rows }
+    {
+        self.rows.len()
+    }
+
+    /// Takes off all lists but the first so many, which came before the others: what was added is taken back. Takes no memory.
+    pub fn keep_first(&mut self, count: usize)
+        ensures { self.new ≡ record self.old { rows = take count self.old.rows } }
+    {
+        self.rows.truncate(count);
+    }
+
+    /// Takes a holder's lists off. Takes no memory.
+    pub fn drop_lists(&mut self, holder: Holder)
+        ensures { self.new ≡ unlisted holder self.old }
+    {
+        self.rows.retain(|row| !holder.is(row.holder));
+    }
+
+    /// Brings a holder's list up to date, where it has one; all other lists and their stamps are left. Takes no memory.
+    pub fn bring_up(&mut self, holder: Holder)
+        requires { CanStand self.old }
+        ensures { self.new ≡ brought_up holder self.old }
+    {
+        bring_up(&mut self.rows, &self.log, holder);
+    }
+
+    // Makes room for one shift more: where the log stands at its limit, all lists are brought up to date, and it begins again.
+    fn make_room(&mut self)
+        requires { CanStand self.old }
+        ensures { self.new ≡ room_made self.old }
+    {
+        if self.log.stamp() < self.limit {
+            return;
+        }
+        renew_all(&mut self.rows, &self.log);
+        self.log.restart();
+    }
+
+    // Notes a shift, the first of some; where memory is wanting, all lists go through all of these in its place.
+    fn note_first(&mut self, first: Shift, shifts: &[Shift]) -> Result<(), AllocError>
+        requires { CanFollow self.old shifts.now }
+        ensures ok { OnOk result (self.new ≡ noted first self.old) }
+        ensures err { OnErr result (self.new ≡ all_moved shifts.now self.old) }
+    {
+        self.make_room();
+        if self.log.push(first).is_err() {
+            self.move_through(shifts);
+            return Err(AllocError);
+        }
+        Ok(())
+    }
+
+    // Brings all lists up to date and through further shifts; the log begins again.
+    fn move_through(&mut self, shifts: &[Shift])
+        requires { CanFollow self.old shifts.now }
+        ensures { self.new ≡ all_moved shifts.now self.old }
+    {
+        renew_all(&mut self.rows, &self.log);
+        self.log.restart();
+        move_all(&mut self.rows, shifts);
+    }
+
+    /// Notes the shifts of changes of the text, one after another. Lists stay where they stand, but where one more shift is
+    /// due and the log stands at its limit: then all lists are brought up to date, and the log begins again. Where memory is
+    /// wanting, no shift is lost either: all lists are brought up to date, through all of the shifts.
+    pub fn note(&mut self, shifts: &[Shift]) -> Result<(), AllocError>
+        requires { CanFollow self.old shifts.now }
+        ensures ok { OnOk result (self.new ≡ all_noted shifts.now self.old) }
+        ensures err { OnErr result (self.new ≡ all_moved shifts.now self.old) }
+    {
+        let mut rest = shifts;
+        while let Some((first, others)) = rest.split_first() {
+            self.note_first(*first, rest)?;
+            rest = others;
+        }
+        Ok(())
+    }
+
+    /// Drops the shifts that no list has yet to go through. Takes no memory.
+    pub fn trim(&mut self)
+        requires { CanStand self.old }
+        ensures { self.new ≡ trimmed_shelf self.old }
+    {
+        let to = least(self.rows.as_slice(), self.log.stamp());
+        self.log.trim(to);
+    }
+}
