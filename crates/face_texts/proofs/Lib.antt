@@ -3,3 +3,4 @@ pub mod LetterLemmas
 pub mod ChainLemmas
 pub mod CoverLemmas
 pub mod NameLemmas
+pub mod CycleLemmas

@@ -7,6 +7,7 @@ use Rattle.face_texts.specs.declared.text.FaceText.{FaceText}
 use Rattle.face_texts.specs.declared.rows.NamedFace.{NamedFace}
 use Rattle.face_texts.specs.Tables.{text_named, chain, shown, seen_named, face_set_in, face_unset_in, based_on}
 use Rattle.face_texts.specs.Given.{standard_name, given}
+use Rattle.face_texts.specs.Histories.{FaceEdit, faces_made}
 use Rattle.face_texts.specs.Palettes.{palette_of, palette_face}
 
 -- the laws of names
@@ -26,3 +27,10 @@ pub record PaletteLaws : Type 0 where
   pub each : (rows : List NamedFace) (face : StandardFace) → palette_face (palette_of rows) face ≡ seen_named rows (standard_name face)
   -- at the start that is the face that it is set to
   pub at_start : (face : StandardFace) → palette_face (palette_of given) face ≡ standard_face face
+
+-- the laws of bases, in each table that is made of the given one
+pub record BaseLaws : Type 0 where
+  -- bases end within as many steps as there are rows: more steps lead no further
+  pub chains_end : (edits : List FaceEdit) (text : FaceText) (more : ℕ) → chain (length (faces_made edits) + more) (faces_made edits) text ≡ chain (length (faces_made edits)) (faces_made edits) text
+  -- a word that is a set name is seen as that name is
+  pub word_is_face : (edits : List FaceEdit) (name : List ℕ) → shown (faces_made edits) (based_on name) ≡ seen_named (faces_made edits) name

@@ -7,5 +7,6 @@ pub mod Tables
 pub mod Given
 pub mod Palettes
 pub mod Covers
+pub mod Histories
 pub mod Laws
 pub mod Examples

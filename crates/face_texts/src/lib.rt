@@ -13,7 +13,7 @@ mod rows;
 mod table;
 mod text;
 
-pub use laws::{names_are_apart, palettes_have_each, worked_examples};
+pub use laws::{bases_end, names_are_apart, palettes_have_each, worked_examples};
 pub use palette::Palette;
 pub use reading::read_face;
 pub use rows::NamedFace;

@@ -1,0 +1,5 @@
+pub mod NameLemmas
+pub mod KeyLemmas
+pub mod HookLemmas
+pub mod RowLemmas
+pub mod ChangeLemmas

@@ -1,0 +1,13 @@
+pub mod Names
+pub mod Whole
+pub mod Hooks
+pub mod Inner
+pub mod Keys
+pub mod Maps
+pub mod Aliases
+pub mod Definitions
+pub mod Rows
+pub mod Gone
+pub mod Refusals
+pub mod Laws
+pub mod Examples

@@ -1,0 +1,59 @@
+//! Scopes that are compared, and those that go together.
+
+ghost use Rattle.std.specs.Prelude.{◌≡◌};
+ghost use Rattle.scope_options.specs.Scopes.{is_same_scope, is_of_client, is_of_buffer};
+ghost use Rattle.scope_tables.specs.Gone.{is_gone};
+
+use scope_options::Scope;
+
+/// What goes: a scope, the windows of a client, or a buffer with the windows on it.
+#[derive(Clone, Copy)]
+pub(crate) enum Gone {
+    At(Scope),
+    OfClient(u32),
+    OfBuffer(u32),
+}
+
+/// Whether two scopes are one.
+pub(crate) fn is_same_scope(a: Scope, b: Scope) -> bool
+    ensures { result ≡ is_same_scope a b }
+{
+    match (a, b) {
+        (Scope::Global, Scope::Global) => true,
+        (Scope::Buffer(m), Scope::Buffer(n)) => m == n,
+        (Scope::Window(k, m), Scope::Window(l, n)) => k == l && m == n,
+        _ => false,
+    }
+}
+
+// Whether a scope is a window of a client.
+fn is_of_client(scope: Scope, client: u32) -> bool
+    ensures { result ≡ is_of_client client scope }
+{
+    match scope {
+        Scope::Window(who, _) => who == client,
+        _ => false,
+    }
+}
+
+// Whether a scope is a buffer, or a window on it.
+fn is_of_buffer(scope: Scope, buffer: u32) -> bool
+    ensures { result ≡ is_of_buffer buffer scope }
+{
+    match scope {
+        Scope::Global => false,
+        Scope::Buffer(n) => n == buffer,
+        Scope::Window(_, n) => n == buffer,
+    }
+}
+
+/// Whether a scope is of what goes.
+pub(crate) fn is_gone(scope: Scope, gone: Gone) -> bool
+    ensures { result ≡ is_gone gone scope }
+{
+    match gone {
+        Gone::At(own) => is_same_scope(scope, own),
+        Gone::OfClient(client) => is_of_client(scope, client),
+        Gone::OfBuffer(buffer) => is_of_buffer(scope, buffer),
+    }
+}
