@@ -35,7 +35,7 @@ fn words_give_their_order_or_the_error(rt: HostRuntime) -> Result<(), Fail> {
         ("e é", "Edit(Utf8Text { text: \"é\" })"),
         (
             "select -codepoint 1.02,99999999999.4",
-            "Select(Selection { columns: Characters, ranges: Descriptions { list: [Described { anchor: ArgumentPlace { line: 1, column: 2 }, cursor: ArgumentPlace { line: 4294967295, column: 4 } }] } })",
+            "Select(Selection { columns: Characters, ranges: Seq { items: [Described { anchor: ArgumentPlace { line: 1, column: 2 }, cursor: ArgumentPlace { line: 4294967295, column: 4 } }] } })",
         ),
         ("edits", "none: edits"),
         ("quit now", "count"),
