@@ -1,5 +1,5 @@
 -- Lemmas on items that are laid on others.
-use Rattle.std.proofs.Common.{◌≡◌, ℕ, ◌+◌, ◌≤◌, List, [], ◌++◌, length, take, drop, sym, ap, ap₂, ◌∙◌, arith, append_assoc, length-append, length-take-le, length-drop, take_at, drop_at, append-nil}
+use Rattle.std.proofs.Common.{◌≡◌, ℕ, ◌+◌, ◌≤◌, List, [], ◌++◌, length, take, drop, sym, ap, ap₂, ◌∙◌, arith, append_assoc, length-append, length-take-le, length-drop, take_at, append-nil}
 use Rattle.std.proofs.lemmas.List.{drop_all}
 
 -- a row with as many items as before when some are laid on a place

@@ -1,12 +1,12 @@
 //! Rows of characters.
 
-ghost use Rattle.std.specs.Prelude.{◌≡◌, ◌≤◌, ◌++◌, length, take, drop, IfOk, OnOk, OnErr};
+ghost use Rattle.std.specs.Prelude.{◌≡◌, ◌≤◌, ◌++◌, [], length, take, drop, chars, IfOk, OnOk, OnErr};
 ghost use Rattle.compact_chars.specs.Rows.{chars_of, chars_kept};
 
 use crate::kept::Kept;
 use crate::lent::CharsRef;
 use crate::turns::{NEAR, cut_out, end_with, put_in};
-use crate::widths::{are_narrow, narrowed, widened};
+use crate::widths::{are_narrow, decoded, narrowed, widened};
 use smallvec::SmallVec;
 use std::alloc::{AllocError, Global};
 use std::marker::Model;
@@ -36,6 +36,32 @@ impl CompactChars {
             CharsRef::Narrow(bytes) => Kept::Narrow(SmallVec::from_slice(alloc, bytes)?),
             CharsRef::Wide(chars) => kept_of(alloc, chars)?,
         };
+        Ok(CompactChars { kept })
+    }
+
+    /// The characters of a string. ASCII is copied at once; other characters are decoded, and where they take four bytes
+    /// each, the row keeps the memory that they were decoded into.
+    pub fn of_str(alloc: Global, text: &str) -> Result<CompactChars, AllocError>
+        ensures { IfOk result (λ row. row ≡ chars text.now) }
+    {
+        if text.is_ascii() {
+            return CompactChars::of_chars(alloc, CharsRef::Narrow(text.as_bytes()));
+        }
+        let kept = kept_from(alloc, decoded(alloc, text)?)?;
+        Ok(CompactChars { kept })
+    }
+
+    /// A copy of characters, and of others behind them. Where both are kept in the same way, each is copied at once.
+    pub fn of_both(
+        alloc: Global,
+        front: CharsRef<'_>,
+        back: CharsRef<'_>,
+    ) -> Result<CompactChars, AllocError>
+        ensures { IfOk result (λ row. row ≡ chars_of front.entry ++ chars_of back.entry) }
+    {
+        let mut kept = room_for(alloc, front, back)?;
+        end_kept(alloc, &mut kept, 0, front)?;
+        end_kept(alloc, &mut kept, front.len(), back)?;
         Ok(CompactChars { kept })
     }
 
@@ -71,8 +97,9 @@ impl CompactChars {
         }
     }
 
-    /// Puts other characters in the place of those from one on. It costs them and those, and where they are the first for
-    /// which a byte isn't enough, the row. After an error the row is as it was.
+    /// Puts other characters in the place of those from one on. It costs them alone, which are copied at once where they are
+    /// kept as the row is; where they are the first for which a byte isn't enough, it costs the row too. After an error the
+    /// row is as it was.
     pub fn end_as(&mut self, alloc: Global, at: usize, end: CharsRef<'_>) -> Result<(), AllocError>
         requires { at ≤ length self.old }
         ensures ok { OnOk result (self.new ≡ take at self.old ++ chars_of end.entry) }
@@ -80,6 +107,16 @@ impl CompactChars {
     {
         end_kept(alloc, &mut self.kept, at, end)
     }
+}
+
+// Characters, as bytes where these are enough, and else in the memory where they are.
+fn kept_from(alloc: Global, chars: Vec<char>) -> Result<Kept, AllocError>
+    ensures { IfOk result (λ kept. chars_kept kept ≡ chars.items) }
+{
+    if are_narrow(chars.as_slice()) {
+        return Ok(Kept::Narrow(narrowed(alloc, chars.as_slice())?));
+    }
+    Ok(Kept::Wide(SmallVec::from_vec(chars)))
 }
 
 // A copy of characters, as bytes where these are enough.
@@ -90,6 +127,21 @@ fn kept_of(alloc: Global, chars: &[char]) -> Result<Kept, AllocError>
         return Ok(Kept::Narrow(narrowed(alloc, chars)?));
     }
     Ok(Kept::Wide(SmallVec::from_slice(alloc, chars)?))
+}
+
+// Room for characters and others behind them: for bytes, where these are enough.
+fn room_for(alloc: Global, front: CharsRef<'_>, back: CharsRef<'_>) -> Result<Kept, AllocError>
+    ensures { IfOk result (λ kept. chars_kept kept ≡ []) }
+{
+    let both = front.len() + back.len();
+    for chars in [front, back] {
+        if let CharsRef::Wide(chars) = chars {
+            if !are_narrow(chars) {
+                return Ok(Kept::Wide(SmallVec::with_capacity(alloc, both)?));
+            }
+        }
+    }
+    Ok(Kept::Narrow(SmallVec::with_capacity(alloc, both)?))
 }
 
 // Puts characters in.
@@ -121,15 +173,19 @@ fn end_kept(alloc: Global, kept: &mut Kept, at: usize, end: CharsRef<'_>) -> Res
 {
     match kept {
         Kept::Wide(row) => match end {
-            CharsRef::Wide(chars) => end_with(row, at, chars, ['\0'; NEAR].as_mut_slice()),
+            CharsRef::Wide(chars) => end_with(row, at, chars),
             CharsRef::Narrow(bytes) => {
                 let chars = widened(alloc, bytes)?;
-                end_with(row, at, chars.as_slice(), ['\0'; NEAR].as_mut_slice())
+                end_with(row, at, chars.as_slice())
             }
         },
         Kept::Narrow(row) => match end {
-            CharsRef::Narrow(bytes) => end_with(row, at, bytes, [0; NEAR].as_mut_slice()),
+            CharsRef::Narrow(bytes) => end_with(row, at, bytes),
             CharsRef::Wide(chars) => {
+                if are_narrow(chars) {
+                    let bytes = narrowed(alloc, chars)?;
+                    return end_with(row, at, bytes.as_slice());
+                }
                 let mut wide = widened(alloc, &row.as_slice()[..at])?;
                 wide.extend_from_slice(chars)?;
                 *kept = Kept::Wide(wide);

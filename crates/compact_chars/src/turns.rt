@@ -71,22 +71,20 @@ pub fn put_in<T: MadeWith<Global> + Copy, const N: usize>(
     Ok(())
 }
 
-/// Puts other items in the place of those from one on. It costs them and those. After an error the row is as it was.
+/// Puts other items in the place of those from one on. It costs them alone. After an error the row is as it was.
 pub fn end_with<T: MadeWith<Global> + Copy, const N: usize>(
     row: &mut SmallVec<T, N>,
     at: usize,
     end: &[T],
-    room: &mut [T],
 ) -> Result<(), AllocError>
-    requires room { NEAR ≤ length room.old }
-    requires inside { at ≤ length row.old.items }
+    requires { at ≤ length row.old.items }
     ensures ok { OnOk result (row.new.items ≡ take at row.old.items ++ end.now) }
     ensures err { OnErr result (row.new.items ≡ row.old.items) }
 {
-    let len = row.len();
-    row.extend_from_slice(end)?;
-    cut_out(row, at, len, room);
-    Ok(())
+    let gone = row.len() - at;
+    row.reserve(end.len().saturating_sub(gone))?;
+    row.truncate(at);
+    row.extend_from_slice(end)
 }
 
 // Lays items on a place, and behind them the few that stood there, up to as many as the row has more places than

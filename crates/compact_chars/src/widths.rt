@@ -1,6 +1,6 @@
 //! The way between characters and bytes with their numbers.
 
-ghost use Rattle.std.specs.Prelude.{◌≡◌, false, IfOk, IsTrue};
+ghost use Rattle.std.specs.Prelude.{◌≡◌, ◌≤◌, false, length, chars, IfOk, IsTrue};
 ghost use Rattle.compact_chars.specs.Rows.{AreNarrow, HasWide};
 
 use crate::kept::{SHORT_NARROW, SHORT_WIDE};
@@ -42,4 +42,28 @@ pub fn widened(alloc: Global, bytes: &[u8]) -> Result<SmallVec<char, SHORT_WIDE>
         chars.push_reserved(*b as char);
     }
     Ok(chars)
+}
+
+/// The characters of a string. Room for as many is made before.
+pub fn decoded(alloc: Global, text: &str) -> Result<Vec<char>, AllocError>
+    ensures { IfOk result (λ all. all.items ≡ chars text.now) }
+{
+    let mut all = Vec::with_capacity(alloc, begins(text.as_bytes()))?;
+    for c in text.chars() {
+        all.push(c)?;
+    }
+    Ok(all)
+}
+
+// How many bytes of a string begin a character.
+fn begins(bytes: &[u8]) -> usize
+    ensures { result ≤ length bytes.now }
+{
+    let mut count = 0;
+    for b in bytes {
+        if *b < 0x80 || *b >= 0xC0 {
+            count += 1;
+        }
+    }
+    count
 }

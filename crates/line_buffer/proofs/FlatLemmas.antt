@@ -1,5 +1,5 @@
 -- Lemmas on going over the lines of a text.
-use Rattle.std.proofs.Common.{◌≡◌, ℕ, ◌+◌, ◌-◌, ◌<◌, ◌≤◌, List, [], ◌∷◌, ◌++◌, length, take, drop, get_or, slice_range, encode_utf8_all, encode_utf8, refl, sym, ap, ap₂, ◌∙◌, arith, append-nil, append_assoc, length-drop, take_all, take_at, take-add, inl, inr}
+use Rattle.std.proofs.Common.{◌≡◌, ℕ, ◌+◌, ◌-◌, ◌<◌, ◌≤◌, List, [], ◌∷◌, ◌++◌, length, take, drop, get_or, slice_range, encode_utf8_all, refl, sym, ap, ap₂, ◌∙◌, arith, append-nil, append_assoc, length-drop, take_all, take_at, take-add, inl, inr}
 use Rattle.std.proofs.lemmas.List.{take_more, drop-drop, take-append-le}
 use Rattle.std.proofs.lemmas.Str.{encodes-append}
 use Rattle.text_model.specs.declared.TheConstants.{MAX_CHARS}

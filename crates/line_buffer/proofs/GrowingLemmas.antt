@@ -1,6 +1,8 @@
 -- Lemmas on lines that come one behind another.
-use Rattle.std.proofs.Common.{◌≡◌, ℕ, zero, suc, ◌+◌, ◌<◌, ◌≤◌, List, [], ◌∷◌, ◌++◌, length, All, refl, ap, sym, subst, ◌∙◌, append-nil, ◌-◌, length-append, arith}
+use Rattle.std.proofs.Common.{◌≡◌, ℕ, zero, suc, ◌+◌, ◌<◌, ◌≤◌, List, [], ◌∷◌, ◌++◌, length, All, ap, sym, subst, ◌∙◌, append-nil, ◌-◌, length-append, arith}
 use Rattle.std.proofs.lemmas.List.Elements.{All-append}
+use Rattle.std.specs.Str.{chars, IsUtf8}
+use Rattle.std.proofs.lemmas.Str.{length-le-encodes, encodes-chars}
 use Rattle.text_model.specs.declared.TheConstants.{MAX_CHARS}
 use Rattle.text_model.specs.Texts.{IsLine, joined}
 use Rattle.text_model.proofs.LineLemmas.{joined-append}
@@ -26,3 +28,7 @@ grown-lines ls new count now line h l e n room =
 pub grown-buffer : (ls : List (List ℕ)) (count : ℕ) → AreGrowing ls count → 0 < length (joined ls) → IsBuffer ls count
 grown-buffer [] count h some = absurd (omega (arith, some))
 grown-buffer (l ∷ ls) count h some = is_buffer (l ∷ ls) count h.0 (omega arith) (omega (arith, h.1, h.2)) h.1
+
+-- a string has no more characters than bytes
+pub few_chars : (bytes : List ℕ) → IsUtf8 bytes → length (chars bytes) ≤ length bytes
+few_chars bytes utf8 = omega (arith, length-le-encodes (chars bytes), ap length (encodes-chars bytes utf8))

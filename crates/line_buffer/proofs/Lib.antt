@@ -1,5 +1,6 @@
 pub mod CutLemmas
 pub mod BufferLemmas
+pub mod SplitLemmas
 pub mod StepLemmas
 pub mod InsertLemmas
 pub mod RowLemmas

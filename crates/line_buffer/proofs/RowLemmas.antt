@@ -1,6 +1,6 @@
 -- Lemmas on a list in two rows, the second one with its last item first.
-use Rattle.std.proofs.Common.{◌≡◌, ℕ, suc, ◌+◌, ◌-◌, ◌<◌, ◌≤◌, List, [], ◌∷◌, ◌++◌, reverse, length, take, drop, get_or, set, refl, sym, ap, ap₂, ◌∙◌, arith, append_assoc, length-append, length-take-le, length-drop, take_at, drop_at, take-append-drop, append-nil}
-use Rattle.std.proofs.lemmas.List.{reverse-append, reverse-reverse, length-reverse, get_or-append_right, get_or-reverse, set-append_right, set_split, set_at, set-get_or, set-append_left, get_or_read, get_or_append_left, drop-drop, take-append-le, drop-append-le, take_all, drop_all}
+use Rattle.std.proofs.Common.{◌≡◌, ℕ, suc, ◌+◌, ◌-◌, ◌<◌, ◌≤◌, List, [], ◌∷◌, ◌++◌, reverse, length, take, drop, get_or, set, refl, sym, ap, ap₂, ◌∙◌, arith, append_assoc, length-append, length-drop, take_at, drop_at, take-append-drop, append-nil}
+use Rattle.std.proofs.lemmas.List.{reverse-append, reverse-reverse, length-reverse, get_or-append_right, get_or-reverse, set-append_right, set_split, set_at, set-get_or, set-append_left, get_or_read, get_or_append_left, drop-drop, take-append-le, take_all, drop_all}
 
 -- a list turned round, at an item
 reverse_at : {X : Type 0} (p : List X) (y : X) (q : List X) → reverse (p ++ (y ∷ q)) ≡ reverse q ++ (y ∷ reverse p)

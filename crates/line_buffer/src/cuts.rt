@@ -1,6 +1,6 @@
 //! Characters put together, and cut into lines.
 
-ghost use Rattle.std.specs.Prelude.{◌≡◌, ◌++◌, IfOk};
+ghost use Rattle.std.specs.Prelude.{◌≡◌, ◌≢◌, ◌<◌, ◌≤◌, ◌++◌, length, take, drop, All, IfOk};
 ghost use Rattle.text_model.specs.Texts.{IsText, lines_of};
 ghost use Rattle.compact_chars.specs.Rows.{chars_of};
 
@@ -32,4 +32,20 @@ pub fn cut(alloc: Global, text: &[char]) -> Result<Vec<Line>, AllocError>
         }
     }
     Ok(lines)
+}
+
+/// How many characters there are up to and with the last newline; 0 where there is none. It looks at those behind it.
+pub fn last_end(chars: &[char]) -> usize
+    ensures inside { result ≤ length chars.now }
+    ensures lines { 0 < result → IsText (take result chars.now) }
+    ensures rest { All (λ c. c ≢ 10) (drop result chars.now) }
+{
+    let mut end = chars.len();
+    while end > 0 {
+        if chars[end - 1] == '\n' {
+            return end;
+        }
+        end -= 1;
+    }
+    0
 }

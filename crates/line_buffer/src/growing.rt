@@ -1,13 +1,11 @@
 //! Lines that come one behind another.
 
-ghost use Rattle.std.specs.Prelude.{◌≡◌, ◌+◌, ◌<◌, ◌++◌, ◌∷◌, ◌↔◌, [], length, OnOk, OnErr, IsErrOf};
+ghost use Rattle.std.specs.Prelude.{◌≡◌, ◌+◌, ◌<◌, ◌≤◌, ◌++◌, ◌∷◌, ◌↔◌, [], length, chars, IsTrue, OnOk, OnErr, IsErrOf};
 ghost use Rattle.text_model.specs.Texts.{IsLine};
-ghost use Rattle.compact_chars.specs.Rows.{chars_of};
 ghost use Rattle.text_model.specs.declared.TheConstants.{MAX_CHARS};
 
 use crate::line::Line;
 use crate::lines::{Lines, LinesError};
-use compact_chars::CharsRef;
 use kak_text::MAX_CHARS;
 use std::alloc::{AllocError, Global};
 use std::marker::Model;
@@ -30,6 +28,23 @@ impl Model for GrowingLines {
     ghost view = { λ g. joined g.lines.items };
 
     ghost invariant = { λ g. All IsLine g.lines.items × (g.count ≡ length (joined g.lines.items)) × (g.count ≤ MAX_CHARS) };
+}
+
+// Whether a string has so many characters at most. They are counted only where its bytes are more.
+fn has_at_most(text: &str, most: usize) -> bool
+    ensures { IsTrue result ↔ (length (chars text.now) ≤ most) }
+{
+    if text.len() <= most {
+        return true;
+    }
+    char_len(text) <= most
+}
+
+// How many characters a text has.
+fn char_len(text: &str) -> usize
+    ensures { result ≡ length (chars text.now) }
+{
+    text.chars().count()
 }
 
 // Adds a line.
@@ -59,18 +74,21 @@ impl GrowingLines {
         self.count
     }
 
-    /// Adds a line. `TextFull` comes where there would be more than `MAX_CHARS` characters. An `Err` leaves the lines.
-    pub fn push(&mut self, alloc: Global, line: CharsRef<'_>) -> Result<(), LinesError>
-        requires { IsLine (chars_of line) }
-        ensures ok { OnOk result (self.new ≡ self.old ++ chars_of line.entry) }
-        ensures full { IsErrOf result LinesError.TextFull ↔ (MAX_CHARS < length self.old + length (chars_of line.entry)) }
+    /// Adds the line of a string. `TextFull` comes where there would be more than `MAX_CHARS` characters. An `Err` leaves
+    /// the lines.
+    pub fn push(&mut self, alloc: Global, line: &str) -> Result<(), LinesError>
+        requires { IsLine (chars line.now) }
+        ensures ok { OnOk result (self.new ≡ self.old ++ chars line.now) }
+        ensures full { IsErrOf result LinesError.TextFull ↔ (MAX_CHARS < length self.old + length (chars line.now)) }
         ensures err { OnErr result (self.new ≡ self.old) }
     {
-        if line.len() > MAX_CHARS - self.count {
+        if !has_at_most(line, MAX_CHARS - self.count) {
             return Err(LinesError::TextFull);
         }
-        push_line(&mut self.lines, Line::of_chars(alloc, line)?)?;
-        self.count += line.len();
+        let made = Line::of_str(alloc, line)?;
+        let more = made.as_chars().len();
+        push_line(&mut self.lines, made)?;
+        self.count += more;
         Ok(())
     }
 

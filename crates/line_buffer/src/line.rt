@@ -1,6 +1,6 @@
 //! One line of a buffer.
 
-ghost use Rattle.std.specs.Prelude.{◌≡◌, ◌≢◌, ◌<◌, ◌≤◌, ◌++◌, length, take, drop, All, IfOk, OnOk, OnErr};
+ghost use Rattle.std.specs.Prelude.{◌≡◌, ◌≢◌, ◌<◌, ◌≤◌, ◌++◌, length, take, drop, chars, All, IfOk, OnOk, OnErr};
 ghost use Rattle.text_model.specs.Texts.{IsLine};
 ghost use Rattle.compact_chars.specs.Rows.{chars_of};
 
@@ -36,6 +36,31 @@ impl Line {
         })
     }
 
+    /// The line of a string.
+    pub fn of_str(alloc: Global, text: &str) -> Result<Line, AllocError>
+        requires { IsLine (chars text.now) }
+        ensures { IfOk result (λ line. line ≡ chars text.now) }
+    {
+        Ok(Line {
+            chars: CompactChars::of_str(alloc, text)?,
+        })
+    }
+
+    /// A line that holds a copy of characters that are no newlines, and of a line behind them.
+    pub fn of_both(
+        alloc: Global,
+        front: CharsRef<'_>,
+        end: CharsRef<'_>,
+    ) -> Result<Line, AllocError>
+        requires one_line { All (λ c. c ≢ 10) (chars_of front) }
+        requires line { IsLine (chars_of end) }
+        ensures { IfOk result (λ line. line ≡ chars_of front.entry ++ chars_of end.entry) }
+    {
+        Ok(Line {
+            chars: CompactChars::of_both(alloc, front, end)?,
+        })
+    }
+
     /// Puts characters that are no newlines in at a column. It costs them and what stands behind the column; where they are
     /// the first for which a byte isn't enough, it costs the line.
     pub fn put(&mut self, alloc: Global, column: usize, chars: &[char]) -> Result<(), AllocError>
@@ -56,8 +81,26 @@ impl Line {
         self.chars.cut(from, to);
     }
 
-    /// Ends the line at a column as another does. It costs the new end and the old one, and not what stands before the
-    /// column, but where in the new end a byte isn't enough for the first time.
+    /// Begins the line with characters that are no newlines, in the place of those before a column. It costs them and what
+    /// stands behind the column; where they are the first for which a byte isn't enough, it costs the line.
+    pub fn begin_as(
+        &mut self,
+        alloc: Global,
+        column: usize,
+        begin: &[char],
+    ) -> Result<(), AllocError>
+        requires inside { column < length self.old }
+        requires one_line { All (λ c. c ≢ 10) begin.now }
+        ensures ok { OnOk result (self.new ≡ begin.now ++ drop column self.old) }
+        ensures err { OnErr result (self.new ≡ self.old) }
+    {
+        self.chars.put(alloc, column, begin)?;
+        self.chars.cut(0, column);
+        Ok(())
+    }
+
+    /// Ends the line at a column as another does. It costs the new end alone, and what stands before the column only where in
+    /// the new end a byte isn't enough for the first time.
     pub fn end_as(
         &mut self,
         alloc: Global,
@@ -70,6 +113,16 @@ impl Line {
         ensures err { OnErr result (self.new ≡ self.old) }
     {
         self.chars.end_as(alloc, column, end)
+    }
+
+    /// What stands before a column, in which no newline is.
+    pub fn begin(&self, column: usize) -> CharsRef<'_>
+        requires { column < length self.now }
+        ensures value { chars_of result ≡ take column self.now }
+        ensures one_line { All (λ c. c ≢ 10) (chars_of result) }
+        ensures valid { IsLine self.now }
+    {
+        self.chars.as_chars().between(0, column)
     }
 
     /// What stands from a column on, which is a line too.

@@ -7,7 +7,7 @@ ghost use Rattle.std.specs.Prelude.{◌≡◌, ◌≢◌, ◌+◌, ◌<◌, ◌�
 ghost use Rattle.text_model.specs.Texts.{IsLine, IsText, lines_of};
 ghost use Rattle.compact_chars.specs.Rows.{chars_of};
 
-use crate::cuts::{cut, gathered};
+use crate::cuts::{cut, last_end};
 use crate::line::Line;
 use compact_chars::CharsRef;
 use std::alloc::{AllocError, Global};
@@ -124,9 +124,10 @@ impl Rows {
         Ok(())
     }
 
-    /// Puts characters into a line at a column, which makes lines of it. It costs them, what stands behind the column, and
-    /// the lines between here and the change before, and not what stands before the column. After an error the lines
-    /// are as they were.
+    /// Puts characters into a line at a column, which makes lines of it. The longer part of the line stays where it is kept,
+    /// and the shorter one is copied into a line of its own. It costs them, the shorter part, the move of the end of
+    /// the line to its begin where that is the longer part, and the lines between here and the change before. After an
+    /// error the lines are as they were.
     pub fn split(
         &mut self,
         alloc: Global,
@@ -183,7 +184,26 @@ fn end_line(
     line.end_as(alloc, column, end)
 }
 
-// Puts characters into the last line at a column, which makes lines of it. Room for them is made before.
+// Takes the characters of the n-th line before a column out, and puts others that are no newlines in their place.
+fn begin_line(
+    alloc: Global,
+    front: &mut Vec<Line>,
+    n: usize,
+    column: usize,
+    begin: &[char],
+) -> Result<(), AllocError>
+    requires inside { n < length front.old.items }
+    requires column { column < length (slice_index_or front.old.items n []) }
+    requires one_line { All (λ c. c ≢ 10) begin.now }
+    ensures ok { OnOk result (front.new.items ≡ slice_set front.old.items n (begin.now ++ drop column (slice_index_or front.old.items n []))) }
+    ensures err { OnErr result (front.new.items ≡ front.old.items) }
+    ensures room { vec_capacity front.new ≡ vec_capacity front.old }
+{
+    let line = &mut front[n];
+    line.begin_as(alloc, column, begin)
+}
+
+// Puts characters into the last line at a column, which makes lines of it.
 fn split_last(
     alloc: Global,
     front: &mut Vec<Line>,
@@ -196,7 +216,31 @@ fn split_last(
     ensures ok { OnOk result (front.new.items ≡ take n front.old.items ++ lines_of (take column (slice_index_or front.old.items n []) ++ (chars.now ++ drop column (slice_index_or front.old.items n [])))) }
     ensures err { OnErr result (front.new.items ≡ front.old.items) }
 {
-    let mut fresh = split_off(alloc, &front[n], column, chars)?;
+    let end = last_end(chars);
+    if end == 0 {
+        return keep_begin(alloc, front, n, column, chars);
+    }
+    if front[n].rest(column).len() <= column {
+        return keep_begin(alloc, front, n, column, chars);
+    }
+    keep_end(alloc, front, n, column, &chars[..end], &chars[end..])
+}
+
+// Puts characters into the last line at a column. The line keeps its begin, and its end is copied. Room for the lines
+// is made before.
+fn keep_begin(
+    alloc: Global,
+    front: &mut Vec<Line>,
+    n: usize,
+    column: usize,
+    chars: &[char],
+) -> Result<(), AllocError>
+    requires last { n + 1 ≡ length front.old.items }
+    requires column { column < length (slice_index_or front.old.items n []) }
+    ensures ok { OnOk result (front.new.items ≡ take n front.old.items ++ lines_of (take column (slice_index_or front.old.items n []) ++ (chars.now ++ drop column (slice_index_or front.old.items n [])))) }
+    ensures err { OnErr result (front.new.items ≡ front.old.items) }
+{
+    let mut fresh = copy_end(alloc, &front[n], column, chars)?;
     front.reserve(fresh.len())?;
     let first = fresh.remove(0);
     end_line(alloc, front, n, column, first.as_chars())?;
@@ -204,8 +248,34 @@ fn split_last(
     Ok(())
 }
 
-// The lines of characters with the end of a line behind them.
-fn split_off(
+// Puts whole lines and characters of one line behind them into the last line at a column. The line keeps its end, and its
+// begin is copied. Room for the lines is made before.
+fn keep_end(
+    alloc: Global,
+    front: &mut Vec<Line>,
+    n: usize,
+    column: usize,
+    lines: &[char],
+    rest: &[char],
+) -> Result<(), AllocError>
+    requires last { n + 1 ≡ length front.old.items }
+    requires column { column < length (slice_index_or front.old.items n []) }
+    requires lines { IsText lines.now }
+    requires rest { All (λ c. c ≢ 10) rest.now }
+    ensures ok { OnOk result (front.new.items ≡ take n front.old.items ++ lines_of (take column (slice_index_or front.old.items n []) ++ ((lines.now ++ rest.now) ++ drop column (slice_index_or front.old.items n [])))) }
+    ensures err { OnErr result (front.new.items ≡ front.old.items) }
+{
+    let mut fresh = copy_begin(alloc, &front[n], column, lines)?;
+    front.reserve(fresh.len())?;
+    fresh.reserve(1)?;
+    begin_line(alloc, front, n, column, rest)?;
+    fresh.push_reserved(front.pop().unwrap());
+    front.append(&mut fresh)?;
+    Ok(())
+}
+
+// The lines of characters with a copy of the end of a line behind them.
+fn copy_end(
     alloc: Global,
     line: &Line,
     column: usize,
@@ -216,8 +286,42 @@ fn split_off(
     ensures text { IsText (chars.now ++ drop column line.now) }
     ensures valid { IsLine line.now }
 {
-    let text = gathered(alloc, chars, line.rest(column))?;
-    cut(alloc, text.as_slice())
+    let end = last_end(chars);
+    let last = Line::of_both(alloc, CharsRef::Wide(&chars[end..]), line.rest(column))?;
+    if end == 0 {
+        return one(alloc, last);
+    }
+    let mut lines = cut(alloc, &chars[..end])?;
+    lines.push(last)?;
+    Ok(lines)
+}
+
+// A line alone.
+fn one(alloc: Global, line: Line) -> Result<Vec<Line>, AllocError>
+    ensures { IfOk result (λ lines. lines.items ≡ line ∷ []) }
+{
+    let mut lines = Vec::new(alloc);
+    lines.push(line)?;
+    Ok(lines)
+}
+
+// The lines of a copy of the begin of a line with whole lines behind it.
+fn copy_begin(
+    alloc: Global,
+    line: &Line,
+    column: usize,
+    chars: &[char],
+) -> Result<Vec<Line>, AllocError>
+    requires column { column < length line.now }
+    requires lines { IsText chars.now }
+    ensures lines { IfOk result (λ lines. lines.items ≡ lines_of (take column line.now ++ chars.now)) }
+    ensures valid { IsLine line.now }
+{
+    let begin = line.begin(column);
+    let mut lines = cut(alloc, chars)?;
+    let first = Line::of_both(alloc, begin, lines[0].as_chars())?;
+    lines[0] = first;
+    Ok(lines)
 }
 
 // Moves the gap to before a line, which nobody sees.

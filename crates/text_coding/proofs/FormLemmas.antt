@@ -3,7 +3,7 @@ use Rattle.std.proofs.Common.{◌≡◌, ◌≢◌, ℕ, suc, ◌+◌, ◌-◌, 
 use Rattle.std.proofs.lemmas.Bool.{eqb-true}
 use Rattle.std.proofs.lemmas.List.{length-append}
 use Rattle.std.specs.Str.{chars, IsUtf8}
-use Rattle.std.proofs.lemmas.Str.{length-le-encodes, encodes-chars}
+use Rattle.line_buffer.proofs.GrowingLemmas.{few_chars}
 use Rattle.std.proofs.lemmas.Bool.Decides.{nat_tests}
 use Rattle.text_coding.specs.declared.decoding.Survey.{Survey}
 use Rattle.text_model.specs.declared.TheConstants.{MAX_CHARS}
@@ -123,10 +123,6 @@ cond-le false x cs n le = omega (arith, le)
 pub short-le : (cs : List ℕ) → length (without_returns cs) ≤ length cs
 short-le [] = omega arith
 short-le (x ∷ cs) = cond-le ((x == 13) && begins_newline cs) x (without_returns cs) (length cs) (short-le cs)
-
--- there are no more characters than bytes
-pub few_chars : (bytes : List ℕ) → IsUtf8 bytes → length (chars bytes) ≤ length bytes
-few_chars bytes utf8 = omega (arith, length-le-encodes (chars bytes), ap length (encodes-chars bytes utf8))
 
 ends-cons : (c d : ℕ) (cs : List ℕ) → ends_in_newline (c ∷ (d ∷ cs)) ≡ ends_in_newline (d ∷ cs)
 ends-cons c d cs =

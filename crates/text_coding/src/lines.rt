@@ -9,8 +9,6 @@ ghost use Rattle.text_coding.specs.Parting.{IsParted};
 ghost use Rattle.text_coding.specs.Surveying.{last_of};
 
 use crate::form::Eol;
-use compact_chars::CharsRef;
-use kak_text::Chars;
 use line_buffer::{GrowingLines, Lines, LinesError};
 use memchr::memchr;
 use std::alloc::Global;
@@ -87,19 +85,6 @@ fn without_return(run: &str) -> &str
     }
 }
 
-// Adds a line; at once where it is ASCII.
-fn push_line(alloc: Global, lines: &mut GrowingLines, line: &str) -> Result<(), LinesError>
-    requires { IsLine (chars line.now) }
-    ensures ok { OnOk result (lines.new ≡ lines.old ++ chars line.now) }
-    ensures full { IsErrOf result LinesError.TextFull → MAX_CHARS < length lines.old + length (chars line.now) }
-{
-    if line.is_ascii() {
-        return lines.push(alloc, CharsRef::Narrow(line.as_bytes()));
-    }
-    let chars = Chars::from_str(alloc, line)?;
-    lines.push(alloc, CharsRef::Wide(chars.as_slice()))
-}
-
 // Adds a line that lacks its newline, which it gets in a room for that.
 fn push_run(
     alloc: Global,
@@ -114,7 +99,7 @@ fn push_run(
     room.clear();
     room.push_str(run)?;
     room.push('\n')?;
-    push_line(alloc, lines, room.as_str())
+    lines.push(alloc, room.as_str())
 }
 
 // Adds the line before a newline, as it stands in a text.
@@ -132,7 +117,7 @@ fn push_parted(
     ensures full { IsErrOf result LinesError.TextFull → (rest : List ℕ) → MAX_CHARS < length (lines.old ++ from_form eol (chars parted.entry.run.now ++ 10 ∷ rest)) }
 {
     match eol {
-        Eol::Lf => push_line(alloc, lines, parted.line),
+        Eol::Lf => lines.push(alloc, parted.line),
         Eol::Crlf => push_run(alloc, lines, room, without_return(parted.run)),
     }
 }

@@ -1,7 +1,7 @@
 pub mod StepLemmas
 pub mod TreeLemmas
+pub mod WayLemmas
 pub mod StoryLemmas
 pub mod EditLemmas
 pub mod MarkLemmas
-pub mod WayLemmas
 pub mod MoveLemmas

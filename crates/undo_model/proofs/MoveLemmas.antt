@@ -6,7 +6,8 @@ use Rattle.text_model.specs.Texts.{IsStored}
 use Rattle.text_model.proofs.CoordLemmas.{test_cases}
 use Rattle.undo_model.specs.declared.travel.Travel.{Travel}
 use Rattle.undo_model.specs.declared.travel.Travel.TheVariants.{Undo, Redo, Node}
-use Rattle.undo_model.specs.Stories.{Story, committed, parent_of, heir_of, went_to, moved_to, undone, went_on, redone}
+use Rattle.undo_model.specs.Stories.{Story, committed, parent_of, heir_of, went_to}
+use Rattle.undo_model.specs.Named.{moved_to, undone, went_on, redone}
 use Rattle.undo_model.specs.Moves.{target_in, target_of, gone, gone_by, moved_by, move_changes, forgotten}
 use Rattle.undo_model.specs.Kept.{IsHeir, IsStory}
 use Rattle.undo_model.proofs.TreeLemmas.{parent-there, Leads}

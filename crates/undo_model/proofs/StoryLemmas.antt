@@ -8,11 +8,14 @@ use Rattle.text_model.proofs.PlaceLemmas.{leb_true}
 use Rattle.text_model.proofs.ChangeLemmas.{all_changed-append}
 use Rattle.undo_model.specs.declared.TheConstants.{MAX_NODES}
 use Rattle.undo_model.specs.Steps.{AreSteps}
-use Rattle.undo_model.specs.Tree.{Node, root, node_at, with_heir, remembering, crossed, heir_after}
-use Rattle.undo_model.specs.Stories.{Group, Story, opened, pending, is_own, nodes_due, grown, committed, committed_by, added, edited, is_undo_full, went_to, moved_to, changes_to, parent_of, heir_of, undone, went_on, redone, marked_saved}
+use Rattle.undo_model.specs.Tree.{Node, root, node_at, with_heir, heir_after}
+use Rattle.undo_model.specs.Ways.{remembering, crossed}
+use Rattle.undo_model.specs.Stories.{Group, Story, opened, pending, is_own, nodes_due, grown, committed, committed_by, added, edited, is_undo_full, went_to, changes_to, parent_of, heir_of, marked_saved}
+use Rattle.undo_model.specs.Named.{moved_to, undone, went_on, redone}
 use Rattle.undo_model.specs.Kept.{IsChild, IsHeir, IsStory}
 use Rattle.undo_model.proofs.StepLemmas.{steps-append, steps-stored}
-use Rattle.undo_model.proofs.TreeLemmas.{same-text, IsTreeAs, remembering-tree, remembering-heir, remembering-one_up, remembering-one_down, heir-here, parent-there, Leads, route-leads, push-tree}
+use Rattle.undo_model.proofs.TreeLemmas.{same-text, IsTreeAs, heir-here, parent-there, Leads, push-tree}
+use Rattle.undo_model.proofs.WayLemmas.{remembering-tree, remembering-heir, remembering-one_up, remembering-one_down, route-leads}
 
 -- an opened text
 pub opened-story : (text : List ℕ) → IsStored text → IsStory (opened text)

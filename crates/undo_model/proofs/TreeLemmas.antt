@@ -1,5 +1,5 @@
--- Lemmas on the nodes of an undo tree, the ways between them, and what is remembered on the way.
-use Rattle.std.proofs.Common.{◌≡◌, ◌≢◌, ℕ, zero, suc, ◌+◌, ◌-◌, ◌<◌, ◌≤◌, true, false, cond, eqb, ltb, List, [], ◌∷◌, ◌++◌, length, get_or, refl, sym, ap, ap₂, subst, ◌∙◌, arith, inl, inr, ◌⊎◌, eqb-true, ltb-true, ltb-false, length-append, lt-ltb, le-ltb, ne_eqb, eq-eqb, IfSome, Some, None}
+-- Lemmas on the nodes of an undo tree, the steps between them, and what is remembered of a step.
+use Rattle.std.proofs.Common.{◌≡◌, ◌≢◌, ℕ, ◌+◌, ◌-◌, ◌<◌, true, false, cond, eqb, List, [], ◌∷◌, ◌++◌, length, get_or, refl, sym, ap, subst, ◌∙◌, arith, inl, inr, ◌⊎◌, eqb-true, length-append, IfSome, Some, None}
 use Rattle.std.specs.declared.option.Option.{Option}
 use Rattle.std.proofs.lemmas.Bool.{eqb-false}
 use Rattle.std.proofs.lemmas.List.{get_or_append_left, get_or-append_right, get_or-set_other, length-set}
@@ -10,7 +10,7 @@ use Rattle.text_model.proofs.CoordLemmas.{test_cases}
 use Rattle.text_model.proofs.PlaceLemmas.{three_ways}
 use Rattle.text_model.proofs.ChangeLemmas.{all_changed-append}
 use Rattle.undo_model.specs.Steps.{AreSteps}
-use Rattle.undo_model.specs.Tree.{Node, root, node_at, aimed, with_heir, up, route, remembering, TreeEdge, crossed, heir_after}
+use Rattle.undo_model.specs.Tree.{Node, root, node_at, aimed, with_heir, up}
 use Rattle.undo_model.specs.Kept.{IsChild, IsHeir, IsTree}
 use Rattle.undo_model.proofs.StepLemmas.{steps-append, undoing-text, undoing-steps}
 
@@ -29,10 +29,10 @@ same-parent ms nodes n h = ap (λ (x : Node). x.parent) (h.same n)
 pub same-text : (ms nodes : List Node) (n : ℕ) → AreSame ms nodes → (node_at ms n).text ≡ (node_at nodes n).text
 same-text ms nodes n h = ap (λ (x : Node). x.text) (h.same n)
 
-same-refl : (nodes : List Node) → AreSame nodes nodes
+pub same-refl : (nodes : List Node) → AreSame nodes nodes
 same-refl nodes = record { long = refl; same = λ n. refl }
 
-same-trans : (ls ms nodes : List Node) → AreSame ls ms → AreSame ms nodes → AreSame ls nodes
+pub same-trans : (ls ms nodes : List Node) → AreSame ls ms → AreSame ms nodes → AreSame ls nodes
 same-trans ls ms nodes h k = record { long = h.long ∙ k.long; same = λ n. h.same n ∙ k.same n }
 
 -- what holds of a value in an option, if there is one, holds of it in a weaker form
@@ -104,104 +104,13 @@ with_heir-tree nodes child t p lt = tree-same ms nodes same t (λ n h. at n h (t
         subst P (sym (heir-elsewhere nodes (node_at nodes child).parent n child (eqb-false n (node_at nodes child).parent e)))
         (weaker_if_some (node_at nodes n).heir (IsHeir nodes n) (IsHeir ms n) (λ x k. heir-same ms nodes n x same k) (t.heirs n (omega (arith, same.long))))
 
--- the three ways of a route, and of what is remembered on it
-pub route-here : (k : ℕ) (nodes : List Node) (a b : ℕ) → eqb a b ≡ true → route (suc k) nodes a b ≡ []
-route-here k nodes a b e = ap (λ v. cond v [] (cond (ltb b a) (up nodes a ++ route k nodes (node_at nodes a).parent b) (route k nodes a (node_at nodes b).parent ++ (node_at nodes b).changes))) e
-
-pub route-up : (k : ℕ) (nodes : List Node) (a b : ℕ) → eqb a b ≡ false → ltb b a ≡ true → route (suc k) nodes a b ≡ up nodes a ++ route k nodes (node_at nodes a).parent b
-route-up k nodes a b e l = ap₂ (λ v w. cond v [] (cond w (up nodes a ++ route k nodes (node_at nodes a).parent b) (route k nodes a (node_at nodes b).parent ++ (node_at nodes b).changes))) e l
-
-pub route-down : (k : ℕ) (nodes : List Node) (a b : ℕ) → eqb a b ≡ false → ltb b a ≡ false → route (suc k) nodes a b ≡ route k nodes a (node_at nodes b).parent ++ (node_at nodes b).changes
-route-down k nodes a b e l = ap₂ (λ v w. cond v [] (cond w (up nodes a ++ route k nodes (node_at nodes a).parent b) (route k nodes a (node_at nodes b).parent ++ (node_at nodes b).changes))) e l
-
-pub remembering-here : (k : ℕ) (nodes : List Node) (a b : ℕ) → eqb a b ≡ true → remembering k nodes a b ≡ nodes
-remembering-here zero nodes a b e = refl
-remembering-here (suc k) nodes a b e =
-    ap (λ v. cond v nodes (cond (ltb b a) (remembering k (with_heir (node_at nodes a).parent a nodes) (node_at nodes a).parent b) (with_heir (node_at nodes b).parent b (remembering k nodes a (node_at nodes b).parent)))) e
-
-pub remembering-up : (k : ℕ) (nodes : List Node) (a b : ℕ) → eqb a b ≡ false → ltb b a ≡ true → remembering (suc k) nodes a b ≡ remembering k (with_heir (node_at nodes a).parent a nodes) (node_at nodes a).parent b
-remembering-up k nodes a b e l =
-    ap₂ (λ v w. cond v nodes (cond w (remembering k (with_heir (node_at nodes a).parent a nodes) (node_at nodes a).parent b) (with_heir (node_at nodes b).parent b (remembering k nodes a (node_at nodes b).parent)))) e l
-
-pub remembering-down : (k : ℕ) (nodes : List Node) (a b : ℕ) → eqb a b ≡ false → ltb b a ≡ false → remembering (suc k) nodes a b ≡ with_heir (node_at nodes b).parent b (remembering k nodes a (node_at nodes b).parent)
-remembering-down k nodes a b e l =
-    ap₂ (λ v w. cond v nodes (cond w (remembering k (with_heir (node_at nodes a).parent a nodes) (node_at nodes a).parent b) (with_heir (node_at nodes b).parent b (remembering k nodes a (node_at nodes b).parent)))) e l
-
 -- a tree, with the same nodes but for their heirs
 pub record IsTreeAs (ms nodes : List Node) : Type 0 where
   pub tree : IsTree ms
   pub same : AreSame ms nodes
 
--- the first node of a way up remembered, and then the rest of the way
-remembered_upward : (nodes ms : List Node) (a : ℕ) → IsTree nodes → 0 < a → a < length nodes → IsTreeAs ms (with_heir (node_at nodes a).parent a nodes) → IsTreeAs ms nodes
-remembered_upward nodes ms a t p la rest =
-    record { tree = rest.tree; same = same-trans ms _ nodes rest.same (with_heir-same nodes (node_at nodes a).parent a (parent-there nodes a t p la)) }
-
--- the way before the last node of a way down remembered, and then that one
-remembered_downward : (nodes ms : List Node) (b : ℕ) → IsTree nodes → 0 < b → b < length nodes → IsTreeAs ms nodes → IsTreeAs (with_heir (node_at nodes b).parent b ms) nodes
-remembered_downward nodes ms b t p lb rest =
-    let there : (node_at nodes b).parent < length nodes = parent-there nodes b t p lb in
-    let P : ℕ → Type 0 = λ m. IsTree (with_heir m b ms) in
-    record {
-      tree = subst P (same-parent ms nodes b rest.same) (with_heir-tree ms b rest.tree p (omega (arith, rest.same.long)));
-      same = same-trans _ ms nodes (with_heir-same ms (node_at nodes b).parent b (omega (arith, rest.same.long))) rest.same;
-    }
-
--- remembering leaves a tree, and changes heirs alone
-pub remembering-tree : (k : ℕ) (nodes : List Node) (a b : ℕ) → IsTree nodes → a < length nodes → b < length nodes → IsTreeAs (remembering k nodes a b) nodes
-remembering-tree zero nodes a b t la lb = record { tree = t; same = same-refl nodes }
-remembering-tree (suc k) nodes a b t la lb =
-    let P : List Node → Type 0 = λ x. IsTreeAs x nodes in
-    elim (test_cases (eqb a b)) [
-      | inl e ↦ subst P (sym (remembering-here (suc k) nodes a b e)) (record { tree = t; same = same-refl nodes })
-      | inr e ↦ elim (test_cases (ltb b a)) [
-        | inl l ↦ (let p : 0 < a = omega (arith, ltb-true b a l) in
-            let there : (node_at nodes a).parent < length nodes = parent-there nodes a t p la in
-            let long : length (with_heir (node_at nodes a).parent a nodes) ≡ length nodes = (with_heir-same nodes (node_at nodes a).parent a there).long in
-            subst P (sym (remembering-up k nodes a b e l)) (remembered_upward nodes _ a t p la (remembering-tree k (with_heir (node_at nodes a).parent a nodes) (node_at nodes a).parent b (with_heir-tree nodes a t p la) (omega arith) (omega arith))))
-        | inr l ↦ (let p : 0 < b = omega (arith, ltb-false b a l, eqb-false a b e) in
-            subst P (sym (remembering-down k nodes a b e l)) (remembered_downward nodes _ b t p lb (remembering-tree k nodes a (node_at nodes b).parent t la (parent-there nodes b t p lb))))
-      ]
-    ]
-
--- the three ways of the steps
-crossed-here : (k : ℕ) (nodes : List Node) (a b : ℕ) → eqb a b ≡ true → crossed k nodes a b ≡ []
-crossed-here zero nodes a b e = refl
-crossed-here (suc k) nodes a b e =
-    ap (λ v. cond v [] (cond (ltb b a) ((record { parent = (node_at nodes a).parent; child = a }) ∷ crossed k nodes (node_at nodes a).parent b) (crossed k nodes a (node_at nodes b).parent ++ (record { parent = (node_at nodes b).parent; child = b }) ∷ []))) e
-
-crossed-up : (k : ℕ) (nodes : List Node) (a b : ℕ) → eqb a b ≡ false → ltb b a ≡ true → crossed (suc k) nodes a b ≡ (record { parent = (node_at nodes a).parent; child = a }) ∷ crossed k nodes (node_at nodes a).parent b
-crossed-up k nodes a b e l =
-    ap₂ (λ v w. cond v [] (cond w ((record { parent = (node_at nodes a).parent; child = a }) ∷ crossed k nodes (node_at nodes a).parent b) (crossed k nodes a (node_at nodes b).parent ++ (record { parent = (node_at nodes b).parent; child = b }) ∷ []))) e l
-
-crossed-down : (k : ℕ) (nodes : List Node) (a b : ℕ) → eqb a b ≡ false → ltb b a ≡ false → crossed (suc k) nodes a b ≡ crossed k nodes a (node_at nodes b).parent ++ (record { parent = (node_at nodes b).parent; child = b }) ∷ []
-crossed-down k nodes a b e l =
-    ap₂ (λ v w. cond v [] (cond w ((record { parent = (node_at nodes a).parent; child = a }) ∷ crossed k nodes (node_at nodes a).parent b) (crossed k nodes a (node_at nodes b).parent ++ (record { parent = (node_at nodes b).parent; child = b }) ∷ []))) e l
-
--- the steps are those of the parents alone
-crossed-same : (k : ℕ) (ms nodes : List Node) (a b : ℕ) → AreSame ms nodes → crossed k ms a b ≡ crossed k nodes a b
-crossed-same zero ms nodes a b h = refl
-crossed-same (suc k) ms nodes a b h =
-    elim (test_cases (eqb a b)) [
-      | inl e ↦ crossed-here (suc k) ms a b e ∙ sym (crossed-here (suc k) nodes a b e)
-      | inr e ↦ elim (test_cases (ltb b a)) [
-        | inl l ↦ crossed-up k ms a b e l ∙ crossed-same_up (same-parent ms nodes a h) (crossed-same k ms nodes (node_at nodes a).parent b h) ∙ sym (crossed-up k nodes a b e l)
-        | inr l ↦ crossed-down k ms a b e l ∙ crossed-same_down (same-parent ms nodes b h) (crossed-same k ms nodes a (node_at nodes b).parent h) ∙ sym (crossed-down k nodes a b e l)
-      ]
-    ]
-  where
-    crossed-same_up : (node_at ms a).parent ≡ (node_at nodes a).parent → crossed k ms (node_at nodes a).parent b ≡ crossed k nodes (node_at nodes a).parent b → (record { parent = (node_at ms a).parent; child = a }) ∷ crossed k ms (node_at ms a).parent b ≡ (record { parent = (node_at nodes a).parent; child = a }) ∷ crossed k nodes (node_at nodes a).parent b
-    crossed-same_up p q = ap (λ m. (let s : TreeEdge = record { parent = m; child = a } in s) ∷ crossed k ms m b) p ∙ ap (λ ss. (let s : TreeEdge = record { parent = (node_at nodes a).parent; child = a } in s) ∷ ss) q
-
-    crossed-same_down : (node_at ms b).parent ≡ (node_at nodes b).parent → crossed k ms a (node_at nodes b).parent ≡ crossed k nodes a (node_at nodes b).parent → crossed k ms a (node_at ms b).parent ++ (record { parent = (node_at ms b).parent; child = b }) ∷ [] ≡ crossed k nodes a (node_at nodes b).parent ++ (record { parent = (node_at nodes b).parent; child = b }) ∷ []
-    crossed-same_down p q = ap (λ m. crossed k ms a m ++ (let s : TreeEdge = record { parent = m; child = b } in s) ∷ []) p ∙ ap (λ ss. ss ++ (let s : TreeEdge = record { parent = (node_at nodes b).parent; child = b } in s) ∷ []) q
-
-heir_after-append : (o : Option ℕ) (n : ℕ) (ss ts : List TreeEdge) → heir_after o n (ss ++ ts) ≡ heir_after (heir_after o n ss) n ts
-heir_after-append o n [] ts = refl
-heir_after-append o n (s ∷ ss) ts = heir_after-append (cond (eqb s.parent n) (Some s.child) o) n ss ts
-
 -- one step remembered
-heir-of_step : (nodes : List Node) (p child n : ℕ) → p < length nodes → (node_at (with_heir p child nodes) n).heir ≡ cond (eqb p n) (Some child) (node_at nodes n).heir
+pub heir-of_step : (nodes : List Node) (p child n : ℕ) → p < length nodes → (node_at (with_heir p child nodes) n).heir ≡ cond (eqb p n) (Some child) (node_at nodes n).heir
 heir-of_step nodes p child n h =
     elim (test_cases (eqb p n)) [
       | inl e ↦ (let same : p ≡ n = eqb-true p n e in
@@ -209,51 +118,13 @@ heir-of_step nodes p child n h =
       | inr e ↦ ap (λ (x : Node). x.heir) (heir-elsewhere nodes p n child (λ q. eqb-false p n e (sym q))) ∙ sym (ap (λ v. cond v (Some child) (node_at nodes n).heir) e)
     ]
 
--- an heir behind a way is the child of the last step that has its parent
-pub remembering-heir : (k : ℕ) (nodes : List Node) (a b n : ℕ) → IsTree nodes → a < length nodes → b < length nodes → (node_at (remembering k nodes a b) n).heir ≡ heir_after (node_at nodes n).heir n (crossed k nodes a b)
-remembering-heir zero nodes a b n t la lb = refl
-remembering-heir (suc k) nodes a b n t la lb =
-    let heir : Option ℕ = (node_at nodes n).heir in
-    elim (test_cases (eqb a b)) [
-      | inl e ↦ ap (λ ms. (node_at ms n).heir) (remembering-here (suc k) nodes a b e) ∙ sym (ap (heir_after heir n) (crossed-here (suc k) nodes a b e))
-      | inr e ↦ elim (test_cases (ltb b a)) [
-        | inl l ↦ (let p : 0 < a = omega (arith, ltb-true b a l) in
-            let pa : ℕ = (node_at nodes a).parent in
-            let there : pa < length nodes = parent-there nodes a t p la in
-            let ms : List Node = with_heir pa a nodes in
-            let same : AreSame ms nodes = with_heir-same nodes pa a there in
-            let long : length ms ≡ length nodes = same.long in
-            ap (λ xs. (node_at xs n).heir) (remembering-up k nodes a b e l) ∙ remembering-heir k ms pa b n (with_heir-tree nodes a t p la) (omega arith) (omega arith) ∙ ap₂ (λ o ss. heir_after o n ss) (heir-of_step nodes pa a n there) (crossed-same k ms nodes pa b same) ∙ sym (ap (heir_after heir n) (crossed-up k nodes a b e l)))
-        | inr l ↦ (let p : 0 < b = omega (arith, ltb-false b a l, eqb-false a b e) in
-            let pb : ℕ = (node_at nodes b).parent in
-            let there : pb < length nodes = parent-there nodes b t p lb in
-            let ms : List Node = remembering k nodes a pb in
-            let rest : IsTreeAs ms nodes = remembering-tree k nodes a pb t la there in
-            let one : List TreeEdge = (record { parent = pb; child = b }) ∷ [] in
-            ap (λ xs. (node_at xs n).heir) (remembering-down k nodes a b e l) ∙ heir-of_step ms pb b n (omega (arith, rest.same.long)) ∙ ap (λ o. cond (eqb pb n) (Some b) o) (remembering-heir k nodes a pb n t la there) ∙ sym (ap (heir_after heir n) (crossed-down k nodes a b e l) ∙ heir_after-append heir n (crossed k nodes a pb) one))
-      ]
-    ]
-
--- from a node to its parent and back
-pub remembering-one_up : (k : ℕ) (nodes : List Node) (a p : ℕ) → 0 < k → (node_at nodes a).parent ≡ p → p < a → remembering k nodes a p ≡ with_heir p a nodes
-remembering-one_up zero nodes a p h e lt = absurd (omega arith)
-remembering-one_up (suc k) nodes a p h e lt =
-    let there : eqb a p ≡ false = ne_eqb a p (λ q. omega arith) in
-    remembering-up k nodes a p there (lt-ltb p a lt) ∙ ap (λ m. remembering k (with_heir m a nodes) m p) e ∙ remembering-here k (with_heir p a nodes) p p (eq-eqb p p refl)
-
-pub remembering-one_down : (k : ℕ) (nodes : List Node) (p b : ℕ) → 0 < k → (node_at nodes b).parent ≡ p → p < b → remembering k nodes p b ≡ with_heir p b nodes
-remembering-one_down zero nodes p b h e lt = absurd (omega arith)
-remembering-one_down (suc k) nodes p b h e lt =
-    let there : eqb p b ≡ false = ne_eqb p b (λ q. omega arith) in
-    remembering-down k nodes p b there (le-ltb b p (omega arith)) ∙ ap (λ m. with_heir m b (remembering k nodes p m)) e ∙ ap (with_heir p b) (remembering-here k nodes p p (eq-eqb p p refl))
-
 -- up to the parent
-up-leads : (nodes : List Node) (a : ℕ) → IsTree nodes → 0 < a → a < length nodes → all_changed (node_at nodes a).text (up nodes a) ≡ (node_at nodes (node_at nodes a).parent).text
+pub up-leads : (nodes : List Node) (a : ℕ) → IsTree nodes → 0 < a → a < length nodes → all_changed (node_at nodes a).text (up nodes a) ≡ (node_at nodes (node_at nodes a).parent).text
 up-leads nodes a t p lt =
     let child : IsChild a (node_at nodes (node_at nodes a).parent) (node_at nodes a) = t.children a p lt in
     ap (λ x. all_changed x (up nodes a)) child.made ∙ undoing-text (node_at nodes (node_at nodes a).parent).text (node_at nodes a).changes child.steps
 
-up-steps : (nodes : List Node) (a : ℕ) → IsTree nodes → 0 < a → a < length nodes → AreSteps (node_at nodes a).text (up nodes a)
+pub up-steps : (nodes : List Node) (a : ℕ) → IsTree nodes → 0 < a → a < length nodes → AreSteps (node_at nodes a).text (up nodes a)
 up-steps nodes a t p lt =
     let child : IsChild a (node_at nodes (node_at nodes a).parent) (node_at nodes a) = t.children a p lt in
     let P : List ℕ → Type 0 = λ x. AreSteps x (up nodes a) in
@@ -264,33 +135,13 @@ pub record Leads (old new : List ℕ) (cs : List Change) : Type 0 where
   pub steps : AreSteps old cs
   pub lead : all_changed old cs ≡ new
 
-leads-append : (a b c : List ℕ) (cs ds : List Change) → Leads a b cs → Leads b c ds → Leads a c (cs ++ ds)
+pub leads-append : (a b c : List ℕ) (cs ds : List Change) → Leads a b cs → Leads b c ds → Leads a c (cs ++ ds)
 leads-append a b c cs ds h k =
     let P : List ℕ → Type 0 = λ x. AreSteps x ds in
     record {
       steps = steps-append a cs ds h.steps (subst P (sym h.lead) k.steps);
       lead = all_changed-append a cs ds ∙ ap (λ x. all_changed x ds) h.lead ∙ k.lead;
     }
-
--- a route leads from the one text to the other
-pub route-leads : (k : ℕ) (nodes : List Node) (a b : ℕ) → IsTree nodes → a < length nodes → b < length nodes → a + b ≤ k → Leads (node_at nodes a).text (node_at nodes b).text (route k nodes a b)
-route-leads zero nodes a b t la lb h = let e : a ≡ b = omega arith in record { steps = tt; lead = ap (λ m. (node_at nodes m).text) e }
-route-leads (suc k) nodes a b t la lb h =
-    let P : List Change → Type 0 = λ x. Leads (node_at nodes a).text (node_at nodes b).text x in
-    elim (test_cases (eqb a b)) [
-      | inl e ↦ subst P (sym (route-here k nodes a b e)) (record { steps = tt; lead = ap (λ m. (node_at nodes m).text) (eqb-true a b e) })
-      | inr e ↦ elim (test_cases (ltb b a)) [
-        | inl l ↦ (let p : 0 < a = omega (arith, ltb-true b a l) in
-            let below : (node_at nodes a).parent < a = (t.children a p la).below in
-            subst P (sym (route-up k nodes a b e l)) (leads-append _ (node_at nodes (node_at nodes a).parent).text _ (up nodes a) (route k nodes (node_at nodes a).parent b) (record { steps = up-steps nodes a t p la; lead = up-leads nodes a t p la })
-            (route-leads k nodes (node_at nodes a).parent b t (omega arith) lb (omega arith))))
-        | inr l ↦ (let p : 0 < b = omega (arith, ltb-false b a l, eqb-false a b e) in
-            let child : IsChild b (node_at nodes (node_at nodes b).parent) (node_at nodes b) = t.children b p lb in
-            let below : (node_at nodes b).parent < b = child.below in
-            subst P (sym (route-down k nodes a b e l)) (leads-append _ (node_at nodes (node_at nodes b).parent).text _ (route k nodes a (node_at nodes b).parent) (node_at nodes b).changes (route-leads k nodes a (node_at nodes b).parent t la (omega arith) (omega arith))
-            (record { steps = child.steps; lead = sym child.made })))
-      ]
-    ]
 
 -- a tree with one more node
 pub push-tree : (nodes : List Node) (n : Node) → IsTree nodes → n.parent < length nodes → IsChild (length nodes) (node_at nodes n.parent) n → n.heir ≡ None → IsStored n.text → IsTree (nodes ++ n ∷ [])

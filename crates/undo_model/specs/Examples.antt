@@ -3,11 +3,12 @@ use Rattle.std.specs.Prelude.{◌≡◌, ℕ, true, false, [], ◌∷◌, Some, 
 use Rattle.text_model.specs.Changes.{Insertion, Erasure, all_changed}
 use Rattle.list_model.specs.Ranges.{Selected, only}
 use Rattle.undo_model.specs.Steps.{undoing}
-use Rattle.undo_model.specs.Tree.{node_at, crossed}
-use Rattle.undo_model.specs.Stories.{Story, opened, committed, committed_by, edited, is_undo_full, moved_to, changes_to, undone, redone, heir_of, is_modified, marked_saved, nodes_due}
+use Rattle.undo_model.specs.Tree.{node_at}
+use Rattle.undo_model.specs.Stories.{Story, opened, committed, committed_by, edited, is_undo_full, changes_to, heir_of, is_modified, marked_saved, nodes_due}
 use Rattle.undo_model.specs.declared.travel.Travel.TheVariants.{Undo, Redo, Node}
-use Rattle.undo_model.specs.Ways.{leaving, entering}
+use Rattle.undo_model.specs.Ways.{leaving, entering, crossed}
 use Rattle.undo_model.specs.Moves.{target_of, moved_by, move_changes, forgotten}
+use Rattle.undo_model.specs.Named.{moved_to, undone, redone}
 use Rattle.undo_model.specs.Edits.{Splice, edit_changes}
 use Rattle.undo_model.specs.Marks.{marks, left_by}
 

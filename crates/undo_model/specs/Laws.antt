@@ -1,15 +1,17 @@
 -- Laws of the definitions, each proved as the contract of a function of `laws`.
-use Rattle.std.specs.Prelude.{◌≡◌, ℕ, ◌+◌, ◌<◌, ◌≤◌, true, false, List, [], ◌++◌, length, All, Some}
+use Rattle.std.specs.Prelude.{◌≡◌, ℕ, ◌+◌, ◌<◌, ◌≤◌, true, false, List, [], length, All, Some}
 use Rattle.text_model.specs.Texts.{IsStored}
 use Rattle.text_model.specs.Changes.{Change, all_changed}
 use Rattle.list_model.specs.Ranges.{Range}
+use Rattle.list_model.specs.Settled.{SomeOf}
 use Rattle.undo_model.specs.Steps.{AreSteps, undoing}
 use Rattle.undo_model.specs.declared.travel.Travel.{Travel}
 use Rattle.undo_model.specs.declared.travel.Travel.TheVariants.{Undo, Redo, Node as NodeOf}
-use Rattle.undo_model.specs.Tree.{Node, node_at, route, remembering, crossed, heir_after}
-use Rattle.undo_model.specs.Ways.{leaving, entering, rising, falling, remembered, IsWay}
-use Rattle.undo_model.specs.Stories.{Story, opened, committed, committed_by, edited, is_undo_full, moved_to, changes_to, undone, redone, heir_of, is_modified, marked_saved}
+use Rattle.undo_model.specs.Tree.{Node, node_at, heir_after}
+use Rattle.undo_model.specs.Ways.{leaving, entering, crossed, IsWay}
+use Rattle.undo_model.specs.Stories.{Story, opened, committed, committed_by, edited, is_undo_full, changes_to, heir_of, is_modified, marked_saved}
 use Rattle.undo_model.specs.Moves.{target_of, moved_by, move_changes, forgotten}
+use Rattle.undo_model.specs.Named.{moved_to, undone, redone}
 use Rattle.undo_model.specs.Edits.{Splice, AreInOrder, edit_changes, is_too_long}
 use Rattle.undo_model.specs.Marks.{marks}
 use Rattle.undo_model.specs.Kept.{IsTree, IsStory}
@@ -62,11 +64,10 @@ pub record ForgottenIsAStory : Type 0 where
   pub modified : (text : List ℕ) → is_modified (forgotten text) ≡ true
   pub stays_so : (text : List ℕ) → is_modified (committed (forgotten text)) ≡ true
 
--- a move can be made node by node: up to the nearest common ancestor, and from there down
+-- a move goes node by node up to a common ancestor and from there down, and comes to no node twice: so to the nearest one
 pub record MovesGoByNodes : Type 0 where
   pub way : (k : ℕ) (nodes : List Node) (a b : ℕ) → IsTree nodes → a < length nodes → b < length nodes → a + b ≤ k → IsWay nodes a b (leaving k nodes a b) (entering k nodes a b)
-  pub changes : (k : ℕ) (nodes : List Node) (a b : ℕ) → route k nodes a b ≡ rising nodes (leaving k nodes a b) ++ falling nodes (entering k nodes a b)
-  pub heirs : (k : ℕ) (nodes : List Node) (a b : ℕ) → IsTree nodes → a < length nodes → b < length nodes → remembering k nodes a b ≡ remembered (remembered nodes (leaving k nodes a b)) (entering k nodes a b)
+  pub apart : (k : ℕ) (nodes : List Node) (a b n : ℕ) → IsTree nodes → a < length nodes → b < length nodes → SomeOf (λ m. m ≡ n) (leaving k nodes a b) → ¬ SomeOf (λ m. m ≡ n) (entering k nodes a b)
 
 -- the single changes of an edit that isn't refused are steps
 pub record EditsAreSteps : Type 0 where

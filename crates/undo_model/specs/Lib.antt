@@ -3,6 +3,7 @@ pub mod Tree
 pub mod Ways
 pub mod Stories
 pub mod Moves
+pub mod Named
 pub mod Edits
 pub mod Marks
 pub mod Kept

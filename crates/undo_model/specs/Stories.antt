@@ -1,10 +1,11 @@
 -- A buffer's story: its text, its undo tree, and the changes that aren't in the tree yet.
-use Rattle.std.specs.Prelude.{ℕ, ◌+◌, Bool, false, not, is_some, ◌==◌, nat_lt, nat_le, ◌&&◌, ◌||◌, if◌then◌else◌, List, [], ◌∷◌, ◌++◌, length}
+use Rattle.std.specs.Prelude.{ℕ, ◌+◌, Bool, false, not, is_some, ◌==◌, nat_le, ◌&&◌, ◌||◌, if◌then◌else◌, List, [], ◌∷◌, ◌++◌, length}
 use Rattle.std.specs.declared.option.Option.{Option}
 use Rattle.std.specs.Prelude.{Some, None}
 use Rattle.text_model.specs.Changes.{Change, all_changed}
 use Rattle.undo_model.specs.declared.TheConstants.{MAX_NODES}
-use Rattle.undo_model.specs.Tree.{Node, root, node_at, route, remembering}
+use Rattle.undo_model.specs.Tree.{Node, root, node_at}
+use Rattle.undo_model.specs.Ways.{route, remembering}
 
 -- a client's changes that aren't in the tree yet
 pub record Group : Type 0 where
@@ -86,11 +87,7 @@ went_to n s = record {
   saved = s.saved;
 }
 
--- the pending group is committed, and the buffer goes to a node, if there is one of that number
-abbrev pub moved_to : ℕ → Story → Story
-moved_to n s = if nat_lt n (length (committed s).nodes) then went_to n (committed s) else committed s
-
--- the single changes of that move
+-- what is pending is committed, and then these are the single changes of going there
 abbrev pub changes_to : ℕ → Story → List Change
 changes_to n s = route ((committed s).current + n) (committed s).nodes (committed s).current n
 
@@ -101,19 +98,6 @@ parent_of s = (node_at s.nodes s.current).parent
 -- the heir of the current node
 abbrev pub heir_of : Story → Option ℕ
 heir_of s = (node_at s.nodes s.current).heir
-
--- the pending group is committed, and the last group is taken back: at the root there is none
-abbrev pub undone : Story → Story
-undone s = if (committed s).current == 0 then committed s else moved_to (parent_of (committed s)) s
-
--- the buffer goes to an heir, if there is one
-abbrev pub went_on : Option ℕ → Story → Story
-went_on None s = s
-went_on (Some n) s = went_to n s
-
--- the pending group is committed, and the group of the heir is made again
-abbrev pub redone : Story → Story
-redone s = went_on (heir_of (committed s)) (committed s)
 
 -- whether the text may differ from what was saved
 abbrev pub is_modified : Story → Bool

@@ -35,7 +35,7 @@ pub fn forgotten_is_a_story()
     ensures { ForgottenIsAStory }
 {}
 
-/// A move goes node by node up to the nearest common ancestor, and from there down.
+/// A move goes node by node up to the nearest common ancestor, and from there down, over no node twice.
 pub fn moves_go_by_nodes()
     ensures { MovesGoByNodes }
 {}

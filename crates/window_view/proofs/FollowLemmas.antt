@@ -1,10 +1,10 @@
 -- A window follows by the least amount.
-use Rattle.std.proofs.Common.{◌≡◌, ℕ, ◌+◌, ◌-◌, ◌<◌, ◌≤◌, false, min, max, refl, subst, sym, ap, ◌∙◌, arith, inl, inr, ◌⊎◌}
-use Rattle.std.specs.Prelude.{nat_lt, nat_le, if◌then◌else◌}
+use Rattle.std.proofs.Common.{◌≡◌, ℕ, ◌+◌, ◌-◌, ◌<◌, ◌≤◌, false, min, max, refl, subst, sym, ◌∙◌, arith, inl, inr}
+use Rattle.std.specs.Prelude.{nat_le}
 use Rattle.std.proofs.lemmas.Bool.{cases_lt, lt-ltb, le-ltb, le-leb}
 use Rattle.std.proofs.lemmas.Bool.Decides.{leb_tells}
-use Rattle.window_view.specs.View.{View, IsWindow, followed_top, followed_left, text_columns, followed}
-use Rattle.window_view.specs.Least.{IsLineIn, AreCellsIn, IsNearest, FollowsLeast, WindowsFollowLeast}
+use Rattle.window_view.specs.View.{View, followed_top, followed_left, text_columns}
+use Rattle.window_view.specs.Least.{IsLineIn, AreCellsIn, IsNearest, WindowsFollowLeast}
 
 -- where the first line goes
 top-above : (view : View) (line : ℕ) → line < view.top → followed_top view line ≡ line

@@ -1,7 +1,9 @@
 -- Worked examples of following, which hold by computation.
 use Rattle.std.specs.Prelude.{◌≡◌, ℕ}
 use Rattle.kak_text.specs.declared.widths.TheConstants.{MAX_TABSTOP}
+use Rattle.window_view.specs.declared.size.TheConstants.{MAX_SIDE}
 use Rattle.window_view.specs.View.{View, followed}
+use Rattle.window_view.specs.Sizes.{sized, first_size, view_at, first_corner}
 
 -- a window of 3 rows and 10 columns
 abbrev pub small : ℕ → ℕ → View
@@ -22,3 +24,10 @@ pub record Examples : Type 0 where
   pub gutter_fills : followed (small 0 0) 0 4 1 12 ≡ small 0 4
   -- a cursor wider than the part has its first cell at the left
   pub too_wide : followed (small 0 0) 0 4 8 9 ≡ small 0 4
+  -- any number is brought into 1 to 1,000
+  pub most : MAX_SIDE ≡ 1000
+  pub none_is_one : sized 0 80 ≡ record { rows = 1; columns = 80 }
+  pub most_stays : sized 24 1000 ≡ record { rows = 24; columns = 1000 }
+  pub more_is_most : sized 65535 1001 ≡ record { rows = 1000; columns = 1000 }
+  pub first_stays : sized 24 80 ≡ first_size
+  pub first_window : view_at first_corner first_size ≡ record { top = 0; left = 0; rows = 24; columns = 80 }

@@ -1,4 +1,5 @@
 pub mod View
+pub mod Sizes
 pub mod Views
 pub mod Least
 pub mod Holding

@@ -3,6 +3,9 @@
 ghost use Rattle.std.specs.Prelude.{◌≡◌, ◌+◌, ◌^◌, ◌<◌, ◌≤◌};
 ghost use Rattle.window_view.specs.View.{View, followed};
 
+use crate::corner::Corner;
+use crate::size::Size;
+
 /// A window: its first line and its first display column, both from 0, and its size, each number from 1 to 1,000.
 #[derive(Clone, Copy, Debug, PartialEq, Eq)]
 pub struct Window {
@@ -18,20 +21,27 @@ pub struct Window {
 
 impl Window {
     ghost use Rattle.window_view.specs.Views.{window_seen};
+    ghost use Rattle.window_view.specs.Sizes.{view_at, corner_of};
 
-    /// A window at the start of a text.
-    pub fn new(rows: u16, columns: u16) -> Window
-        requires some_rows { 1 ≤ rows }
-        requires few_rows { rows ≤ 1000 }
-        requires some_columns { 1 ≤ columns }
-        requires few_columns { columns ≤ 1000 }
-        ensures { window_seen result ≡ record { top = 0; left = 0; rows = rows; columns = columns } }
+    /// The window of a size at a corner.
+    pub fn of(corner: Corner, size: Size) -> Window
+        ensures { window_seen result ≡ view_at corner size }
     {
         Window {
-            top: 0,
-            left: 0,
-            rows,
-            columns,
+            top: corner.top,
+            left: corner.left,
+            rows: size.rows(),
+            columns: size.columns(),
+        }
+    }
+
+    /// Where it stands.
+    pub fn corner(&self) -> Corner
+        ensures { result ≡ corner_of (window_seen self.now) }
+    {
+        Corner {
+            top: self.top,
+            left: self.left,
         }
     }
 

@@ -1,6 +1,7 @@
 use Rattle.std.proofs.Common.{◌+◌, ◌^◌, ◌<◌, length, chars, arith}
 use Rattle.std.proofs.lemmas.Bool.Decides.{nat_tests}
-use Rattle.text_coding.proofs.FormLemmas.{few_chars, few-ended}
+use Rattle.line_buffer.proofs.GrowingLemmas.{few_chars}
+use Rattle.text_coding.proofs.FormLemmas.{few-ended}
 use Rattle.text_coding.proofs.decoding.is_too_long.Goals as goal
 
 pub returns-then-text-lt-MAX_CHARS-clause-short : goal.returns-then-text-lt-MAX_CHARS-clause-short

@@ -2,7 +2,8 @@ use Rattle.std.proofs.Common.{◌≤◌, length, chars, sym, ◌∙◌, map-id, 
 use Rattle.std.proofs.lemmas.Iterator.{YieldsList-from_chars}
 use Rattle.std.proofs.lemmas.Iterator.Consumers.{YieldsList-end, YieldsList-turn}
 use Rattle.text_coding.specs.Surveying.{IsSurvey}
-use Rattle.text_coding.proofs.FormLemmas.{short-le, few_chars}
+use Rattle.line_buffer.proofs.GrowingLemmas.{few_chars}
+use Rattle.text_coding.proofs.FormLemmas.{short-le}
 use Rattle.text_coding.proofs.decoding.survey_of.Goals as goal
 
 pub with_one-survey-requires-clause-plain : goal.with_one-survey-requires-clause-plain

@@ -5,4 +5,4 @@ use Rattle.compact_chars.specs.Rows.{chars_of}
 use Rattle.window_view.proofs.holding.offset_at.Given as goal
 
 abbrev pub invariant-loop-i : goal.invariant-loop-i
-invariant-loop-i l = record { column_is : l.at ≡ display_column (chars_of l.line) l.i l.tabstop; small : l.at ≤ 64 * l.i; before : l.at ≤ l.cell }
+invariant-loop-i l = record { column_is : l.at ≡ display_column (chars_of l.line) l.i l.tabstop.columns; small : l.at ≤ 64 * l.i; before : l.at ≤ l.cell }

@@ -1,4 +1,4 @@
-use Rattle.std.proofs.Common.{subst, sym, ap, length, ◌<◌}
+use Rattle.std.proofs.Common.{subst, sym, length, ◌<◌}
 use Rattle.line_buffer.proofs.GrowingLemmas.{grown-buffer}
 use Rattle.line_buffer.proofs.growing.GrowingLines.finish.Goals as goal
 

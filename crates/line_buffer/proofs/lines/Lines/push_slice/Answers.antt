@@ -1,4 +1,4 @@
-use Rattle.std.proofs.Common.{◌≡◌, ◌<◌, ◌+◌, ◌++◌, length, get_or, [], string_bytes, encode_utf8_all, refl, ap, ◌∙◌, arith}
+use Rattle.std.proofs.Common.{◌≡◌, ◌<◌, ◌+◌, ◌++◌, length, get_or, [], string_bytes, encode_utf8_all, ap, ◌∙◌, arith}
 use Rattle.std.proofs.lemmas.Result.{on_ok_weaker}
 use Rattle.text_model.specs.Texts.{lines_of, offset, IsPlace}
 use Rattle.text_model.proofs.PlaceLemmas.{start-more}

@@ -3,7 +3,7 @@ use Rattle.std.proofs.lemmas.List.{get_or_read}
 use Rattle.text_model.specs.Texts.{IsLine, lines_of}
 use Rattle.text_model.proofs.PlaceLemmas.{some_lines}
 use Rattle.line_buffer.proofs.BufferLemmas.{split_last}
-use Rattle.line_buffer.proofs.rows.split_last.Goals as goal
+use Rattle.line_buffer.proofs.rows.keep_begin.Goals as goal
 
 pub remove-first-requires : goal.remove-first-requires
 remove-first-requires c =
