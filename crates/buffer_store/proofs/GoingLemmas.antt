@@ -5,12 +5,12 @@ use Rattle.text_model.specs.Changes.{Change, all_changed}
 use Rattle.text_model.proofs.ChangeLemmas.{all_changed-append}
 use Rattle.change_list.specs.declared.change.Change.{Change as Kept}
 use Rattle.undo_model.specs.Steps.{AreSteps, undoing}
-use Rattle.undo_model.specs.Tree.{Node, node_at, with_heir, up, route, remembering}
-use Rattle.undo_model.specs.Ways.{leaving, entering, rising, falling, remembered, IsRise, IsFall, IsWay}
+use Rattle.undo_model.specs.Tree.{Node, node_at, with_heir, up}
+use Rattle.undo_model.specs.Ways.{leaving, entering, rising, falling, remembered, route, remembering, IsRise, IsFall, IsWay}
 use Rattle.undo_model.specs.Stories.{Story, went_to}
 use Rattle.undo_model.specs.Kept.{IsTree, IsStory}
-use Rattle.undo_model.proofs.TreeLemmas.{same-text, IsTreeAs, remembering-tree, Leads, route-leads}
-use Rattle.undo_model.proofs.WayLemmas.{route-by_nodes, remembering-by_nodes, way-by_nodes}
+use Rattle.undo_model.proofs.TreeLemmas.{same-text, IsTreeAs, Leads}
+use Rattle.undo_model.proofs.WayLemmas.{remembering-tree, route-leads, way-by_nodes}
 use Rattle.undo_model.proofs.StoryLemmas.{went-story}
 use Rattle.buffer_store.specs.Stored.{AllFit, flats, made, backs, IsMade}
 use Rattle.buffer_store.specs.Seen.{Branch, branch_at, nodes_of, story_from, story_kept, IsTold}
@@ -186,7 +186,7 @@ going text bs current saved n ls es s h is lt left entered =
     let middle : all_changed text (back_over bs text ls) ≡ (node_at ns way.top).text = ap (λ x. all_changed x (back_over bs x ls)) here ∙ up.text in
     let backward : back_over bs text ls ≡ rising ns ls = ap (λ x. back_over bs x ls) here ∙ up.changes in
     let onward : on_over bs (all_changed text (back_over bs text ls)) es ≡ falling ns es = ap (λ x. on_over bs x es) middle ∙ down.changes in
-    let changes : way_changes bs text ls es ≡ route k ns current n = ap₂ (λ x y. x ++ y) backward onward ∙ ap₂ (λ xs ys. rising ns xs ++ falling ns ys) (left o) (entered o) ∙ sym (route-by_nodes k ns current n) in
+    let changes : way_changes bs text ls es ≡ route k ns current n = ap₂ (λ x y. x ++ y) backward onward ∙ ap₂ (λ xs ys. rising ns xs ++ falling ns ys) (left o) (entered o) in
     let leads : Leads (node_at ns current).text (node_at ns n).text (route k ns current n) = route-leads k ns current n h.story.tree h.story.current there enough in
     let new : List ℕ = all_changed text (way_changes bs text ls es) in
     let new_is : new ≡ (node_at ns n).text = ap₂ all_changed here changes ∙ leads.lead in
@@ -198,7 +198,7 @@ going text bs current saved n ls es s h is lt left entered =
     let first : AreSameBranches (aimed_over bs ls) bs = aimed-same bs ls up.there in
     let second : AreSameBranches cs (aimed_over bs ls) = aimed-same (aimed_over bs ls) es entered_there in
     let same : AreSameBranches cs bs = record { long = second.long ∙ first.long; parents = λ m. second.parents m ∙ first.parents m; changes = λ m. second.changes m ∙ first.changes m } in
-    let nodes : nodes_of o cs ≡ remembering k ns current n = nodes-over o (aimed_over bs ls) es entered_there ∙ ap (λ xs. remembered xs es) (nodes-over o bs ls up.there) ∙ ap₂ (λ xs ys. remembered (remembered ns xs) ys) (left o) (entered o) ∙ sym (remembering-by_nodes k ns current n h.story.tree h.story.current there) in
+    let nodes : nodes_of o cs ≡ remembering k ns current n = nodes-over o (aimed_over bs ls) es entered_there ∙ ap (λ xs. remembered xs es) (nodes-over o bs ls up.there) ∙ ap₂ (λ xs ys. remembered (remembered ns xs) ys) (left o) (entered o) in
     let T : Story → Type 0 = λ x. TellsStory new cs n saved None (went_to n x) in
     record {
       can = record {

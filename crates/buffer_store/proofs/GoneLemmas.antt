@@ -8,12 +8,12 @@ use Rattle.text_model.specs.Changes.{Change, all_changed}
 use Rattle.text_model.proofs.CoordLemmas.{test_cases}
 use Rattle.undo_model.specs.declared.travel.Travel.TheVariants.{Undo, Redo, Node}
 use Rattle.undo_model.specs.Steps.{AreSteps}
-use Rattle.undo_model.specs.Tree.{node_at, route}
-use Rattle.undo_model.specs.Ways.{leaving, entering}
+use Rattle.undo_model.specs.Tree.{node_at}
+use Rattle.undo_model.specs.Ways.{leaving, entering, route}
 use Rattle.undo_model.specs.Stories.{Story, went_to, parent_of}
 use Rattle.undo_model.specs.Moves.{target_in, forgotten}
 use Rattle.undo_model.proofs.MoveLemmas.{forgotten-story}
-use Rattle.undo_model.proofs.TreeLemmas.{route-here}
+use Rattle.undo_model.proofs.WayLemmas.{route-here}
 use Rattle.change_list.specs.declared.change.Change.{Change as Kept}
 use Rattle.buffer_store.specs.Stored.{change_shifts}
 use Rattle.buffer_store.specs.Seen.{Branch, Pending, branch_at, nodes_of, seen_group, story_from, story_kept, IsTold}
@@ -110,14 +110,10 @@ broken-forgotten cs old new shifts steps h some e =
     }
 
 -- where there was a change there are two nodes
-route-same : (k : ℕ) (s : Story) (n : ℕ) → eqb s.current n ≡ true → route k s.nodes s.current n ≡ []
-route-same zero s n e = refl
-route-same (suc k) s n e = route-here k s.nodes s.current n e
-
 pub two-nodes : (text : List ℕ) (bs : List Branch) (current saved n : ℕ) (group : Option Pending) (s : Story) (old new : List ℕ) (shifts : List Shift) → IsTold text bs current saved group → story_kept text bs current saved group ≡ s → n < length s.nodes → IsBehindSome (changes_from n s) old new shifts → 0 < length shifts → 2 ≤ length bs
 two-nodes text bs current saved n group s old new shifts h is lt some p =
     elim (test_cases (eqb s.current n)) [
-      | inl e ↦ absurd (none-of-none old some.done (length shifts) (sym (ap length some.shifts_are)) p (front-none some.done some.left (sym some.are ∙ route-same (s.current + n) s n e)))
+      | inl e ↦ absurd (none-of-none old some.done (length shifts) (sym (ap length some.shifts_are)) p (front-none some.done some.left (sym some.are ∙ route-here (s.current + n) s.nodes s.current n e)))
       | inr e ↦ omega (arith, eqb-false s.current n e, ap (λ (x : Story). x.current) is, told-current text bs current saved group h, node-in text bs current saved n group s is lt)
     ]
   where

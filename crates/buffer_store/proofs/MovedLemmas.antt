@@ -8,9 +8,11 @@ use Rattle.text_model.specs.Changes.{all_changed}
 use Rattle.text_model.proofs.CoordLemmas.{test_cases}
 use Rattle.change_list.specs.declared.change.Change.{Change as Kept}
 use Rattle.undo_model.specs.Tree.{node_at, with_heir}
-use Rattle.undo_model.specs.Stories.{Story, went_to, went_on, undone, redone, heir_of}
+use Rattle.undo_model.specs.Stories.{Story, went_to, heir_of}
+use Rattle.undo_model.specs.Named.{went_on, undone, redone}
 use Rattle.undo_model.specs.Kept.{IsStory, IsHeir}
-use Rattle.undo_model.proofs.TreeLemmas.{same-text, with_heir-same, remembering-one_up, remembering-one_down}
+use Rattle.undo_model.proofs.TreeLemmas.{same-text, with_heir-same}
+use Rattle.undo_model.proofs.WayLemmas.{remembering-one_up, remembering-one_down}
 use Rattle.undo_model.proofs.StoryLemmas.{went-story, undone-goes}
 use Rattle.buffer_store.specs.Stored.{AllFit, made, backs}
 use Rattle.buffer_store.specs.Seen.{Branch, branch_at, nodes_of, story_from, story_kept, IsTold}

@@ -2,10 +2,9 @@
 use Rattle.std.proofs.Common.{◌≡◌, ℕ, zero, suc, ◌+◌, ◌≤◌, min, Bool, true, false, not, cond, eqb, leb, ◌&&◌, List, [], ◌∷◌, ◌++◌, length, take, refl, sym, ap, ap₂, subst, ◌∙◌, arith, Some, Ok, Err, append-nil, append_assoc, eq-eqb}
 use Rattle.std.specs.Prelude.{OnOk, IsErr}
 use Rattle.std.specs.declared.result.Result.{Result}
-use Rattle.change_list.specs.Logs.{Logged}
 use Rattle.buffer_store.specs.declared.edits.Splice.{Splice}
 use Rattle.buffer_store.specs.declared.errors.BufferError.{BufferError}
-use Rattle.buffer_store.specs.Buffers.{Stored, changes_of, IsEdited}
+use Rattle.buffer_store.specs.Buffers.{changes_of, IsEdited}
 use Rattle.std.proofs.lemmas.List.{take_min, take-append-le}
 use Rattle.text_model.specs.declared.coords.Shift.{Shift}
 use Rattle.text_model.specs.Changes.{Change, changed, all_changed}
@@ -118,13 +117,13 @@ steps-take (suc n) text [] h = tt
 steps-take (suc n) text (c ∷ cs) h = (h.0, steps-take n (changed text c) cs h.1)
 
 -- an edit of a buffer, by that of its history
-pub edited-some : (who : ℕ) (r : Result (Unit {0}) BufferError) (ss : List Splice) (s new : Story) (log : Logged) (old : Stored) (told : List Shift) → (let b : Stored = record { story = s; log = log } in b) ≡ old → IsErr r → AreSteps s.text (changes_of s.text ss) → IsPartly who (changes_of s.text ss) s new [] told
-    → IsEdited who (changes_of old.story.text ss) r old (record { story = new; log = log }) told
-edited-some who r ss s new log old told e failed steps h =
-    let P : Stored → Type 0 = λ b. IsEdited who (changes_of b.story.text ss) r b (record { story = new; log = log }) told in
+pub edited-some : (who : ℕ) (r : Result (Unit {0}) BufferError) (ss : List Splice) (s new old : Story) (told : List Shift) → s ≡ old → IsErr r → AreSteps s.text (changes_of s.text ss) → IsPartly who (changes_of s.text ss) s new [] told
+    → IsEdited who (changes_of old.text ss) r old new told
+edited-some who r ss s new old told e failed steps h =
+    let P : Story → Type 0 = λ b. IsEdited who (changes_of b.text ss) r b new told in
     subst P e (record {
       made = h.made;
-      story = ap (λ x. (let b : Stored = record { story = x; log = log } in b)) h.story;
+      story = h.story;
       steps = steps-take h.made s.text (changes_of s.text ss) steps;
       shifts_are = h.shifts_are;
       all = never r (take h.made (changes_of s.text ss) ≡ changes_of s.text ss) failed;
@@ -134,14 +133,14 @@ edited-some who r ss s new log old told e failed steps h =
     never (Ok x) P h = absurd (let no : false ≡ true = h in cc)
     never (Err e) P h = tt
 
-pub edited-all : (who : ℕ) (ss : List Splice) (s new : Story) (log : Logged) (old : Stored) (told : List Shift) → (let b : Stored = record { story = s; log = log } in b) ≡ old → AreSteps s.text (changes_of s.text ss) → IsWholly who (changes_of s.text ss) s new [] told
-    → IsEdited who (changes_of old.story.text ss) (Ok tt) old (record { story = new; log = log }) told
-edited-all who ss s new log old told e steps w =
-    let P : Stored → Type 0 = λ b. IsEdited who (changes_of b.story.text ss) (Ok tt) b (record { story = new; log = log }) told in
+pub edited-all : (who : ℕ) (ss : List Splice) (s new old : Story) (told : List Shift) → s ≡ old → AreSteps s.text (changes_of s.text ss) → IsWholly who (changes_of s.text ss) s new [] told
+    → IsEdited who (changes_of old.text ss) (Ok tt) old new told
+edited-all who ss s new old told e steps w =
+    let P : Story → Type 0 = λ b. IsEdited who (changes_of b.text ss) (Ok tt) b new told in
     let cs : List Change = changes_of s.text ss in
     subst P e (record {
       made = length cs;
-      story = ap (λ x. (let b : Stored = record { story = x; log = log } in b)) (w.story ∙ ap (λ x. edited who x s) (sym (take-all cs)));
+      story = w.story ∙ ap (λ x. edited who x s) (sym (take-all cs));
       steps = steps-take (length cs) s.text cs steps;
       shifts_are = w.shifts_are ∙ ap (change_shifts s.text) (sym (take-all cs));
       all = take-all cs;

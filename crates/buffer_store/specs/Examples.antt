@@ -7,7 +7,8 @@ use Rattle.selection_set.specs.declared.sel.Sel.{Sel}
 use Rattle.change_list.specs.declared.change.Change.{Change as Kept}
 use Rattle.undo_model.specs.declared.travel.Travel.TheVariants.{Node}
 use Rattle.undo_model.specs.Moves.{forgotten}
-use Rattle.undo_model.specs.Stories.{undone, is_modified}
+use Rattle.undo_model.specs.Stories.{is_modified}
+use Rattle.undo_model.specs.Named.{undone}
 use Rattle.undo_model.specs.Examples.{typed_at_begin, empty_story, one_node, two_children, at_the_first}
 use Rattle.buffer_store.specs.Stored.{flats, made, backs, change_shifts}
 use Rattle.buffer_store.specs.declared.edits.Splice.{Splice}

@@ -1,11 +1,11 @@
 -- A history in memory: what is kept of its pending group, what it keeps in every state, and how it is changed.
-use Rattle.std.specs.Prelude.{◌≡◌, ℕ, ◌+◌, ◌<◌, ◌≤◌, ◌==◌, if◌then◌else◌, List, [], ◌∷◌, ◌++◌, take, Some, None, OnSome, MatchBool, vec_len, vec_capacity}
+use Rattle.std.specs.Prelude.{◌≡◌, ℕ, ◌+◌, ◌<◌, ◌≤◌, ◌==◌, if◌then◌else◌, List, [], ◌∷◌, ◌++◌, length, take, Some, None, OnSome, MatchBool, vec_len, vec_capacity}
 use Rattle.std.specs.declared.option.Option.{Option}
 use Rattle.std.specs.Global.{Vec}
 use Rattle.text_model.specs.declared.coords.Coord.{Coord}
 use Rattle.text_model.specs.declared.coords.Shift.{Shift}
 use Rattle.text_model.specs.Texts.{IsStored, IsPlaceOrEnd, offset}
-use Rattle.text_model.specs.Changes.{Change}
+use Rattle.text_model.specs.Changes.{Change, put_in, erased, erasure, exchange, replacement}
 use Rattle.change_list.specs.declared.change.Change.{Change as Kept}
 use Rattle.selection_map.specs.Premises.{IsTied}
 use Rattle.undo_model.specs.Stories.{Story, edited}
@@ -52,6 +52,26 @@ pub record IsFreshList (taken places : ℕ) (fresh : Vec Kept) : Type 0 where
 abbrev pub HasRoom : ℕ → Option CodePending → ℕ → ℕ → Vec Kept → Type 0
 HasRoom who None taken places fresh = IsFreshList taken places fresh
 HasRoom who (Some g) taken places fresh = MatchBool (g.owner == who) (vec_len g.changes < vec_capacity g.changes) (IsFreshList taken places fresh)
+
+-- the change that takes out what stands between two coordinates
+abbrev pub erasure_between : List ℕ → Coord → Coord → List Change
+erasure_between text from to = erasure text (offset text from) (offset text to)
+
+-- the changes that take it out and put characters in at its place
+abbrev pub exchange_between : List ℕ → Coord → Coord → List ℕ → List Change
+exchange_between text from to chars = exchange text (offset text from) (offset text to) chars
+
+-- the offset behind what is put in then
+abbrev pub behind_exchange : List ℕ → Coord → Coord → List ℕ → ℕ
+behind_exchange text from to chars = offset text from + length (put_in (erased text (offset text from) (offset text to)) (offset text from) chars)
+
+-- the changes that replace it by characters
+abbrev pub replacement_between : List ℕ → Coord → Coord → List ℕ → List Change
+replacement_between text from to chars = replacement text (offset text from) (offset text to) chars
+
+-- the changes that replace the end of a text by characters, from a coordinate on
+abbrev pub replacement_from : List ℕ → Coord → List ℕ → List Change
+replacement_from text from chars = replacement text (offset text from) (length text) chars
 
 -- all of a client's changes were made, and their shifts were added to a list
 pub record IsWholly (who : ℕ) (cs : List Change) (old new : Story) (before after : List Shift) : Type 0 where

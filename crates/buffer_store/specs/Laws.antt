@@ -7,7 +7,8 @@ use Rattle.undo_model.specs.declared.TheConstants.{MAX_NODES}
 use Rattle.undo_model.specs.Steps.{undoing}
 use Rattle.text_model.specs.Texts.{IsStored}
 use Rattle.undo_model.specs.Tree.{with_heir}
-use Rattle.undo_model.specs.Stories.{Story, opened, added, committed, undone, redone}
+use Rattle.undo_model.specs.Stories.{Story, opened, added, committed}
+use Rattle.undo_model.specs.Named.{undone, redone}
 use Rattle.buffer_store.specs.Stored.{KeptFits, AllFit, flat, flats, made, backs}
 use Rattle.buffer_store.specs.Seen.{Branch, Pending, branch_at, node_of, nodes_of, pending_changes, story_from, story_kept, IsTold}
 

@@ -3,7 +3,7 @@ use Rattle.std.specs.Prelude.{◌≡◌, ℕ, ◌+◌, ◌<◌, ◌⊎◌, List,
 use Rattle.text_model.specs.declared.coords.Shift.{Shift}
 use Rattle.text_model.specs.Changes.{Change, all_changed}
 use Rattle.undo_model.specs.Steps.{AreSteps}
-use Rattle.undo_model.specs.Tree.{route}
+use Rattle.undo_model.specs.Ways.{route}
 use Rattle.undo_model.specs.Stories.{Story}
 use Rattle.undo_model.specs.Moves.{forgotten}
 use Rattle.buffer_store.specs.Stored.{change_shifts, AllFit, flats, made, backs, IsMade}

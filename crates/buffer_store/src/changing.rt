@@ -6,7 +6,7 @@ ghost use Rattle.text_model.specs.Texts.{IsPlaceOrEnd, offset};
 ghost use Rattle.text_model.specs.Changes.{inserted, insertion, erasure};
 ghost use Rattle.undo_model.specs.Stories.{edited, is_undo_full};
 ghost use Rattle.buffer_store.specs.Stored.{change_shifts};
-ghost use Rattle.buffer_store.specs.Histories.{seen_pending, committed_branches, committed_current, own_group, other_group, HasRoom};
+ghost use Rattle.buffer_store.specs.Histories.{erasure_between, seen_pending, committed_branches, committed_current, own_group, other_group, HasRoom};
 ghost use Rattle.buffer_store.specs.Laws.{one_pending};
 
 use crate::history::{Branch, History, Pending};
@@ -68,9 +68,9 @@ impl History {
         requires from { IsPlaceOrEnd self.old.text from }
         requires to { IsPlaceOrEnd self.old.text to }
         requires ordered { offset self.old.text from ≤ offset self.old.text to }
-        requires nodes { is_undo_full who (erasure self.old.text (offset self.old.text from) (offset self.old.text to)) self.old ≡ false }
-        ensures story { OnOk result (self.new ≡ edited who (erasure self.old.text (offset self.old.text from) (offset self.old.text to)) self.old) }
-        ensures shift { IfOk result (λ s. option_to_list s ≡ change_shifts self.old.text (erasure self.old.text (offset self.old.text from) (offset self.old.text to))) }
+        requires nodes { is_undo_full who (erasure_between self.old.text from to) self.old ≡ false }
+        ensures story { OnOk result (self.new ≡ edited who (erasure_between self.old.text from to) self.old) }
+        ensures shift { IfOk result (λ s. option_to_list s ≡ change_shifts self.old.text (erasure_between self.old.text from to)) }
         ensures err { OnErr result (self.new ≡ self.old) }
     {
         if from == to {

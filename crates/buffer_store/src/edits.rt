@@ -33,12 +33,12 @@ impl Buffer {
         splices: &[Splice],
         shifts: &mut Vec<Shift>,
     ) -> Result<(), BufferError>
-        requires splices { AreSplicesOf self.old.story.text splices.now }
+        requires splices { AreSplicesOf self.old.text splices.now }
         requires none { shifts.old.items ≡ [] }
-        ensures edits { IsEdited who (changes_of self.old.story.text splices.now) result self.old self.new shifts.new.items }
-        ensures undo_full { IsErrOf result UndoFull ↔ (is_undo_full who (changes_of self.old.story.text splices.now) self.old.story ≡ true) }
-        ensures text_full { IsErrOf result TextFull ↔ ((is_undo_full who (changes_of self.old.story.text splices.now) self.old.story ≡ false)
-            × (is_too_long (length self.old.story.text) self.old.story.text (flat_splices self.old.story.text splices.now) ≡ true)) }
+        ensures edits { IsEdited who (changes_of self.old.text splices.now) result self.old self.new shifts.new.items }
+        ensures undo_full { IsErrOf result UndoFull ↔ (is_undo_full who (changes_of self.old.text splices.now) self.old ≡ true) }
+        ensures text_full { IsErrOf result TextFull ↔ ((is_undo_full who (changes_of self.old.text splices.now) self.old ≡ false)
+            × (is_too_long (length self.old.text) self.old.text (flat_splices self.old.text splices.now) ≡ true)) }
         ensures undo_left { IsErrOf result UndoFull → (self.new ≡ self.old) × (shifts.new.items ≡ []) }
         ensures text_left { IsErrOf result TextFull → (self.new ≡ self.old) × (shifts.new.items ≡ []) }
     {

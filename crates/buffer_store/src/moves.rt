@@ -1,11 +1,10 @@
 //! Moves in a buffer's history.
 
-ghost use Rattle.std.specs.Prelude.{◌≡◌, ◌⊎◌, [], None, Err, IfErr, IfOk, OnOk, OnErr, MatchOption};
+ghost use Rattle.std.specs.Prelude.{◌≡◌, ◌⊎◌, [], None, IfErr, IfOk, OnOk, OnErr};
 ghost use Rattle.undo_model.specs.Moves.{target_of, moved_by, move_changes};
-ghost use Rattle.move_marks.specs.Marking.{IsLeftBy};
 ghost use Rattle.buffer_store.specs.declared.errors.MoveError.TheVariants.{NoMemory};
 ghost use Rattle.buffer_store.specs.Stored.{change_shifts};
-ghost use Rattle.buffer_store.specs.Buffers.{refusal_of, IsBroken};
+ghost use Rattle.buffer_store.specs.Buffers.{refusal_of, AreLeftBy, IsRefusedMove, IsBroken};
 
 use crate::buffer::Buffer;
 use crate::errors::MoveError;
@@ -26,12 +25,12 @@ impl Buffer {
         shifts: &mut Vec<Shift>,
     ) -> Result<Option<Sels>, MoveError>
         requires { shifts.old.items ≡ [] }
-        ensures ok { OnOk result (self.new ≡ record self.old { story = moved_by travel self.old.story }) }
-        ensures shifts { OnOk result (shifts.new.items ≡ change_shifts self.old.story.text (move_changes travel self.old.story)) }
-        ensures left { IfOk result (λ left. MatchOption left (move_changes travel self.old.story ≡ []) (IsLeftBy self.old.story.text (move_changes travel self.old.story))) }
-        ensures nowhere { target_of travel self.old.story ≡ None → (result ≡ Err (refusal_of travel)) × ((self.new ≡ record self.old { story = moved_by travel self.old.story }) × (shifts.new.items ≡ [])) }
-        ensures refused { IfErr result (λ e. (e ≡ NoMemory) ⊎ (target_of travel self.old.story ≡ None)) }
-        ensures broken { OnErr result (IsBroken (move_changes travel self.old.story) self.old self.new shifts.new.items) }
+        ensures ok { OnOk result (self.new ≡ moved_by travel self.old) }
+        ensures shifts { OnOk result (shifts.new.items ≡ change_shifts self.old.text (move_changes travel self.old)) }
+        ensures left { IfOk result (AreLeftBy self.old.text (move_changes travel self.old)) }
+        ensures nowhere { target_of travel self.old ≡ None → IsRefusedMove travel result self.old self.new shifts.new.items }
+        ensures refused { IfErr result (λ e. (e ≡ NoMemory) ⊎ (target_of travel self.old ≡ None)) }
+        ensures broken { OnErr result (IsBroken (move_changes travel self.old) self.old self.new shifts.new.items) }
     {
         self.history.commit();
         // its contract says that this is a story, where each target is there

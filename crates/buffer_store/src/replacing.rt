@@ -3,12 +3,12 @@
 ghost use Rattle.std.specs.Prelude.{◌≡◌, ℕ, ◌+◌, ◌<◌, ◌≤◌, ◌++◌, ◌&&◌, nat_lt, false, [], length, IfOk, OnOk, OnErr, option_to_list, vec_len, vec_capacity};
 ghost use Rattle.text_model.specs.declared.TheConstants.{MAX_CHARS};
 ghost use Rattle.text_model.specs.Texts.{IsPlaceOrEnd, offset, coord_at, ends_in_newline, end_coord};
-ghost use Rattle.text_model.specs.Changes.{all_changed, put_in, erased, exchange, replacement};
+ghost use Rattle.text_model.specs.Changes.{all_changed};
 ghost use Rattle.undo_model.specs.Steps.{AreSteps};
 ghost use Rattle.undo_model.specs.Stories.{is_undo_full};
 ghost use Rattle.undo_model.specs.Edits.{is_too_long};
 ghost use Rattle.buffer_store.specs.Buffers.{AreSplicesOf, flat_splices, changes_of};
-ghost use Rattle.buffer_store.specs.Histories.{IsWholly, IsPartly, IsBehind, end_of};
+ghost use Rattle.buffer_store.specs.Histories.{exchange_between, behind_exchange, replacement_between, replacement_from, IsWholly, IsPartly, IsBehind, end_of};
 
 use crate::edits::Splice;
 use crate::history::History;
@@ -61,10 +61,10 @@ impl History {
         requires from { IsPlaceOrEnd self.old.text from }
         requires to { IsPlaceOrEnd self.old.text to }
         requires ordered { offset self.old.text from ≤ offset self.old.text to }
-        requires room { length (all_changed self.old.text (replacement self.old.text (offset self.old.text from) (offset self.old.text to) chars.now)) ≤ MAX_CHARS }
-        requires nodes { is_undo_full who (replacement self.old.text (offset self.old.text from) (offset self.old.text to) chars.now) self.old ≡ false }
-        ensures ok { OnOk result (IsWholly who (replacement self.old.text (offset self.old.text from) (offset self.old.text to) chars.now) self.old self.new shifts.old.items shifts.new.items) }
-        ensures err { OnErr result (IsPartly who (replacement self.old.text (offset self.old.text from) (offset self.old.text to) chars.now) self.old self.new shifts.old.items shifts.new.items) }
+        requires room { length (all_changed self.old.text (replacement_between self.old.text from to chars.now)) ≤ MAX_CHARS }
+        requires nodes { is_undo_full who (replacement_between self.old.text from to chars.now) self.old ≡ false }
+        ensures ok { OnOk result (IsWholly who (replacement_between self.old.text from to chars.now) self.old self.new shifts.old.items shifts.new.items) }
+        ensures err { OnErr result (IsPartly who (replacement_between self.old.text from to chars.now) self.old self.new shifts.old.items shifts.new.items) }
         ensures behind { IfOk result (λ b. IsBehind self.old.text self.new.text to b) }
     {
         if (to.line as usize) < self.lines().line_count() {
@@ -89,10 +89,10 @@ impl History {
     ) -> Result<Coord, AllocError>
         requires from { IsPlaceOrEnd self.old.text from }
         requires to { to ≡ end_coord self.old.text }
-        requires room { length (all_changed self.old.text (replacement self.old.text (offset self.old.text from) (length self.old.text) chars.now)) ≤ MAX_CHARS }
-        requires nodes { is_undo_full who (replacement self.old.text (offset self.old.text from) (length self.old.text) chars.now) self.old ≡ false }
-        ensures ok { OnOk result (IsWholly who (replacement self.old.text (offset self.old.text from) (length self.old.text) chars.now) self.old self.new shifts.old.items shifts.new.items) }
-        ensures err { OnErr result (IsPartly who (replacement self.old.text (offset self.old.text from) (length self.old.text) chars.now) self.old self.new shifts.old.items shifts.new.items) }
+        requires room { length (all_changed self.old.text (replacement_from self.old.text from chars.now)) ≤ MAX_CHARS }
+        requires nodes { is_undo_full who (replacement_from self.old.text from chars.now) self.old ≡ false }
+        ensures ok { OnOk result (IsWholly who (replacement_from self.old.text from chars.now) self.old self.new shifts.old.items shifts.new.items) }
+        ensures err { OnErr result (IsPartly who (replacement_from self.old.text from chars.now) self.old self.new shifts.old.items shifts.new.items) }
     {
         let last = self.lines().last_place();
         if keeps_newline(from, to, chars) {
@@ -115,11 +115,11 @@ impl History {
         requires from { IsPlaceOrEnd self.old.text from }
         requires to { IsPlaceOrEnd self.old.text to }
         requires ordered { offset self.old.text from ≤ offset self.old.text to }
-        requires room { length (all_changed self.old.text (exchange self.old.text (offset self.old.text from) (offset self.old.text to) chars.now)) ≤ MAX_CHARS }
-        requires nodes { is_undo_full who (exchange self.old.text (offset self.old.text from) (offset self.old.text to) chars.now) self.old ≡ false }
-        ensures ok { OnOk result (IsWholly who (exchange self.old.text (offset self.old.text from) (offset self.old.text to) chars.now) self.old self.new shifts.old.items shifts.new.items) }
-        ensures err { OnErr result (IsPartly who (exchange self.old.text (offset self.old.text from) (offset self.old.text to) chars.now) self.old self.new shifts.old.items shifts.new.items) }
-        ensures behind { IfOk result (λ b. b ≡ coord_at self.new.text (offset self.old.text from + length (put_in (erased self.old.text (offset self.old.text from) (offset self.old.text to)) (offset self.old.text from) chars.now))) }
+        requires room { length (all_changed self.old.text (exchange_between self.old.text from to chars.now)) ≤ MAX_CHARS }
+        requires nodes { is_undo_full who (exchange_between self.old.text from to chars.now) self.old ≡ false }
+        ensures ok { OnOk result (IsWholly who (exchange_between self.old.text from to chars.now) self.old self.new shifts.old.items shifts.new.items) }
+        ensures err { OnErr result (IsPartly who (exchange_between self.old.text from to chars.now) self.old self.new shifts.old.items shifts.new.items) }
+        ensures behind { IfOk result (λ b. b ≡ coord_at self.new.text (behind_exchange self.old.text from to chars.now)) }
     {
         // its contract says that the text is one that can be kept
         let _stored = self.lines().len();

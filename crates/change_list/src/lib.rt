@@ -1,4 +1,4 @@
-//! Single changes of a text with what they put in or took out, and the log of shifts that lists of selections follow.
+//! Single changes of a text with what they put in or took out, and what a log of their shifts is.
 #![tactic(auto)]
 
 pub mod change;
@@ -6,4 +6,4 @@ pub mod laws;
 pub mod log;
 
 pub use change::{Change, inverse};
-pub use log::{Log, MAX_STAMP};
+pub use log::MAX_STAMP;

@@ -1,5 +1,5 @@
 -- What the code makes of lags, rows and shelves.
-use Rattle.std.proofs.Common.{◌≡◌, ℕ, zero, suc, ◌<◌, ◌≤◌, ◌||◌, Bool, true, false, nat_lt, List, [], ◌∷◌, ◌++◌, length, map, get_or, set, cond, refl, sym, ap, subst, ◌∙◌, arith, is_err, OnOk, OnErr, Ok, Err}
+use Rattle.std.proofs.Common.{◌≡◌, ℕ, zero, suc, ◌<◌, ◌≤◌, ◌||◌, Bool, true, false, nat_lt, List, [], ◌∷◌, ◌++◌, length, map, get_or, set, cond, refl, sym, ap, subst, ◌∙◌, arith, is_err, OnOk, OnErr, IfOk, Ok, Err}
 use Rattle.std.specs.List.{list_any}
 use Rattle.std.specs.declared.result.Result.{Result}
 use Rattle.std.proofs.lemmas.Bool.{lt-ltb, le-ltb, ltb-true}
@@ -7,7 +7,7 @@ use Rattle.tables.specs.Tables.{first_where, place_where, changed_where}
 use Rattle.tables.proofs.TableLemmas.{by_test, first-place}
 use Rattle.tables.proofs.RowLemmas.{place-inside, changed-place}
 use Rattle.text_model.specs.declared.coords.Shift.{Shift}
-use Rattle.text_model.specs.Changes.{Change}
+use Rattle.text_model.specs.Changes.{Change, all_changed}
 use Rattle.selection_set.specs.Listing.{Listed}
 use Rattle.selection_set.proofs.HeldLemmas.{all-at}
 use Rattle.selection_map.specs.Catching.{Step, AreShiftsOf, CanCatchUp, IsCatchable, IsCaughtUp}
@@ -17,11 +17,13 @@ use Rattle.change_list.specs.Logs.{Logged, stamp_of}
 use Rattle.list_shelf.specs.declared.holder.Holder.{Holder}
 use Rattle.list_shelf.specs.declared.lag.Lag.{Lag}
 use Rattle.list_shelf.specs.declared.rows.ShelfRow.{ShelfRow}
+use Rattle.window_view.specs.declared.corner.Corner.{Corner}
 use Rattle.list_shelf.specs.Lagging.{since, caught, seen_by, up_to_date, renewed, IsLagging, Lags}
-use Rattle.list_shelf.specs.Shelves.{Shelved, is_of, has_list, no_row, row_of, with_lag, changed_for, AllLag, AreLagging, AreCatchable, CanStand, CanFollow, listed, begun_again, room_made}
+use Rattle.list_shelf.specs.Shelves.{Shelved, is_of, has_row, no_row, row_of, with_lag, changed_for, AllLag, AreLagging, AreCatchable, CanStand, CanFollow, listed, with_corner, brought_up, all_noted, all_moved, begun_again, room_made}
 use Rattle.list_shelf.proofs.CaughtLemmas.{caught-only}
-use Rattle.list_shelf.proofs.LagLemmas.{lags-catchable, lags-stored, seen-held}
-use Rattle.list_shelf.proofs.FollowLemmas.{room-stands}
+use Rattle.list_shelf.proofs.LagLemmas.{lags-catchable, lags-stored, seen-held, up-own}
+use Rattle.list_shelf.proofs.FollowLemmas.{room-stands, all-noted-follows, all-moved-follows}
+use Rattle.list_shelf.proofs.StandLemmas.{brought-rows, other_corner}
 
 -- an answer
 
@@ -33,7 +35,26 @@ pub ok-is : {T E P : Type 0} (r : Result T E) → is_err r ≡ false → OnOk r 
 ok-is (Ok x) e p = p
 ok-is (Err x) e p = absurd (let no : true ≡ false = e in cc)
 
+pub on-ok : {T E P Q : Type 0} (r : Result T E) → OnOk r P → (P → Q) → OnOk r Q
+on-ok (Ok x) p f = f p
+on-ok (Err x) p f = tt
+
+pub on-err : {T E P Q : Type 0} (r : Result T E) → OnErr r P → (P → Q) → OnErr r Q
+on-err (Ok x) p f = tt
+on-err (Err x) p f = f p
+
+pub if-ok : {T E : Type 0} {P Q : T → Type 0} (r : Result T E) → IfOk r P → ((x : T) → P x → Q x) → IfOk r Q
+if-ok (Ok x) p f = f x p
+if-ok (Err x) p f = tt
+
 -- a list that catches up
+
+-- one that is up to date is as it was
+pub lag-stays : (log : Logged) (lag : Lag) (stamp : ℕ) → IsLagging log lag → lag.stamp ≡ stamp → stamp ≡ stamp_of log → lag ≡ up_to_date log lag
+lag-stays log lag stamp h e s =
+    let same : lag.stamp ≡ stamp_of log = e ∙ s in
+    let P : ℕ → Listed → Lag = λ n l. record { stamp = n; sels = l } in
+    ap (λ n. P n lag.sels) same ∙ sym (ap (P (stamp_of log)) (up-own h.text log lag same h.lags))
 
 pub lag-catchable : (log : Logged) (lag : Lag) (ss : List Shift) → IsLagging log lag → ss ≡ since log lag.stamp → IsCatchable ss lag.sels
 lag-catchable log lag ss h e = subst (λ l. IsCatchable l lag.sels) (sym e) (lags-catchable h.text log lag h.lags)
@@ -118,28 +139,28 @@ renewed-catchable text cs ss log (row ∷ rows) k a = (changes-catchable text cs
 
 -- a holder's list on a shelf, which is seen as another value
 
-pub shelf-there : (holder : Holder) (s t : Shelved) (n : ℕ) → s ≡ t → n ≡ place_where (is_of holder) s.rows → has_list holder t ≡ true → n < length s.rows
-shelf-there holder s t n v p h = place-there (is_of holder) s.rows n p (ap (has_list holder) v ∙ h)
+pub shelf-there : (holder : Holder) (s t : Shelved) (n : ℕ) → s ≡ t → n ≡ place_where (is_of holder) s.rows → has_row holder t ≡ true → n < length s.rows
+shelf-there holder s t n v p h = place-there (is_of holder) s.rows n p (ap (has_row holder) v ∙ h)
 
-pub shelf-read : (holder : Holder) (s t : Shelved) (n : ℕ) (row : ShelfRow) → s ≡ t → n ≡ place_where (is_of holder) s.rows → has_list holder t ≡ true → row ≡ get_or s.rows n row → row ≡ row_of holder t
-shelf-read holder s t n row v p h r = place-read (is_of holder) (no_row holder) s.rows n row p (ap (has_list holder) v ∙ h) r ∙ ap (row_of holder) v
+pub shelf-read : (holder : Holder) (s t : Shelved) (n : ℕ) (row : ShelfRow) → s ≡ t → n ≡ place_where (is_of holder) s.rows → has_row holder t ≡ true → row ≡ get_or s.rows n row → row ≡ row_of holder t
+shelf-read holder s t n row v p h r = place-read (is_of holder) (no_row holder) s.rows n row p (ap (has_row holder) v ∙ h) r ∙ ap (row_of holder) v
 
-pub shelf-set : (holder : Holder) (f : Lag → Lag) (s t : Shelved) (n : ℕ) (row to : ShelfRow) → s ≡ t → n ≡ place_where (is_of holder) s.rows → has_list holder t ≡ true → row ≡ get_or s.rows n row → to ≡ with_lag f row
+pub shelf-set : (holder : Holder) (f : Lag → Lag) (s t : Shelved) (n : ℕ) (row to : ShelfRow) → s ≡ t → n ≡ place_where (is_of holder) s.rows → has_row holder t ≡ true → row ≡ get_or s.rows n row → to ≡ with_lag f row
     → record { limit = s.limit; log = s.log; rows = set s.rows n to } ≡ changed_for holder f t
 shelf-set holder f s t n row to v p h r e =
     ap (λ rows. let x : Shelved = record { limit = s.limit; log = s.log; rows = rows } in x) (place-set (is_of holder) (with_lag f) s.rows n row to p (shelf-there holder s t n v p h) r e)
     ∙ ap (changed_for holder f) v
 
-pub listed-there : (holder : Holder) (l : Listed) (t : Shelved) → has_list holder t ≡ true → t ≡ listed holder l t
-listed-there holder l t h = ap (λ b. let x : Shelved = record { limit = t.limit; log = t.log; rows = cond b t.rows (t.rows ++ (record { holder = holder; lag = record { stamp = stamp_of t.log; sels = l } }) ∷ []) } in x) (sym h)
+pub listed-there : (holder : Holder) (l : Listed) (corner : Corner) (t : Shelved) → has_row holder t ≡ true → t ≡ listed holder l corner t
+listed-there holder l corner t h = ap (λ b. let x : Shelved = record { limit = t.limit; log = t.log; rows = cond b t.rows (t.rows ++ (record { holder = holder; lag = record { stamp = stamp_of t.log; sels = l }; corner = corner }) ∷ []) } in x) (sym h)
 
-pub listed-new : (holder : Holder) (l : Listed) (stamp : ℕ) (s t : Shelved) → s ≡ t → stamp ≡ stamp_of s.log → has_list holder t ≡ false
-    → record { limit = s.limit; log = s.log; rows = s.rows ++ (record { holder = holder; lag = record { stamp = stamp; sels = l } }) ∷ [] } ≡ listed holder l t
-listed-new holder l stamp s t v e h =
-    let P : ℕ → Shelved → Shelved = λ n y. record { limit = y.limit; log = y.log; rows = y.rows ++ (record { holder = holder; lag = record { stamp = n; sels = l } }) ∷ [] } in
+pub listed-new : (holder : Holder) (l : Listed) (corner : Corner) (stamp : ℕ) (s t : Shelved) → s ≡ t → stamp ≡ stamp_of s.log → has_row holder t ≡ false
+    → record { limit = s.limit; log = s.log; rows = s.rows ++ (record { holder = holder; lag = record { stamp = stamp; sels = l }; corner = corner }) ∷ [] } ≡ listed holder l corner t
+listed-new holder l corner stamp s t v e h =
+    let P : ℕ → Shelved → Shelved = λ n y. record { limit = y.limit; log = y.log; rows = y.rows ++ (record { holder = holder; lag = record { stamp = n; sels = l }; corner = corner }) ∷ [] } in
     ap (λ n. P n s) e
     ∙ ap (λ (y : Shelved). P (stamp_of y.log) y) v
-    ∙ ap (λ b. let x : Shelved = record { limit = t.limit; log = t.log; rows = cond b t.rows (t.rows ++ (record { holder = holder; lag = record { stamp = stamp_of t.log; sels = l } }) ∷ []) } in x) (sym h)
+    ∙ ap (λ b. let x : Shelved = record { limit = t.limit; log = t.log; rows = cond b t.rows (t.rows ++ (record { holder = holder; lag = record { stamp = stamp_of t.log; sels = l }; corner = corner }) ∷ []) } in x) (sym h)
 
 -- room for a shift
 
@@ -159,3 +180,18 @@ room-left t some =
 
 pub room-limit : (t : Shelved) → (room_made t).limit ≡ t.limit
 room-limit t = by_test (λ b. (cond b t (begun_again t)).limit ≡ t.limit) (nat_lt (stamp_of t.log) t.limit) (λ _. refl) (λ _. refl)
+
+-- a holder's window stands elsewhere
+pub shelf-corner : (holder : Holder) (corner : Corner) (s t : Shelved) (n : ℕ) (row to : ShelfRow) → s ≡ t → n ≡ place_where (is_of holder) s.rows → has_row holder t ≡ true → row ≡ get_or s.rows n row → to ≡ other_corner corner row
+    → record { limit = s.limit; log = s.log; rows = set s.rows n to } ≡ with_corner holder corner t
+shelf-corner holder corner s t n row to v p h r e =
+    ap (λ rows. let x : Shelved = record { limit = s.limit; log = s.log; rows = rows } in x) (place-set (is_of holder) (other_corner corner) s.rows n row to p (shelf-there holder s t n v p h) r e)
+    ∙ ap (with_corner holder corner) v
+
+-- a shelf on which a list was brought up to date, or shifts were noted, is a text's
+pub brought-can : (holder : Holder) (shelf next : Shelved) → CanStand shelf → next ≡ brought_up holder shelf → CanStand next
+brought-can holder shelf next can e = subst (λ (s : Shelved). CanStand s) (sym e) (record { text = can.text; all = (brought-rows can.text shelf.log holder shelf.rows can.all).stands })
+
+pub noted-can : {T E : Type 0} (r : Result T E) (shelf next : Shelved) (ss : List Shift) → CanFollow shelf ss → OnOk r (next ≡ all_noted ss shelf) → OnErr r (next ≡ all_moved ss shelf) → CanStand next
+noted-can (Ok x) shelf next ss can ok err = subst (λ (s : Shelved). CanStand s) (sym ok) (record { text = all_changed can.text can.changes; all = (all-noted-follows can.text can.changes ss shelf can.shifts_are can.stands).stands })
+noted-can (Err x) shelf next ss can ok err = subst (λ (s : Shelved). CanStand s) (sym err) (record { text = all_changed can.text can.changes; all = (all-moved-follows can.text can.changes ss shelf can.shifts_are can.stands).stands })

@@ -11,17 +11,18 @@ use Rattle.selection_map.specs.Catching.{AreShiftsOf}
 use Rattle.change_list.specs.Logs.{Logged, stamp_of, fresh, pushed}
 use Rattle.list_shelf.specs.declared.holder.Holder.{Holder}
 use Rattle.list_shelf.specs.declared.rows.ShelfRow.{ShelfRow}
+use Rattle.window_view.specs.declared.corner.Corner.{Corner}
 use Rattle.list_shelf.specs.Lagging.{renewed, gone_through}
-use Rattle.list_shelf.specs.Shelves.{Shelved, with_lag, begun_again, room_made, noted, all_noted, all_moved, SeenList, seen_in, lists_in, moved_in, AllLag, Stands, CanFollow, HasLists, StandsWith}
+use Rattle.list_shelf.specs.Shelves.{Shelved, with_lag, begun_again, room_made, noted, all_noted, all_moved, Held, seen_in, lists_in, list_moved, AllLag, Stands, CanFollow, HasLists, StandsWith}
 use Rattle.list_shelf.proofs.LagLemmas.{renewed-lags, renewed-seen, gone-lags, gone-seen, noted-lags, noted-seen, noted-gone}
 
 -- a list of a holder as it is seen
-abbrev pub as_seen : Holder → Selected → SeenList
-as_seen holder s = record { holder = holder; sels = s }
+abbrev pub as_seen : Holder → Corner → Selected → Held
+as_seen holder corner s = record { holder = holder; sels = s; corner = corner }
 
 -- a row at stamp 0
-abbrev row_of_none : Holder → Listed → ShelfRow
-row_of_none holder s = record { holder = holder; lag = record { stamp = 0; sels = s } }
+abbrev row_of_none : Holder → Corner → Listed → ShelfRow
+row_of_none holder corner s = record { holder = holder; lag = record { stamp = 0; sels = s }; corner = corner }
 
 -- the log begins again
 
@@ -31,12 +32,12 @@ renewed-rows text log (row ∷ rows) a =
     let rest : HasLists text fresh (map (with_lag (renewed log)) rows) (map (seen_in text log) rows) = renewed-rows text log rows a.1 in
     record {
       stands = (renewed-lags text log row.lag a.0, rest.stands);
-      lists_are = ap₂ (λ l ls. l ∷ ls) (ap (λ s. as_seen row.holder (selected text s)) (renewed-seen text log row.lag a.0)) rest.lists_are;
+      lists_are = ap₂ (λ l ls. l ∷ ls) (ap (λ s. as_seen row.holder row.corner (selected text s)) (renewed-seen text log row.lag a.0)) rest.lists_are;
     }
 
 renewed-twice : (text : List ℕ) (log : Logged) (rows : List ShelfRow) → AllLag text log rows → map (with_lag (renewed fresh)) (map (with_lag (renewed log)) rows) ≡ map (with_lag (renewed log)) rows
 renewed-twice text log [] a = refl
-renewed-twice text log (row ∷ rows) a = ap₂ (λ r rs. r ∷ rs) (ap (row_of_none row.holder) (renewed-seen text log row.lag a.0)) (renewed-twice text log rows a.1)
+renewed-twice text log (row ∷ rows) a = ap₂ (λ r rs. r ∷ rs) (ap (row_of_none row.holder row.corner) (renewed-seen text log row.lag a.0)) (renewed-twice text log rows a.1)
 
 pub room-stands : (text : List ℕ) (shelf : Shelved) → Stands text shelf → StandsWith text (room_made shelf) (lists_in text shelf)
 room-stands text shelf st =
@@ -47,58 +48,58 @@ room-stands text shelf st =
 -- one shift is noted
 
 noted-rows : (text : List ℕ) (c : Change) (s : Shift) (log : Logged) (rows : List ShelfRow) → IsStored (changed text c) → IsShift text (changed text c) s (move_of text c) → AllLag text log rows
-    → HasLists (changed text c) (pushed log s) rows (map (moved_in text (c ∷ [])) (map (seen_in text log) rows))
+    → HasLists (changed text c) (pushed log s) rows (map (list_moved text (c ∷ [])) (map (seen_in text log) rows))
 noted-rows text c s log [] h i a = record { stands = tt; lists_are = refl }
 noted-rows text c s log (row ∷ rows) h i a =
-    let rest : HasLists (changed text c) (pushed log s) rows (map (moved_in text (c ∷ [])) (map (seen_in text log) rows)) = noted-rows text c s log rows h i a.1 in
+    let rest : HasLists (changed text c) (pushed log s) rows (map (list_moved text (c ∷ [])) (map (seen_in text log) rows)) = noted-rows text c s log rows h i a.1 in
     record {
       stands = (noted-lags text log row.lag c s h i a.0, rest.stands);
-      lists_are = ap₂ (λ l ls. l ∷ ls) (ap (as_seen row.holder) (noted-seen text log row.lag c s h i a.0)) rest.lists_are;
+      lists_are = ap₂ (λ l ls. l ∷ ls) (ap (as_seen row.holder row.corner) (noted-seen text log row.lag c s h i a.0)) rest.lists_are;
     }
 
 pub noted-follows : (text : List ℕ) (c : Change) (s : Shift) (shelf : Shelved) → IsStored (changed text c) → IsShift text (changed text c) s (move_of text c) → Stands text shelf
-    → StandsWith (changed text c) (noted s shelf) (map (moved_in text (c ∷ [])) (lists_in text shelf))
+    → StandsWith (changed text c) (noted s shelf) (map (list_moved text (c ∷ [])) (lists_in text shelf))
 noted-follows text c s shelf h i st =
     let room : StandsWith text (room_made shelf) (lists_in text shelf) = room-stands text shelf st in
-    let next : HasLists (changed text c) (pushed (room_made shelf).log s) (room_made shelf).rows (map (moved_in text (c ∷ [])) (map (seen_in text (room_made shelf).log) (room_made shelf).rows)) =
+    let next : HasLists (changed text c) (pushed (room_made shelf).log s) (room_made shelf).rows (map (list_moved text (c ∷ [])) (map (seen_in text (room_made shelf).log) (room_made shelf).rows)) =
     noted-rows text c s (room_made shelf).log (room_made shelf).rows h i room.stands in
-    record { stands = next.stands; lists_are = next.lists_are ∙ ap (map (moved_in text (c ∷ []))) room.lists_are }
+    record { stands = next.stands; lists_are = next.lists_are ∙ ap (map (list_moved text (c ∷ []))) room.lists_are }
 
 -- all shifts are noted
 
-moved-none : (text : List ℕ) (ls : List SeenList) → map (moved_in text []) ls ≡ ls
+moved-none : (text : List ℕ) (ls : List Held) → map (list_moved text []) ls ≡ ls
 moved-none text [] = refl
 moved-none text (l ∷ ls) = ap (λ xs. l ∷ xs) (moved-none text ls)
 
-moved-twice : (text : List ℕ) (c : Change) (cs : List Change) (ls : List SeenList) → map (moved_in (changed text c) cs) (map (moved_in text (c ∷ [])) ls) ≡ map (moved_in text (c ∷ cs)) ls
+moved-twice : (text : List ℕ) (c : Change) (cs : List Change) (ls : List Held) → map (list_moved (changed text c) cs) (map (list_moved text (c ∷ [])) ls) ≡ map (list_moved text (c ∷ cs)) ls
 moved-twice text c cs [] = refl
-moved-twice text c cs (l ∷ ls) = ap (λ xs. moved_in text (c ∷ cs) l ∷ xs) (moved-twice text c cs ls)
+moved-twice text c cs (l ∷ ls) = ap (λ xs. list_moved text (c ∷ cs) l ∷ xs) (moved-twice text c cs ls)
 
-pub all-noted-follows : (text : List ℕ) (cs : List Change) (ss : List Shift) (shelf : Shelved) → AreShiftsOf text cs ss → Stands text shelf → StandsWith (all_changed text cs) (all_noted ss shelf) (map (moved_in text cs) (lists_in text shelf))
+pub all-noted-follows : (text : List ℕ) (cs : List Change) (ss : List Shift) (shelf : Shelved) → AreShiftsOf text cs ss → Stands text shelf → StandsWith (all_changed text cs) (all_noted ss shelf) (map (list_moved text cs) (lists_in text shelf))
 all-noted-follows text [] [] shelf k st = record { stands = st; lists_are = sym (moved-none text (lists_in text shelf)) }
 all-noted-follows text [] (s ∷ ss) shelf k st = absurd k
 all-noted-follows text (c ∷ cs) [] shelf k st = absurd k
 all-noted-follows text (c ∷ cs) (s ∷ ss) shelf k st =
-    let one : StandsWith (changed text c) (noted s shelf) (map (moved_in text (c ∷ [])) (lists_in text shelf)) = noted-follows text c s shelf k.0 k.1 st in
-    let rest : StandsWith (all_changed (changed text c) cs) (all_noted ss (noted s shelf)) (map (moved_in (changed text c) cs) (lists_in (changed text c) (noted s shelf))) = all-noted-follows (changed text c) cs ss (noted s shelf) k.2 one.stands in
+    let one : StandsWith (changed text c) (noted s shelf) (map (list_moved text (c ∷ [])) (lists_in text shelf)) = noted-follows text c s shelf k.0 k.1 st in
+    let rest : StandsWith (all_changed (changed text c) cs) (all_noted ss (noted s shelf)) (map (list_moved (changed text c) cs) (lists_in (changed text c) (noted s shelf))) = all-noted-follows (changed text c) cs ss (noted s shelf) k.2 one.stands in
     record {
       stands = rest.stands;
-      lists_are = rest.lists_are ∙ ap (map (moved_in (changed text c) cs)) one.lists_are ∙ moved-twice text c cs (lists_in text shelf);
+      lists_are = rest.lists_are ∙ ap (map (list_moved (changed text c) cs)) one.lists_are ∙ moved-twice text c cs (lists_in text shelf);
     }
 
 -- shifts that can't be noted
 
 gone-rows : (text : List ℕ) (cs : List Change) (ss : List Shift) (log : Logged) (rows : List ShelfRow) → AreShiftsOf text cs ss → AllLag text log rows
-    → HasLists (all_changed text cs) fresh (map (with_lag (gone_through ss)) (map (with_lag (renewed log)) rows)) (map (moved_in text cs) (map (seen_in text log) rows))
+    → HasLists (all_changed text cs) fresh (map (with_lag (gone_through ss)) (map (with_lag (renewed log)) rows)) (map (list_moved text cs) (map (seen_in text log) rows))
 gone-rows text cs ss log [] k a = record { stands = tt; lists_are = refl }
 gone-rows text cs ss log (row ∷ rows) k a =
-    let rest : HasLists (all_changed text cs) fresh (map (with_lag (gone_through ss)) (map (with_lag (renewed log)) rows)) (map (moved_in text cs) (map (seen_in text log) rows)) = gone-rows text cs ss log rows k a.1 in
+    let rest : HasLists (all_changed text cs) fresh (map (with_lag (gone_through ss)) (map (with_lag (renewed log)) rows)) (map (list_moved text cs) (map (seen_in text log) rows)) = gone-rows text cs ss log rows k a.1 in
     record {
       stands = (gone-lags text cs ss log row.lag k a.0, rest.stands);
-      lists_are = ap₂ (λ l ls. l ∷ ls) (ap (as_seen row.holder) (gone-seen text cs ss log row.lag k a.0)) rest.lists_are;
+      lists_are = ap₂ (λ l ls. l ∷ ls) (ap (as_seen row.holder row.corner) (gone-seen text cs ss log row.lag k a.0)) rest.lists_are;
     }
 
-pub all-moved-follows : (text : List ℕ) (cs : List Change) (ss : List Shift) (shelf : Shelved) → AreShiftsOf text cs ss → Stands text shelf → StandsWith (all_changed text cs) (all_moved ss shelf) (map (moved_in text cs) (lists_in text shelf))
+pub all-moved-follows : (text : List ℕ) (cs : List Change) (ss : List Shift) (shelf : Shelved) → AreShiftsOf text cs ss → Stands text shelf → StandsWith (all_changed text cs) (all_moved ss shelf) (map (list_moved text cs) (lists_in text shelf))
 all-moved-follows text cs ss shelf k st = gone-rows text cs ss shelf.log shelf.rows k st
 
 -- whether the first shifts are noted or not, all of them lead to the same shelf
@@ -112,7 +113,7 @@ moved-room text ss shelf st =
 shift-rows : (text : List ℕ) (c : Change) (cs : List Change) (s : Shift) (ss : List Shift) (log : Logged) (rows : List ShelfRow) → AreShiftsOf text (c ∷ cs) (s ∷ ss) → AllLag text log rows
     → map (with_lag (gone_through ss)) (map (with_lag (renewed (pushed log s))) rows) ≡ map (with_lag (gone_through (s ∷ ss))) (map (with_lag (renewed log)) rows)
 shift-rows text c cs s ss log [] k a = refl
-shift-rows text c cs s ss log (row ∷ rows) k a = ap₂ (λ r rs. r ∷ rs) (ap (row_of_none row.holder) (noted-gone text c cs s ss log row.lag k a.0)) (shift-rows text c cs s ss log rows k a.1)
+shift-rows text c cs s ss log (row ∷ rows) k a = ap₂ (λ r rs. r ∷ rs) (ap (row_of_none row.holder row.corner) (noted-gone text c cs s ss log row.lag k a.0)) (shift-rows text c cs s ss log rows k a.1)
 
 pub moved-noted : (text : List ℕ) (c : Change) (cs : List Change) (s : Shift) (ss : List Shift) (shelf : Shelved) → AreShiftsOf text (c ∷ cs) (s ∷ ss) → Stands text shelf → all_moved ss (noted s shelf) ≡ all_moved (s ∷ ss) shelf
 moved-noted text c cs s ss shelf k st =

@@ -13,7 +13,7 @@ use Rattle.list_shelf.specs.declared.holder.Holder.TheVariants.{Of}
 use Rattle.list_shelf.specs.declared.lag.Lag.{Lag}
 use Rattle.list_shelf.specs.declared.rows.ShelfRow.{ShelfRow}
 use Rattle.list_shelf.specs.Lagging.{up_to_date, renewed}
-use Rattle.list_shelf.specs.Shelves.{same_holder, Shelved, is_of, has_list, no_row, row_of, with_lag, changed_for, brought_up, begun_again, with_shift, noted, all_noted, least, trimmed_shelf, lists_in, moved_in, Stands, StandsWith}
+use Rattle.list_shelf.specs.Shelves.{same_holder, Shelved, is_of, has_row, no_row, row_of, with_lag, changed_for, brought_up, entered, LeavesOthers, begun_again, with_shift, noted, all_noted, least, trimmed_shelf, lists_in, list_moved, Stands, StandsWith}
 use Rattle.list_shelf.specs.Laws.{AllStandAt, SomeStandsAt}
 use Rattle.list_shelf.proofs.FollowLemmas.{all-noted-follows}
 use Rattle.list_shelf.proofs.StandLemmas.{brought-rows, least-below, trim-from}
@@ -28,7 +28,7 @@ holders-apart (Of a) (Of b) apart row mine = by row.holder mine
 pub others-stay : (holder other : Holder) (f : Lag → Lag) (shelf : Shelved) → same_holder holder other ≡ false → row_of other (changed_for holder f shelf) ≡ row_of other shelf
 others-stay holder other f shelf apart = first-changed_other (is_of holder) (is_of other) (with_lag f) (no_row other) shelf.rows (λ row. refl) (holders-apart holder other apart)
 
-pub own-up : (holder : Holder) (shelf : Shelved) → has_list holder shelf ≡ true → (row_of holder (brought_up holder shelf)).lag.stamp ≡ stamp_of (brought_up holder shelf).log
+pub own-up : (holder : Holder) (shelf : Shelved) → has_row holder shelf ≡ true → (row_of holder (brought_up holder shelf)).lag.stamp ≡ stamp_of (brought_up holder shelf).log
 own-up holder shelf some = ap (λ (row : ShelfRow). row.lag.stamp) (first-changed (is_of holder) (with_lag (up_to_date shelf.log)) (no_row holder) shelf.rows (λ row. refl) some)
 
 -- up to the limit
@@ -41,6 +41,10 @@ fills (s ∷ ss) shelf h =
     ap (λ b. all_noted ss (with_shift s (cond b shelf (begun_again shelf)))) (lt-ltb (stamp_of shelf.log) shelf.limit below)
     ∙ fills ss (with_shift s shelf) more
     ∙ ap (λ shifts. let x : Shelved = record { limit = shelf.limit; log = record { first = shelf.log.first; shifts = shifts }; rows = shelf.rows } in x) (append_assoc shelf.log.shifts (s ∷ []) ss)
+
+pub others-for : (holder : Holder) (ss : List Shift) (shelf : Shelved) → LeavesOthers holder (length ss) shelf (entered holder (all_noted ss shelf))
+others-for holder ss shelf room other apart =
+    others-stay holder other (up_to_date (all_noted ss shelf).log) (all_noted ss shelf) apart ∙ ap (row_of other) (fills ss shelf room)
 
 -- at the limit
 all-begin : (log : Logged) (rows : List ShelfRow) → AllStandAt 0 (map (with_lag (renewed log)) rows)
@@ -86,9 +90,9 @@ pub past-stamps : (ss : List Shift) (s : Shift) (shelf : Shelved) → shelf.log 
 past-stamps ss s shelf e l = subst (λ (x : Shelved). AllStandAt 0 x.rows) (sym (past-is ss s shelf e l)) (begins s (full ss shelf) (full-stamp ss shelf e l)).2
 
 pub past-eager : (text : List ℕ) (cs : List Change) (ss : List Shift) (holder : Holder) (shelf : Shelved) → AreShiftsOf text cs ss → Stands text shelf
-    → lists_in (all_changed text cs) (brought_up holder (all_noted ss shelf)) ≡ map (moved_in text cs) (lists_in text shelf)
+    → lists_in (all_changed text cs) (brought_up holder (all_noted ss shelf)) ≡ map (list_moved text cs) (lists_in text shelf)
 past-eager text cs ss holder shelf k st =
-    let noted_all : StandsWith (all_changed text cs) (all_noted ss shelf) (map (moved_in text cs) (lists_in text shelf)) = all-noted-follows text cs ss shelf k st in
+    let noted_all : StandsWith (all_changed text cs) (all_noted ss shelf) (map (list_moved text cs) (lists_in text shelf)) = all-noted-follows text cs ss shelf k st in
     (brought-rows (all_changed text cs) (all_noted ss shelf).log holder (all_noted ss shelf).rows noted_all.stands).lists_are ∙ noted_all.lists_are
 
 -- never beyond it

@@ -8,8 +8,9 @@ use Rattle.selection_set.specs.Listing.{Listed}
 use Rattle.change_list.specs.Logs.{fresh}
 use Rattle.list_shelf.specs.declared.holder.Holder.TheVariants.{Of}
 use Rattle.list_shelf.specs.declared.rows.ShelfRow.{ShelfRow}
+use Rattle.window_view.specs.Sizes.{first_corner}
 use Rattle.list_shelf.specs.Lagging.{since, caught, up_to_date}
-use Rattle.list_shelf.specs.Shelves.{Shelved, empty_shelf, has_list, brought_up, with_sels, listed, unlisted, noted, all_noted, all_moved, trimmed_shelf, SeenList, lists_in, moved_in}
+use Rattle.list_shelf.specs.Shelves.{Shelved, empty_shelf, has_row, brought_up, with_sels, listed, unlisted, noted, all_noted, all_moved, trimmed_shelf, entered, Held, lists_in, list_moved}
 
 abbrev pub at : ℕ → ℕ → Coord
 at line column = record { line = line; column = column }
@@ -22,7 +23,7 @@ abbrev pub aimed_back : Coord → Coord → Listed
 aimed_back low high = record { list = (record { low = low; high = high; turned = true; target = Some 7 }) ∷ []; main = 0 }
 
 abbrev pub standing : ℕ → ℕ → Listed → ShelfRow
-standing who stamp s = record { holder = Of who; lag = record { stamp = stamp; sels = s } }
+standing who stamp s = record { holder = Of who; lag = record { stamp = stamp; sels = s }; corner = first_corner }
 
 -- a letter typed on the line `abc`, then a second, a third and a fourth, each behind the one before it
 abbrev pub first_letter : Shift
@@ -69,8 +70,8 @@ range a b = record { low = a; high = b; turned = false; target = None }
 abbrev pub aimed_range : ℕ → ℕ → Range
 aimed_range a b = record { low = a; high = b; turned = true; target = Some 7 }
 
-abbrev pub seen_at : ℕ → Range → SeenList
-seen_at who r = record { holder = Of who; sels = record { list = r ∷ []; main = 0 } }
+abbrev pub seen_at : ℕ → Range → Held
+seen_at who r = record { holder = Of who; sels = record { list = r ∷ []; main = 0 }; corner = first_corner }
 
 -- one list
 pub record OneList : Type 0 where
@@ -95,16 +96,16 @@ pub record WhileTyping : Type 0 where
   pub own_brought_up : brought_up (Of 0) behind_three ≡ record { limit = 3; log = behind_three.log; rows = standing 0 3 (straight (at 0 3) (at 0 3)) ∷ standing 1 0 (aimed_back (at 0 1) (at 0 2)) ∷ [] }
   pub seen_behind_three : lists_in (codes "XXXabc\n") behind_three ≡ seen_at 0 (range 3 3) ∷ seen_at 1 (aimed_range 4 5) ∷ []
   pub seen_behind_four : lists_in (codes "XXXXabc\n") behind_four ≡ seen_at 0 (range 4 4) ∷ seen_at 1 (aimed_range 5 6) ∷ []
-  pub eager_behind_four : map (moved_in (codes "abc\n") typing) (lists_in (codes "abc\n") two_clients) ≡ seen_at 0 (range 4 4) ∷ seen_at 1 (aimed_range 5 6) ∷ []
+  pub eager_behind_four : map (list_moved (codes "abc\n") typing) (lists_in (codes "abc\n") two_clients) ≡ seen_at 0 (range 4 4) ∷ seen_at 1 (aimed_range 5 6) ∷ []
   pub text_behind_four : all_changed (codes "abc\n") typing ≡ codes "XXXXabc\n"
   -- without memory for the log, both go through the letters at once
   pub not_noted : all_moved (first_letter ∷ second_letter ∷ []) two_clients ≡ record { limit = 3; log = fresh; rows = standing 0 0 (straight (at 0 2) (at 0 2)) ∷ standing 1 0 (aimed_back (at 0 3) (at 0 4)) ∷ [] }
 
 -- a shelf between changes
 pub record BetweenChanges : Type 0 where
-  pub nobody_has_one : has_list (Of 0) (empty_shelf 3) ≡ false
-  pub first_comes : listed (Of 4) (straight (at 0 0) (at 0 0)) (record { limit = 3; log = behind_three.log; rows = [] }) ≡ record { limit = 3; log = behind_three.log; rows = standing 4 3 (straight (at 0 0) (at 0 0)) ∷ [] }
-  pub has_one_already : listed (Of 1) (straight (at 0 0) (at 0 0)) behind_three ≡ behind_three
+  pub nobody_has_one : has_row (Of 0) (empty_shelf 3) ≡ false
+  pub first_comes : listed (Of 4) (straight (at 0 0) (at 0 0)) first_corner (record { limit = 3; log = behind_three.log; rows = [] }) ≡ record { limit = 3; log = behind_three.log; rows = standing 4 3 (straight (at 0 0) (at 0 0)) ∷ [] }
+  pub has_one_already : listed (Of 1) (straight (at 0 0) (at 0 0)) first_corner behind_three ≡ behind_three
   pub replaced_stands_at_the_log : with_sels (Of 1) (straight (at 0 6) (at 0 6)) behind_three ≡ record { limit = 3; log = behind_three.log; rows = standing 0 0 (straight (at 0 0) (at 0 0)) ∷ standing 1 3 (straight (at 0 6) (at 0 6)) ∷ [] }
   pub taken_off : unlisted (Of 0) behind_four ≡ record { limit = 3; log = behind_four.log; rows = standing 1 0 (aimed_back (at 0 4) (at 0 5)) ∷ [] }
   -- the log is trimmed to the least stamp, also to none
@@ -112,6 +113,8 @@ pub record BetweenChanges : Type 0 where
   pub none_lags : trimmed_shelf (brought_up (Of 1) (brought_up (Of 0) behind_three)) ≡ record { limit = 3; log = record { first = 3; shifts = [] }; rows = standing 0 3 (straight (at 0 3) (at 0 3)) ∷ standing 1 3 (aimed_back (at 0 4) (at 0 5)) ∷ [] }
   pub least_of_three : trimmed_shelf (record { limit = 3; log = behind_three.log; rows = standing 0 2 (straight (at 0 2) (at 0 2)) ∷ standing 1 1 (straight (at 0 1) (at 0 1)) ∷ standing 2 3 (straight (at 0 0) (at 0 0)) ∷ [] })
       ≡ record { limit = 3; log = record { first = 1; shifts = second_letter ∷ third_letter ∷ [] }; rows = standing 0 2 (straight (at 0 2) (at 0 2)) ∷ standing 1 1 (straight (at 0 1) (at 0 1)) ∷ standing 2 3 (straight (at 0 0) (at 0 0)) ∷ [] }
+  -- the last list that lags is brought up to date, and the log holds nothing
+  pub last_is_brought_up : entered (Of 1) (brought_up (Of 0) behind_three) ≡ record { limit = 3; log = record { first = 3; shifts = [] }; rows = standing 0 3 (straight (at 0 3) (at 0 3)) ∷ standing 1 3 (aimed_back (at 0 4) (at 0 5)) ∷ [] }
   pub nobody_needs_it : trimmed_shelf (record { limit = 3; log = behind_three.log; rows = [] }) ≡ record { limit = 3; log = record { first = 3; shifts = [] }; rows = [] }
 
 -- all of them

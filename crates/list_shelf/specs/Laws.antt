@@ -12,8 +12,9 @@ use Rattle.change_list.specs.Logs.{Logged, stamp_of, fresh, pushed}
 use Rattle.list_shelf.specs.declared.holder.Holder.{Holder}
 use Rattle.list_shelf.specs.declared.lag.Lag.{Lag}
 use Rattle.list_shelf.specs.declared.rows.ShelfRow.{ShelfRow}
+use Rattle.window_view.specs.declared.corner.Corner.{Corner}
 use Rattle.list_shelf.specs.Lagging.{caught, seen_by, up_to_date, Lags}
-use Rattle.list_shelf.specs.Shelves.{same_holder, Shelved, empty_shelf, has_list, row_of, changed_for, brought_up, with_sels, with_main, listed, unlisted, begun_again, with_shift, noted, all_noted, all_moved, trimmed_shelf, SeenList, lists_in, is_seen_of, moved_in, Stands, StandsWith}
+use Rattle.list_shelf.specs.Shelves.{same_holder, Shelved, empty_shelf, has_row, row_of, changed_for, with_corner, brought_up, entered, IsUp, KeepsUp, LeavesOthers, IsTrimmed, with_sels, with_main, listed, unlisted, begun_again, with_shift, noted, all_noted, all_moved, trimmed_shelf, Held, lists_in, is_held_by, list_moved, Stands, StandsWith}
 
 -- one list
 pub record CatchingLaws : Type 0 where
@@ -36,9 +37,9 @@ pub record CatchingLaws : Type 0 where
 -- a shelf follows single changes of its text by their shifts: it is the new text's, and each list on it is what the eager rule makes
 -- of it, whoever holds it
 pub record FollowingLaws : Type 0 where
-  pub noted : (text : List ℕ) (cs : List Change) (ss : List Shift) (shelf : Shelved) → AreShiftsOf text cs ss → Stands text shelf → StandsWith (all_changed text cs) (all_noted ss shelf) (map (moved_in text cs) (lists_in text shelf))
+  pub noted : (text : List ℕ) (cs : List Change) (ss : List Shift) (shelf : Shelved) → AreShiftsOf text cs ss → Stands text shelf → StandsWith (all_changed text cs) (all_noted ss shelf) (map (list_moved text cs) (lists_in text shelf))
   -- so it is where the shifts can't be noted
-  pub not_noted : (text : List ℕ) (cs : List Change) (ss : List Shift) (shelf : Shelved) → AreShiftsOf text cs ss → Stands text shelf → StandsWith (all_changed text cs) (all_moved ss shelf) (map (moved_in text cs) (lists_in text shelf))
+  pub not_noted : (text : List ℕ) (cs : List Change) (ss : List Shift) (shelf : Shelved) → AreShiftsOf text cs ss → Stands text shelf → StandsWith (all_changed text cs) (all_moved ss shelf) (map (list_moved text cs) (lists_in text shelf))
 
 -- all lists stand at a stamp
 abbrev pub AllStandAt : ℕ → List ShelfRow → Type 0
@@ -51,7 +52,7 @@ pub record PastTheLimit : Type 0 where
   pub log : (ss : List Shift) (s : Shift) (shelf : Shelved) → shelf.log ≡ fresh → length ss ≡ shelf.limit → (all_noted (ss ++ s ∷ []) shelf).log ≡ record { first = 0; shifts = s ∷ [] }
   pub stamps : (ss : List Shift) (s : Shift) (shelf : Shelved) → shelf.log ≡ fresh → length ss ≡ shelf.limit → AllStandAt 0 (all_noted (ss ++ s ∷ []) shelf).rows
   pub eager : (text : List ℕ) (cs : List Change) (ss : List Shift) (holder : Holder) (shelf : Shelved) → AreShiftsOf text cs ss → Stands text shelf
-      → lists_in (all_changed text cs) (brought_up holder (all_noted ss shelf)) ≡ map (moved_in text cs) (lists_in text shelf)
+      → lists_in (all_changed text cs) (brought_up holder (all_noted ss shelf)) ≡ map (list_moved text cs) (lists_in text shelf)
 
 -- what is done with a shelf, and not with its text
 pub record StandingLaws : Type 0 where
@@ -60,15 +61,18 @@ pub record StandingLaws : Type 0 where
   pub begun_again : (text : List ℕ) (shelf : Shelved) → Stands text shelf → StandsWith text (begun_again shelf) (lists_in text shelf)
   pub trimmed : (text : List ℕ) (shelf : Shelved) → Stands text shelf → StandsWith text (trimmed_shelf shelf) (lists_in text shelf)
   pub replaced : (text : List ℕ) (holder : Holder) (s : Listed) (shelf : Shelved) → IsStored text → IsHeld text s → Stands text shelf
-      → StandsWith text (with_sels holder s shelf) (changed_where (is_seen_of holder) (λ list. record { holder = list.holder; sels = selected text s }) (lists_in text shelf))
-  pub other_main : (text : List ℕ) (holder : Holder) (n : ℕ) (shelf : Shelved) → has_list holder shelf ≡ true → (row_of holder shelf).lag.stamp ≡ stamp_of shelf.log → n < length (row_of holder shelf).lag.sels.list → Stands text shelf
-      → StandsWith text (with_main holder n shelf) (changed_where (is_seen_of holder) (λ list. record { holder = list.holder; sels = record { list = list.sels.list; main = n } }) (lists_in text shelf))
-  pub added : (text : List ℕ) (holder : Holder) (s : Listed) (shelf : Shelved) → IsStored text → IsHeld text s → Stands text shelf
-      → StandsWith text (listed holder s shelf) (with_row (is_seen_of holder) (record { holder = holder; sels = selected text s }) (lists_in text shelf))
-  pub dropped : (text : List ℕ) (holder : Holder) (shelf : Shelved) → Stands text shelf → StandsWith text (unlisted holder shelf) (filter (λ list. not (is_seen_of holder list)) (lists_in text shelf))
+      → StandsWith text (with_sels holder s shelf) (changed_where (is_held_by holder) (λ list. record { holder = list.holder; sels = selected text s; corner = list.corner }) (lists_in text shelf))
+  pub other_main : (text : List ℕ) (holder : Holder) (n : ℕ) (shelf : Shelved) → has_row holder shelf ≡ true → (row_of holder shelf).lag.stamp ≡ stamp_of shelf.log → n < length (row_of holder shelf).lag.sels.list → Stands text shelf
+      → StandsWith text (with_main holder n shelf) (changed_where (is_held_by holder) (λ list. record { holder = list.holder; sels = record { list = list.sels.list; main = n }; corner = list.corner }) (lists_in text shelf))
+  pub added : (text : List ℕ) (holder : Holder) (s : Listed) (corner : Corner) (shelf : Shelved) → IsStored text → IsHeld text s → Stands text shelf
+      → StandsWith text (listed holder s corner shelf) (with_row (is_held_by holder) (record { holder = holder; sels = selected text s; corner = corner }) (lists_in text shelf))
+  pub other_corner : (text : List ℕ) (holder : Holder) (corner : Corner) (shelf : Shelved) → Stands text shelf
+      → StandsWith text (with_corner holder corner shelf) (changed_where (is_held_by holder) (λ list. record { holder = list.holder; sels = list.sels; corner = corner }) (lists_in text shelf))
+  pub entered : (text : List ℕ) (holder : Holder) (shelf : Shelved) → Stands text shelf → StandsWith text (entered holder shelf) (lists_in text shelf)
+  pub dropped : (text : List ℕ) (holder : Holder) (shelf : Shelved) → Stands text shelf → StandsWith text (unlisted holder shelf) (filter (λ list. not (is_held_by holder list)) (lists_in text shelf))
   -- a list that is up to date is read as it is seen
-  pub read : (text : List ℕ) (holder : Holder) (shelf : Shelved) (other : SeenList) → has_list holder shelf ≡ true → (row_of holder shelf).lag.stamp ≡ stamp_of shelf.log → Stands text shelf
-      → IsHeld text (row_of holder shelf).lag.sels × (selected text (row_of holder shelf).lag.sels ≡ (first_where (is_seen_of holder) other (lists_in text shelf)).sels)
+  pub read : (text : List ℕ) (holder : Holder) (shelf : Shelved) (other : Held) → has_row holder shelf ≡ true → (row_of holder shelf).lag.stamp ≡ stamp_of shelf.log → Stands text shelf
+      → IsHeld text (row_of holder shelf).lag.sels × (selected text (row_of holder shelf).lag.sels ≡ (first_where (is_held_by holder) other (lists_in text shelf)).sels)
   -- each list is settled, and lies inside the text
   pub settled : (text : List ℕ) (shelf : Shelved) → Stands text shelf → AllByRecursion (λ (row : ShelfRow). IsHeld text (seen_by shelf.log row.lag)) shelf.rows
 
@@ -82,10 +86,20 @@ pub record StoringLaws : Type 0 where
   -- what is done with one holder's list leaves all others as they are stored
   pub others : (holder other : Holder) (f : Lag → Lag) (shelf : Shelved) → same_holder holder other ≡ false → row_of other (changed_for holder f shelf) ≡ row_of other shelf
   -- a list that was brought up to date stands at the log's stamp
-  pub up : (holder : Holder) (shelf : Shelved) → has_list holder shelf ≡ true → (row_of holder (brought_up holder shelf)).lag.stamp ≡ stamp_of (brought_up holder shelf).log
+  pub up : (holder : Holder) (shelf : Shelved) → has_row holder shelf ≡ true → (row_of holder (brought_up holder shelf)).lag.stamp ≡ stamp_of (brought_up holder shelf).log
+  -- what is done with lists and windows leaves those up to date that were so
+  pub up_replaced : (holder : Holder) (s : Listed) (shelf : Shelved) → KeepsUp shelf (with_sels holder s shelf)
+  pub up_other_main : (holder : Holder) (n : ℕ) (shelf : Shelved) → KeepsUp shelf (with_main holder n shelf)
+  pub up_other_corner : (holder : Holder) (corner : Corner) (shelf : Shelved) → KeepsUp shelf (with_corner holder corner shelf)
+  pub up_added : (holder : Holder) (s : Listed) (corner : Corner) (shelf : Shelved) → KeepsUp shelf (listed holder s corner shelf)
+  pub up_dropped : (holder : Holder) (shelf : Shelved) → KeepsUp shelf (unlisted holder shelf)
+  pub up_trimmed : (text : List ℕ) (shelf : Shelved) → Stands text shelf → KeepsUp shelf (trimmed_shelf shelf)
+  pub up_entered : (text : List ℕ) (holder : Holder) (shelf : Shelved) → Stands text shelf → KeepsUp shelf (entered holder shelf) × IsUp holder (entered holder shelf)
   -- up to the limit, noting leaves all lists as they are stored
   pub below_the_limit : (ss : List Shift) (shelf : Shelved) → stamp_of shelf.log + length ss ≤ shelf.limit
       → all_noted ss shelf ≡ record { limit = shelf.limit; log = record { first = shelf.log.first; shifts = shelf.log.shifts ++ ss }; rows = shelf.rows }
+  -- so it is where a holder's changes are noted, but for that holder's list
+  pub noted_for : (holder : Holder) (ss : List Shift) (shelf : Shelved) → LeavesOthers holder (length ss) shelf (entered holder (all_noted ss shelf))
   -- one shift more: the log holds that one alone, from stamp 0 on, and all lists stand at stamp 0
   pub at_the_limit : (s : Shift) (shelf : Shelved) → stamp_of shelf.log ≡ shelf.limit → (noted s shelf ≡ with_shift s (begun_again shelf)) × ((noted s shelf).log ≡ pushed fresh s) × AllStandAt 0 (noted s shelf).rows
   -- no log passes its limit
@@ -94,3 +108,4 @@ pub record StoringLaws : Type 0 where
   pub trimmed_least : (shelf : Shelved) → AllByRecursion (λ (row : ShelfRow). (trimmed_shelf shelf).log.first ≤ row.lag.stamp) shelf.rows
   pub trimmed_to_one : (shelf : Shelved) → ((trimmed_shelf shelf).log.first ≡ stamp_of shelf.log) ⊎ SomeStandsAt (trimmed_shelf shelf).log.first shelf.rows
   pub trimmed_stamp : (text : List ℕ) (shelf : Shelved) → Stands text shelf → stamp_of (trimmed_shelf shelf).log ≡ stamp_of shelf.log
+  pub trimmed : (text : List ℕ) (shelf : Shelved) → Stands text shelf → IsTrimmed (trimmed_shelf shelf)

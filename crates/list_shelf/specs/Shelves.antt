@@ -1,5 +1,6 @@
--- A shelf: the lists of all holders on one text, each with the stamp at which it stands, and the log of the shifts since.
-use Rattle.std.specs.Prelude.{◌≡◌, ℕ, Bool, not, nat_lt, min, ◌==◌, if◌then◌else◌, List, [], ◌∷◌, map, filter}
+-- A shelf: the lists of all holders on one text, each with the stamp at which it stands and the corner at which its holder's
+-- window on the text stands, and the log of the shifts since.
+use Rattle.std.specs.Prelude.{◌≡◌, ◌+◌, ◌≤◌, ℕ, Bool, true, false, not, nat_lt, min, ◌==◌, if◌then◌else◌, List, [], ◌∷◌, map, filter}
 use Rattle.std.specs.List.{AllByRecursion, list_any}
 use Rattle.tables.specs.Tables.{first_where, changed_where, with_row}
 use Rattle.text_model.specs.declared.coords.Shift.{Shift}
@@ -9,6 +10,8 @@ use Rattle.selection_set.specs.Listing.{Listed}
 use Rattle.selection_set.specs.Held.{selected}
 use Rattle.selection_map.specs.Catching.{AreShiftsOf, IsCatchable, eager_by}
 use Rattle.change_list.specs.Logs.{Logged, stamp_of, fresh, pushed, trimmed}
+use Rattle.window_view.specs.declared.corner.Corner.{Corner}
+use Rattle.window_view.specs.Sizes.{first_corner}
 use Rattle.list_shelf.specs.declared.holder.Holder.{Holder}
 use Rattle.list_shelf.specs.declared.holder.Holder.TheVariants.{Of}
 use Rattle.list_shelf.specs.declared.lag.Lag.{Lag}
@@ -34,12 +37,12 @@ abbrev pub is_of : Holder → ShelfRow → Bool
 is_of holder row = same_holder holder row.holder
 
 -- whether a holder has a list
-abbrev pub has_list : Holder → Shelved → Bool
-has_list holder shelf = list_any (is_of holder) shelf.rows
+abbrev pub has_row : Holder → Shelved → Bool
+has_row holder shelf = list_any (is_of holder) shelf.rows
 
 -- an empty list, which no shelf holds
 abbrev pub no_row : Holder → ShelfRow
-no_row holder = record { holder = holder; lag = record { stamp = 0; sels = record { list = []; main = 0 } } }
+no_row holder = record { holder = holder; lag = record { stamp = 0; sels = record { list = []; main = 0 } }; corner = first_corner }
 
 -- a holder's list; where it has none, the empty one
 abbrev pub row_of : Holder → Shelved → ShelfRow
@@ -47,11 +50,15 @@ row_of holder shelf = first_where (is_of holder) (no_row holder) shelf.rows
 
 -- a row with its list changed
 abbrev pub with_lag : (Lag → Lag) → ShelfRow → ShelfRow
-with_lag f row = record { holder = row.holder; lag = f row.lag }
+with_lag f row = record { holder = row.holder; lag = f row.lag; corner = row.corner }
 
 -- a shelf with a holder's list changed
 abbrev pub changed_for : Holder → (Lag → Lag) → Shelved → Shelved
 changed_for holder f shelf = record shelf { rows = changed_where (is_of holder) (with_lag f) shelf.rows }
+
+-- a shelf with a holder's window elsewhere
+abbrev pub with_corner : Holder → Corner → Shelved → Shelved
+with_corner holder corner shelf = record shelf { rows = changed_where (is_of holder) (λ row. record { holder = row.holder; lag = row.lag; corner = corner }) shelf.rows }
 
 -- a holder's list brought up to date
 abbrev pub brought_up : Holder → Shelved → Shelved
@@ -66,8 +73,8 @@ abbrev pub with_main : Holder → ℕ → Shelved → Shelved
 with_main holder n shelf = changed_for holder (λ lag. record { stamp = lag.stamp; sels = record { list = lag.sels.list; main = n } }) shelf
 
 -- a list of the text as it is now for a holder that has none
-abbrev pub listed : Holder → Listed → Shelved → Shelved
-listed holder s shelf = record shelf { rows = with_row (is_of holder) (record { holder = holder; lag = record { stamp = stamp_of shelf.log; sels = s } }) shelf.rows }
+abbrev pub listed : Holder → Listed → Corner → Shelved → Shelved
+listed holder s corner shelf = record shelf { rows = with_row (is_of holder) (record { holder = holder; lag = record { stamp = stamp_of shelf.log; sels = s }; corner = corner }) shelf.rows }
 
 -- a holder's lists taken off
 abbrev pub unlisted : Holder → Shelved → Shelved
@@ -111,25 +118,46 @@ least stamp (row ∷ rows) = least (min stamp row.lag.stamp) rows
 abbrev pub trimmed_shelf : Shelved → Shelved
 trimmed_shelf shelf = record shelf { log = trimmed shelf.log (least (stamp_of shelf.log) shelf.rows) }
 
--- a list as it is seen in a text: whose it is, and its ranges
-pub record SeenList : Type 0 where
+-- a holder's list brought up to date, and the log without what no list has yet to go through then
+abbrev pub entered : Holder → Shelved → Shelved
+entered holder shelf = trimmed_shelf (brought_up holder shelf)
+
+-- a holder's list is up to date, where it has one
+abbrev pub IsUp : Holder → Shelved → Type 0
+IsUp holder shelf = has_row holder shelf ≡ true → (row_of holder shelf).lag.stamp ≡ stamp_of shelf.log
+
+-- each list that was up to date is so still
+abbrev pub KeepsUp : Shelved → Shelved → Type 0
+KeepsUp old new = (holder : Holder) → IsUp holder old → IsUp holder new
+
+-- what other holders have stays as it is stored, where the log has room for so many shifts
+abbrev pub LeavesOthers : Holder → ℕ → Shelved → Shelved → Type 0
+LeavesOthers holder count old new = stamp_of old.log + count ≤ old.limit → (other : Holder) → same_holder holder other ≡ false → row_of other new ≡ row_of other old
+
+-- the log begins with the first shift that some list has yet to go through: with no list it holds none
+abbrev pub IsTrimmed : Shelved → Type 0
+IsTrimmed shelf = shelf.log.first ≡ least (stamp_of shelf.log) shelf.rows
+
+-- a list as it is seen in a text: whose it is, its ranges, and where its holder's window on the text stands
+pub record Held : Type 0 where
   pub holder : Holder
   pub sels : Selected
+  pub corner : Corner
 
-abbrev pub seen_in : List ℕ → Logged → ShelfRow → SeenList
-seen_in text log row = record { holder = row.holder; sels = selected text (seen_by log row.lag) }
+abbrev pub seen_in : List ℕ → Logged → ShelfRow → Held
+seen_in text log row = record { holder = row.holder; sels = selected text (seen_by log row.lag); corner = row.corner }
 
 -- the lists of a shelf as they are seen in its text
-abbrev pub lists_in : List ℕ → Shelved → List SeenList
+abbrev pub lists_in : List ℕ → Shelved → List Held
 lists_in text shelf = map (seen_in text shelf.log) shelf.rows
 
 -- whether a list that is seen is a holder's
-abbrev pub is_seen_of : Holder → SeenList → Bool
-is_seen_of holder list = same_holder holder list.holder
+abbrev pub is_held_by : Holder → Held → Bool
+is_held_by holder list = same_holder holder list.holder
 
 -- the eager rule: a list is carried through each of some changes of its text, and settled there
-abbrev pub moved_in : List ℕ → List Change → SeenList → SeenList
-moved_in text cs list = record { holder = list.holder; sels = eager_by text cs list.sels }
+abbrev pub list_moved : List ℕ → List Change → Held → Held
+list_moved text cs list = record { holder = list.holder; sels = eager_by text cs list.sels; corner = list.corner }
 
 -- all lists lag behind one text
 abbrev pub AllLag : List ℕ → Logged → List ShelfRow → Type 0
@@ -160,10 +188,10 @@ abbrev pub AreCatchable : List Shift → List ShelfRow → Type 0
 AreCatchable shifts rows = AllByRecursion (λ (row : ShelfRow). IsCatchable shifts row.lag.sels) rows
 
 -- the lists of some rows in a text, all of which lag behind it, are these
-pub record HasLists (text : List ℕ) (log : Logged) (rows : List ShelfRow) (lists : List SeenList) : Type 0 where
+pub record HasLists (text : List ℕ) (log : Logged) (rows : List ShelfRow) (lists : List Held) : Type 0 where
   pub stands : AllLag text log rows
   pub lists_are : map (seen_in text log) rows ≡ lists
 
 -- a shelf is a text's, and its lists are these
-abbrev pub StandsWith : List ℕ → Shelved → List SeenList → Type 0
+abbrev pub StandsWith : List ℕ → Shelved → List Held → Type 0
 StandsWith text shelf lists = HasLists text shelf.log shelf.rows lists

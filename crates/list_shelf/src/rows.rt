@@ -10,14 +10,17 @@ use crate::holder::Holder;
 use crate::lag::{Lag, catch_up, go_through, renew};
 use crate::log::SliceLog;
 use text_model::Shift;
+use window_view::Corner;
 
-/// A list on a shelf, and whose it is.
+/// A list on a shelf, whose it is, and where its holder's window on the text stands.
 #[derive(Drop, Debug)]
 pub struct ShelfRow {
     /// Whose it is.
     pub holder: Holder,
     /// The list, with the stamp at which it stands.
     pub lag: Lag,
+    /// Where its holder's window on the text stands; how large that is belongs to the holder, and not to the list.
+    pub corner: Corner,
 }
 
 /// The place of a holder's list, or how many lists there are where it has none.

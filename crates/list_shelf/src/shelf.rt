@@ -1,12 +1,13 @@
 //! The shelf of the lists on one text.
 
-ghost use Rattle.std.specs.Prelude.{◌≡◌, ◌<◌, ◌≤◌, true, length, take, OnOk, OnErr};
+ghost use Rattle.std.specs.Prelude.{◌≡◌, ◌<◌, ◌≤◌, true, length, take, IfOk, OnOk, OnErr};
 ghost use Rattle.change_list.specs.Logs.{stamp_of};
 ghost use Rattle.change_list.specs.declared.log.TheConstants.{MAX_STAMP};
-ghost use Rattle.list_shelf.specs.Shelves.{empty_shelf, has_list, row_of, brought_up, with_sels, with_main, listed, unlisted, room_made, noted, all_noted, all_moved, trimmed_shelf, CanStand, CanFollow};
+ghost use Rattle.list_shelf.specs.Lagging.{seen_by};
+ghost use Rattle.list_shelf.specs.Shelves.{empty_shelf, has_row, row_of, brought_up, with_sels, with_main, listed, unlisted, with_corner, entered, room_made, noted, all_noted, all_moved, trimmed_shelf, CanStand, CanFollow};
 
 use crate::holder::Holder;
-use crate::lag::Lag;
+use crate::lag::{Lag, copy_up};
 use crate::log::SliceLog;
 use crate::rows::{ShelfRow, bring_up, least, move_all, place, renew_all};
 use change_list::MAX_STAMP;
@@ -14,9 +15,10 @@ use selection_set::Sels;
 use std::alloc::{AllocError, Global};
 use std::marker::Model;
 use text_model::Shift;
+use window_view::Corner;
 
-/// The lists of all holders on one text, each with the stamp at which it stands, and the log of the shifts since the least
-/// of these stamps. Contracts see the log and the lists as they stand; from these each list follows that it would be if it
+/// The lists of all holders on one text, each with the stamp at which it stands and the corner of its holder's window, and the log of the
+/// shifts since the least of these stamps. Contracts see the log and the lists as they stand; from these each list follows that it would be if it
 /// had been moved at every change.
 #[derive(Drop, Debug)]
 pub struct Shelf {
@@ -67,14 +69,14 @@ impl Shelf {
 
     /// Whether a holder has a list.
     pub fn has_list(&self, holder: Holder) -> bool
-        ensures { result ≡ has_list holder self.now }
+        ensures { result ≡ has_row holder self.now }
     {
         place(self.rows.as_slice(), holder) < self.rows.len()
     }
 
     /// The stamp at which a holder's list stands.
     pub fn stamp(&self, holder: Holder) -> u64
-        requires { has_list holder self.now ≡ true }
+        requires { has_row holder self.now ≡ true }
         ensures { result ≡ (row_of holder self.now).lag.stamp }
     {
         let row = &self.rows[place(self.rows.as_slice(), holder)];
@@ -83,7 +85,7 @@ impl Shelf {
 
     /// A holder's list, which is up to date: no list that lags is handed out.
     pub fn sels(&self, holder: Holder) -> &Sels
-        requires list { has_list holder self.now ≡ true }
+        requires list { has_row holder self.now ≡ true }
         requires up { (row_of holder self.now).lag.stamp ≡ stamp_of self.now.log }
         ensures { result.now ≡ (row_of holder self.now).lag.sels }
     {
@@ -91,9 +93,20 @@ impl Shelf {
         &row.lag.sels
     }
 
+    /// A copy of a holder's list as it is when it has gone through the changes that it missed; the list itself is left where it
+    /// stands.
+    pub fn copy_of(&self, alloc: Global, holder: Holder) -> Result<Sels, AllocError>
+        requires list { has_row holder self.now ≡ true }
+        requires can { CanStand self.now }
+        ensures { IfOk result (λ sels. sels ≡ seen_by self.now.log (row_of holder self.now).lag) }
+    {
+        let row = &self.rows[place(self.rows.as_slice(), holder)];
+        copy_up(&row.lag, alloc, &self.log)
+    }
+
     /// Gives a holder another list, of the text as it is now.
     pub fn set_sels(&mut self, holder: Holder, sels: Sels)
-        requires { has_list holder self.old ≡ true }
+        requires { has_row holder self.old ≡ true }
         ensures { self.new ≡ with_sels holder sels self.old }
     {
         let now = self.log.stamp();
@@ -104,7 +117,7 @@ impl Shelf {
 
     /// Makes the n-th selection of a holder's list the main one, where the list is up to date.
     pub fn set_main(&mut self, holder: Holder, n: usize)
-        requires list { has_list holder self.old ≡ true }
+        requires list { has_row holder self.old ≡ true }
         requires up { (row_of holder self.old).lag.stamp ≡ stamp_of self.old.log }
         requires there { n < length (row_of holder self.old).lag.sels.list }
         ensures { self.new ≡ with_main holder n self.old }
@@ -114,9 +127,28 @@ impl Shelf {
         row.lag.sels.set_main(n);
     }
 
-    /// Gives a holder a list of the text as it is now, where it has none. An `Err` leaves the shelf.
-    pub fn add_list(&mut self, holder: Holder, sels: Sels) -> Result<(), AllocError>
-        ensures ok { OnOk result (self.new ≡ listed holder sels self.old) }
+    /// Where a holder's window on the text stands.
+    pub fn corner(&self, holder: Holder) -> Corner
+        requires { has_row holder self.now ≡ true }
+        ensures { result ≡ (row_of holder self.now).corner }
+    {
+        let row = &self.rows[place(self.rows.as_slice(), holder)];
+        row.corner
+    }
+
+    /// Lets a holder's window stand elsewhere.
+    pub fn set_corner(&mut self, holder: Holder, corner: Corner)
+        requires { has_row holder self.old ≡ true }
+        ensures { self.new ≡ with_corner holder corner self.old }
+    {
+        let at = place(self.rows.as_slice(), holder);
+        let row = &mut self.rows[at];
+        row.corner = corner;
+    }
+
+    /// Gives a holder a list of the text as it is now, and the corner of a window, where it has none. An `Err` leaves the shelf.
+    pub fn add_list(&mut self, holder: Holder, sels: Sels, corner: Corner) -> Result<(), AllocError>
+        ensures ok { OnOk result (self.new ≡ listed holder sels corner self.old) }
         ensures err { OnErr result (self.new ≡ self.old) }
     {
         if place(self.rows.as_slice(), holder) < self.rows.len() {
@@ -124,7 +156,11 @@ impl Shelf {
         }
         let now = self.log.stamp();
         let lag = Lag { stamp: now, sels };
-        self.rows.push(ShelfRow { holder, lag })?;
+        self.rows.push(ShelfRow {
+            holder,
+            lag,
+            corner,
+        })?;
         Ok(())
     }
 
@@ -216,5 +252,27 @@ impl Shelf {
     {
         let to = least(self.rows.as_slice(), self.log.stamp());
         self.log.trim(to);
+    }
+
+    /// Brings a holder's list up to date, where it has one, and drops the shifts that no list has yet to go through then; all
+    /// other lists and their stamps are left. Takes no memory.
+    pub fn enter(&mut self, holder: Holder)
+        requires { CanStand self.old }
+        ensures { self.new ≡ entered holder self.old }
+    {
+        self.bring_up(holder);
+        self.trim();
+    }
+
+    /// Notes the shifts of changes that a holder made, and brings that holder's list up to date; other lists stay where they
+    /// stand, as `note` says. Where memory is wanting, no shift is lost either.
+    pub fn note_for(&mut self, holder: Holder, shifts: &[Shift]) -> Result<(), AllocError>
+        requires { CanFollow self.old shifts.now }
+        ensures ok { OnOk result (self.new ≡ entered holder (all_noted shifts.now self.old)) }
+        ensures err { OnErr result (self.new ≡ entered holder (all_moved shifts.now self.old)) }
+    {
+        let noted = self.note(shifts);
+        self.enter(holder);
+        noted
     }
 }

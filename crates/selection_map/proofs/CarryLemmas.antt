@@ -20,7 +20,7 @@ use Rattle.selection_map.specs.Rebasing.{rebased, earlier, uncut, mapped}
 rebased-same : (at f t : Coord) → at.line ≡ f.line → rebased at f t ≡ record { line = t.line; column = t.column + (at.column - f.column) }
 rebased-same at f t h = rw (eq-eqb at.line f.line h) refl
 
-rebased-below : (at f t : Coord) → f.line < at.line → rebased at f t ≡ record { line = t.line + (at.line - f.line); column = at.column }
+pub rebased-below : (at f t : Coord) → f.line < at.line → rebased at f t ≡ record { line = t.line + (at.line - f.line); column = at.column }
 rebased-below at f t h = elim (test_cases (eqb at.line f.line)) [ inl e ↦ absurd (let g : at.line ≡ f.line = eqb-true at.line f.line e in omega arith) | inr e ↦ rw e refl ]
 
 -- what lies as far behind one coordinate is rebased to what lies as far behind another

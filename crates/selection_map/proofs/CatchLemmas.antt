@@ -60,7 +60,7 @@ ends-mapped : (f : ℕ → ℕ) → ((a b : ℕ) → a ≤ b → f a ≤ f b) �
 ends-mapped f k from [] h = tt
 ends-mapped f k from (r ∷ rs) h = (k from r.low h.0, k r.low r.high h.1, ends-mapped f k r.high rs h.2)
 
-ends-weaker : (a b : ℕ) (rs : List Range) → b ≤ a → EndsRise a rs → EndsRise b rs
+pub ends-weaker : (a b : ℕ) (rs : List Range) → b ≤ a → EndsRise a rs → EndsRise b rs
 ends-weaker a b [] le h = tt
 ends-weaker a b (r ∷ rs) le h = (omega (arith, h.0), h.1, h.2)
 

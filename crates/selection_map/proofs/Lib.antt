@@ -16,3 +16,5 @@ pub mod StepLemmas
 pub mod OneRunLemmas
 pub mod BackLemmas
 pub mod PastLemmas
+pub mod StayLemmas
+pub mod PartLemmas

@@ -19,7 +19,7 @@ at_most-same : (a b : Coord) → a.line ≡ b.line → is_at_most a b ≡ leb a.
 at_most-same a b h =
     ap (λ v. v || (eqb a.line b.line && leb a.column b.column)) (le-ltb a.line b.line (omega arith)) ∙ ap (λ v. v && leb a.column b.column) (eq-eqb a.line b.line h)
 
-at_most-later : (a b : Coord) → b.line < a.line → is_at_most a b ≡ false
+pub at_most-later : (a b : Coord) → b.line < a.line → is_at_most a b ≡ false
 at_most-later a b h =
     ap (λ v. v || (eqb a.line b.line && leb a.column b.column)) (le-ltb a.line b.line (omega arith)) ∙ ap (λ v. v && leb a.column b.column) (ne_eqb a.line b.line (λ e. omega arith))
 
@@ -36,6 +36,10 @@ at_most-precedes a b e =
         | inr gt ↦ absurd (not-both (is_at_most a b) e (at_most-later a b gt))
       ]
     ]
+
+-- what is at most a coordinate lies on no later line
+pub at_most-lines : (a b : Coord) → is_at_most a b ≡ true → a.line ≤ b.line
+at_most-lines a b e = elim (at_most-precedes a b e) [ inl lt ↦ omega (arith, lt) | inr same ↦ omega (arith, same.0) ]
 
 precedes-at_most : (a b : Coord) → Precedes a b → is_at_most a b ≡ true
 precedes-at_most a b (inl lt) = at_most-line a b lt

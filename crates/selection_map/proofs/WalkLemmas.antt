@@ -27,12 +27,12 @@ ready-step : (way : ShiftWay) (first : List ℕ) (all : List Shift) (lower : ℕ
 ready-step Rising first all lower w s ss o h r le below e = rising-step first all lower w s ss o h r le below e
 ready-step Falling first all lower w s ss o h r le below e = falling-step first all lower w s ss o h r e
 
-ready-stop : (way : ShiftWay) (first : List ℕ) (all : List Shift) (lower : ℕ) (w : ShiftReach) (s : Shift) (ss : List Shift) (o : ℕ) → IsStored first → IsWalkReady way first all lower w (s ∷ ss) → lower ≤ o → o < length first → is_due way (coord_at first o) s w ≡ false
+pub ready-stop : (way : ShiftWay) (first : List ℕ) (all : List Shift) (lower : ℕ) (w : ShiftReach) (s : Shift) (ss : List Shift) (o : ℕ) → IsStored first → IsWalkReady way first all lower w (s ∷ ss) → lower ≤ o → o < length first → is_due way (coord_at first o) s w ≡ false
     → goes w (coord_at first o) ≡ all_mapped all (coord_at first o)
 ready-stop Rising first all lower w s ss o h r le below e = rising-stop first all lower w s ss o h r le below e
 ready-stop Falling first all lower w s ss o h r le below e = falling-stop first all lower w s ss o h r le below e
 
-ready-none : (way : ShiftWay) (first : List ℕ) (all : List Shift) (lower : ℕ) (w : ShiftReach) (o : ℕ) → IsStored first → IsWalkReady way first all lower w [] → lower ≤ o → o < length first → goes w (coord_at first o) ≡ all_mapped all (coord_at first o)
+pub ready-none : (way : ShiftWay) (first : List ℕ) (all : List Shift) (lower : ℕ) (w : ShiftReach) (o : ℕ) → IsStored first → IsWalkReady way first all lower w [] → lower ≤ o → o < length first → goes w (coord_at first o) ≡ all_mapped all (coord_at first o)
 ready-none Rising first all lower w o h r le below = rising-none first all lower w o r le below
 ready-none Falling first all lower w o h r le below = falling-none first all lower w o h r le below
 
@@ -97,12 +97,12 @@ reached-end way first all lower w (s ∷ ss) o h r le below =
       | inr e ↦ subst (HasReached way first all o) (sym (due-stop way (coord_at first o) w s ss e)) (record { ready = ready-later way first all lower o w (s ∷ ss) h r le below; right = ready-stop way first all lower w s ss o h r le below e })
     ]
 
-queue-length : (way : ShiftWay) (shifts : List Shift) → length (queue way shifts) ≡ length shifts
+pub queue-length : (way : ShiftWay) (shifts : List Shift) → length (queue way shifts) ≡ length shifts
 queue-length Rising shifts = refl
 queue-length Falling shifts = length-reverse shifts
 
 -- the shift that was read is the next one
-next-shift : (way : ShiftWay) (shifts : List Shift) (n : ℕ) (s : Shift) → n < length shifts → ((d : Shift) → s ≡ get_or (queue way shifts) n d) → drop n (queue way shifts) ≡ s ∷ drop (n + 1) (queue way shifts)
+pub next-shift : (way : ShiftWay) (shifts : List Shift) (n : ℕ) (s : Shift) → n < length shifts → ((d : Shift) → s ≡ get_or (queue way shifts) n d) → drop n (queue way shifts) ≡ s ∷ drop (n + 1) (queue way shifts)
 next-shift way shifts n s below e = drop_more (queue way shifts) n s (omega (arith, queue-length way shifts)) ∙ ap (λ x. x ∷ drop (n + 1) (queue way shifts)) (sym (e s))
 
 -- the coordinates that are met on the way to an end

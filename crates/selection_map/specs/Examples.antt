@@ -9,8 +9,9 @@ use Rattle.selection_set.specs.Listing.{Listed}
 use Rattle.selection_set.specs.Sweeping.{swept_listed}
 use Rattle.selection_map.specs.declared.walking.ShiftWay.TheVariants.{Rising, Falling}
 use Rattle.selection_map.specs.Rebasing.{mapped, mapped_sel}
-use Rattle.selection_map.specs.Reaching.{goes, at_rest, reach_of, then_on, through}
-use Rattle.selection_map.specs.Walking.{follows, Underway, turns}
+use Rattle.selection_map.specs.Reaching.{goes, reach_of, then_on, through}
+use Rattle.selection_map.specs.Walking.{follows}
+use Rattle.selection_map.specs.Staying.{sel_stays, count_moved}
 use Rattle.selection_map.specs.Catching.{text_after, steps_by, eager}
 
 abbrev pub at : ℕ → ℕ → Coord
@@ -56,12 +57,19 @@ first_undone = record { insert = false; begin = at 0 1; «end» = at 0 2; last =
 abbrev pub typed_changes : List Change
 typed_changes = Insertion 1 (codes "X") ∷ Insertion 4 (codes "X") ∷ []
 
--- a walk through the typing that has passed no shift yet, and the cursors before the characters
-abbrev pub before_typing : Underway
-before_typing = record { reach = at_rest; rest = first_typed ∷ second_typed ∷ [] }
+-- the same typing where there is a second line of six characters
+abbrev pub first_above : Shift
+first_above = record { insert = true; begin = at 0 1; «end» = at 0 2; last = at 1 6 }
 
+abbrev pub second_above : Shift
+second_above = record { insert = true; begin = at 0 4; «end» = at 0 5; last = at 1 6 }
+
+-- the cursors before the characters, and those in front of the first, before the second, and on the next line
 abbrev pub two_cursors : List Sel
 two_cursors = straight (at 0 1) (at 0 1) ∷ straight (at 0 3) (at 0 3) ∷ []
+
+abbrev pub three_cursors : List Sel
+three_cursors = straight (at 0 0) (at 0 0) ∷ straight (at 0 3) (at 0 3) ∷ straight (at 1 3) (at 1 3) ∷ []
 
 -- the third to the fifth character taken out of nine, and then the second of what is left
 abbrev pub three_out : Move
@@ -80,8 +88,10 @@ pub record ManyExamples : Type 0 where
   pub typing_rises : follows Rising first_typed second_typed ≡ true
   pub undoing_falls : follows Falling second_undone first_undone ≡ true
   pub undoing_does_not_rise : follows Rising second_undone first_undone ≡ false
-  -- four ends and two shifts
-  pub six_turns : turns Rising before_typing two_cursors ≡ 6
+  -- cursors at the letters move; one in front of both and one on the next line stay
+  pub both_move : count_moved (first_typed ∷ second_typed ∷ []) two_cursors ≡ 2
+  pub one_of_three_moves : count_moved (first_above ∷ second_above ∷ []) three_cursors ≡ 1
+  pub in_front_stays : sel_stays (first_typed ∷ second_typed ∷ []) (straight (at 0 0) (at 0 0)) ≡ true
   pub text_behind_typing : text_after (codes "abcdef\n") (steps_by (codes "abcdef\n") typed_changes (first_typed ∷ second_typed ∷ [])) ≡ codes "aXbcXdef\n"
   -- settled at each change: two become one at the first
   pub joined_on_the_way : eager (three_out ∷ one_out ∷ []) (record { list = only 1 ∷ only 3 ∷ only 5 ∷ only 6 ∷ []; main = 2 }) ≡ record { list = only 1 ∷ only 2 ∷ []; main = 0 }

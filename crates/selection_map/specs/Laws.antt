@@ -1,13 +1,11 @@
 -- Laws of walks, each proved as the contract of a function of `laws`.
-use Rattle.std.specs.Prelude.{◌≡◌, ℕ, ◌+◌, ◌*◌, ◌≤◌, min, List, [], ◌∷◌, ◌++◌, length}
+use Rattle.std.specs.Prelude.{◌≡◌, ℕ, ◌≤◌, min, List, [], ◌∷◌, ◌++◌}
 use Rattle.text_model.specs.declared.coords.Shift.{Shift}
 use Rattle.text_model.specs.Texts.{IsStored}
 use Rattle.text_model.specs.Changes.{Change, changed, all_changed, Move, move_of, IsShift}
-use Rattle.selection_set.specs.declared.sel.Sel.{Sel}
-use Rattle.selection_map.specs.declared.walking.ShiftWay.{ShiftWay}
 use Rattle.selection_map.specs.declared.walking.ShiftWay.TheVariants.{Rising, Falling}
 use Rattle.list_model.specs.Ranges.{Selected}
-use Rattle.selection_map.specs.Walking.{Underway, turns, IsRun}
+use Rattle.selection_map.specs.Walking.{IsRun}
 use Rattle.selection_set.specs.Listing.{Listed}
 use Rattle.selection_set.specs.Held.{IsHeld}
 use Rattle.selection_map.specs.Catching.{Step, Lead, text_after, shifts_of, moves_of, CanCatchUp, IsCatchable, eager, IsCaughtUp, steps_by, AreShiftsOf, eager_by, IsCaughtUpBy}
@@ -23,10 +21,6 @@ abbrev pub BeginsFall : List Move → Type 0
 BeginsFall [] = Unit {0}
 BeginsFall (m ∷ []) = Unit {0}
 BeginsFall (m ∷ (n ∷ ns)) = (n.begin ≤ min m.begin m.last) × BeginsFall (n ∷ ns)
-
--- a walk takes two turns for each selection, and one for each shift, at most
-pub record WalksTakeFewTurns : Type 0 where
-  pub few_turns : (way : ShiftWay) (u : Underway) (list : List Sel) → turns way u list ≤ 2 * length list + length u.rest
 
 -- changes whose begins rise, or fall, are one run, so a list walks through them once
 pub record ChangesMakeOneRun : Type 0 where

@@ -5,6 +5,7 @@ pub mod Bounds
 pub mod Walking
 pub mod Catching
 pub mod Behind
+pub mod Staying
 pub mod Premises
 pub mod Laws
 pub mod Examples

@@ -1,9 +1,8 @@
 -- How a list of selections in order walks through shifts in order: ends and shifts both go forward, and each is passed once.
-use Rattle.std.specs.Prelude.{◌≡◌, ℕ, ◌+◌, suc, Bool, true, if◌then◌else◌, List, [], ◌∷◌, reverse, drop}
+use Rattle.std.specs.Prelude.{◌≡◌, Bool, true, if◌then◌else◌, List, [], ◌∷◌, reverse, drop}
 use Rattle.text_model.specs.declared.coords.Coord.{Coord}
 use Rattle.text_model.specs.declared.coords.Shift.{Shift}
 use Rattle.text_model.specs.Coords.{is_at_most}
-use Rattle.selection_set.specs.declared.sel.Sel.{Sel}
 use Rattle.selection_map.specs.declared.reach.ShiftReach.{ShiftReach}
 use Rattle.selection_map.specs.declared.walking.ShiftWay.{ShiftWay}
 use Rattle.selection_map.specs.declared.walking.ShiftWay.TheVariants.{Rising, Falling}
@@ -35,23 +34,6 @@ pub record Underway : Type 0 where
 abbrev pub advanced : ShiftWay → Coord → ShiftReach → List Shift → Underway
 advanced way at w [] = record { reach = w; rest = [] }
 advanced way at w (s ∷ ss) = if is_due way at s w then advanced way at (with_shift way s w) ss else record { reach = w; rest = s ∷ ss }
-
--- how many shifts are looked at on the way to an end, and the end itself
-abbrev pub turns_to : ShiftWay → Coord → ShiftReach → List Shift → ℕ
-turns_to way at w [] = 1
-turns_to way at w (s ∷ ss) = if is_due way at s w then suc (turns_to way at (with_shift way s w) ss) else 1
-
--- on the way to an end, from where one is underway
-abbrev pub on_to : ShiftWay → Coord → Underway → Underway
-on_to way at u = advanced way at u.reach u.rest
-
--- how many turns a walk takes: those on the way to each of the ends
-abbrev pub turns : ShiftWay → Underway → List Sel → ℕ
-turns way u [] = 0
-turns way u (x ∷ xs) =
-    turns_to way x.low u.reach u.rest
-    + (turns_to way x.high (on_to way x.low u).reach (on_to way x.low u).rest
-    + turns way (on_to way x.high (on_to way x.low u)) xs)
 
 -- a walk of the code, with the shifts that it has yet to pass
 abbrev pub underway : ShiftWay → List Shift → Walk → Underway

@@ -1,12 +1,7 @@
 //! The laws, and the worked examples of the definitions.
 
 ghost use Rattle.selection_map.specs.Examples.{Examples};
-ghost use Rattle.selection_map.specs.Laws.{WalksTakeFewTurns, ChangesMakeOneRun, ChangesAreSteps, ListsCatchUp};
-
-/// A walk takes two turns for each selection, and one for each shift, at most.
-pub fn walks_take_few_turns()
-    ensures { WalksTakeFewTurns }
-{}
+ghost use Rattle.selection_map.specs.Laws.{ChangesMakeOneRun, ChangesAreSteps, ListsCatchUp};
 
 /// Changes whose begins rise, as those of an edit, or fall, as those that take it back, are one run.
 pub fn changes_make_one_run()

@@ -7,9 +7,10 @@ pub mod catching;
 pub mod laws;
 pub mod lists;
 mod reach;
+mod staying;
 mod walking;
 
 pub use behind::{carry_back, carry_on};
 pub use carrying::{map_one, map_sel, rebase};
-pub use catching::{catch_up, falls, rises};
+pub use catching::{catch_up, catch_up_forward, falls, rises};
 pub use lists::map_sels;

@@ -3,4 +3,4 @@ use Rattle.list_shelf.specs.declared.rows.ShelfRow.{ShelfRow}
 use Rattle.list_shelf.proofs.rows.renew_row.Goals as goal
 
 pub returns : goal.returns
-returns c = ap (λ l. let x : ShelfRow = record { holder = c.args.row.now.holder; lag = l } in x) c.renew.ensures
+returns c = ap (λ l. let x : ShelfRow = record { holder = c.args.row.now.holder; lag = l; corner = c.args.row.now.corner } in x) c.renew.ensures

@@ -21,4 +21,4 @@ pub returns : goal.returns
 returns c =
     shelf-set c.args.holder (main_lag c.args.n) _ _ c.place-at.result c.index_mut-row.result.now _ c.self.view_is
     (c.place-at.ensures ∙ ap (place_where (is_of c.args.holder)) c.as_slice.ensures.value) c.requires.list c.index_mut-row.ensures.value
-    (ap (λ s. let x : ShelfRow = record { holder = c.index_mut-row.result.now.holder; lag = record { stamp = c.index_mut-row.result.now.lag.stamp; sels = s } } in x) c.set_main.ensures)
+    (ap (λ s. let x : ShelfRow = record { holder = c.index_mut-row.result.now.holder; lag = record { stamp = c.index_mut-row.result.now.lag.stamp; sels = s }; corner = c.index_mut-row.result.now.corner } in x) c.set_main.ensures)

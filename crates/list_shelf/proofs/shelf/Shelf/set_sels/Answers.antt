@@ -17,4 +17,4 @@ returns c =
     let now : c.stamp-now.result ≡ stamp_of c.args.self.now.log = c.stamp-now.ensures.value ∙ ap (λ (s : Shelved). stamp_of s.log) c.self.view_is in
     shelf-set c.args.holder (λ (lag : Lag). let x : Lag = record { stamp = stamp_of c.args.self.now.log; sels = c.args.sels } in x) _ _ c.place-at.result c.index_mut-row.result.now _ c.self.view_is
     (c.place-at.ensures ∙ ap (place_where (is_of c.args.holder)) c.as_slice.ensures.value) c.requires c.index_mut-row.ensures.value
-    (ap (λ n. let x : ShelfRow = record { holder = c.index_mut-row.result.now.holder; lag = record { stamp = n; sels = c.args.sels } } in x) now)
+    (ap (λ n. let x : ShelfRow = record { holder = c.index_mut-row.result.now.holder; lag = record { stamp = n; sels = c.args.sels }; corner = c.index_mut-row.result.now.corner } in x) now)
