@@ -2,8 +2,8 @@
 use Rattle.std.proofs.Common.{◌≡◌, ℕ, ◌-◌, List, [], ◌∷◌, ◌++◌, length, take, drop, get_or, sym, ap, ◌∙◌, arith, length-append, length-take, length-drop}
 use Rattle.std.proofs.Math.Seq.{get_or-append_seam}
 use Rattle.list_model.specs.Ranges.{Range}
-use Rattle.edit_ops.specs.declared.kinds.Rotation.{Rotation}
-use Rattle.edit_ops.specs.declared.kinds.Rotation.TheVariants.{Forward, Backward}
+use Rattle.directions.specs.declared.direction.Direction.{Direction}
+use Rattle.directions.specs.declared.direction.Direction.TheVariants.{Forward, Backward}
 use Rattle.edit_ops.specs.Putting.{put_over}
 use Rattle.edit_ops.specs.Rotating.{rotated}
 use Rattle.edit_ops.proofs.EachLemmas.{KeepsOrder}
@@ -15,7 +15,7 @@ over-keeps last string = record {
   apart = λ m n r s o h p l. omega arith;
 }
 
-pub length-rotated : (way : Rotation) (ts : List (List ℕ)) → length (rotated way ts) ≡ length ts
+pub length-rotated : (direction : Direction) (ts : List (List ℕ)) → length (rotated direction ts) ≡ length ts
 length-rotated Forward ts =
     omega (arith, length-append (drop (length ts - 1) ts) (take (length ts - 1) ts), length-drop (length ts - 1) ts, length-take (length ts - 1) ts)
 length-rotated Backward ts = omega (arith, length-append (drop 1 ts) (take 1 ts), length-drop 1 ts, length-take 1 ts)

@@ -2,14 +2,14 @@
 use Rattle.std.specs.Prelude.{ℕ, ◌-◌, List, [], ◌++◌, length, take, drop, slice_index_or}
 use Rattle.list_model.specs.Ranges.{Range}
 use Rattle.undo_model.specs.Edits.{Splice}
-use Rattle.edit_ops.specs.declared.kinds.Rotation.{Rotation}
-use Rattle.edit_ops.specs.declared.kinds.Rotation.TheVariants.{Forward, Backward}
+use Rattle.directions.specs.declared.direction.Direction.{Direction}
+use Rattle.directions.specs.declared.direction.Direction.TheVariants.{Forward, Backward}
 use Rattle.edit_ops.specs.Each.{each_from}
 use Rattle.edit_ops.specs.Putting.{put_over}
 use Rattle.edit_ops.specs.Reading.{texts_of}
 
--- texts of which each goes to the place behind its own, and the last one to the first; or the other way
-abbrev pub rotated : Rotation → List (List ℕ) → List (List ℕ)
+-- texts of which each goes to the place behind its own, and the last one to the first; or backward
+abbrev pub rotated : Direction → List (List ℕ) → List (List ℕ)
 rotated Forward ts = drop (length ts - 1) ts ++ take (length ts - 1) ts
 rotated Backward ts = drop 1 ts ++ take 1 ts
 
@@ -18,5 +18,5 @@ abbrev pub put_over_each : List (List ℕ) → List Range → List Splice
 put_over_each ts rs = each_from (λ n r. put_over (slice_index_or ts n []) r) 0 rs
 
 -- each range of a list replaced by the text of the one before it, or behind it, round the ends
-abbrev pub rotations : List ℕ → Rotation → List Range → List Splice
-rotations text way rs = put_over_each (rotated way (texts_of text rs)) rs
+abbrev pub rotations : List ℕ → Direction → List Range → List Splice
+rotations text direction rs = put_over_each (rotated direction (texts_of text rs)) rs

@@ -1,8 +1,7 @@
 -- Worked examples of the texts of selections, and of edits that open lines, change texts round and fill selections.
 use Rattle.std.specs.Prelude.{◌≡◌, [], ◌∷◌, codes}
 use Rattle.list_model.specs.Ranges.{only}
-use Rattle.edit_ops.specs.declared.kinds.Side.TheVariants.{Below, Above}
-use Rattle.edit_ops.specs.declared.kinds.Rotation.TheVariants.{Forward, Backward}
+use Rattle.directions.specs.declared.direction.Direction.TheVariants.{Forward, Backward}
 use Rattle.edit_ops.specs.Reading.{texts_of}
 use Rattle.edit_ops.specs.Opening.{opens}
 use Rattle.edit_ops.specs.Rotating.{rotations}
@@ -16,17 +15,17 @@ pub record ReadExamples : Type 0 where
   pub last_newline_too : texts_of (codes "ab\n") (straight 0 2 ∷ []) ≡ codes "ab\n" ∷ []
 
 pub record OpenExamples : Type 0 where
-  pub below_the_last_line : edited_text (codes "ab\n") (opens (codes "ab\n") Below (only 0 ∷ [])) ≡ codes "ab\n\n"
-  pub its_newline_is_left : list_left_by (codes "ab\n") (opens (codes "ab\n") Below (only 0 ∷ [])) 0 ≡ listed (only 3 ∷ []) 0
-  pub both_above_one_line : edited_text (codes "ab\n") (opens (codes "ab\n") Above (only 0 ∷ only 1 ∷ [])) ≡ codes "\n\nab\n"
-  pub each_has_its_line : list_left_by (codes "ab\n") (opens (codes "ab\n") Above (only 0 ∷ only 1 ∷ [])) 1 ≡ listed (only 0 ∷ only 1 ∷ []) 1
-  pub last_line_selected : list_left_by (codes "a\nb\n") (opens (codes "a\nb\n") Below (straight 2 3 ∷ [])) 0 ≡ listed (only 4 ∷ []) 0
-  pub below_two_lines : edited_text (codes "a\nb\n") (opens (codes "a\nb\n") Below (only 0 ∷ only 2 ∷ [])) ≡ codes "a\n\nb\n\n"
-  pub both_are_left : list_left_by (codes "a\nb\n") (opens (codes "a\nb\n") Below (only 0 ∷ only 2 ∷ [])) 0 ≡ listed (only 2 ∷ only 5 ∷ []) 0
-  pub above_in_the_middle : edited_text (codes "a\nb\nc\n") (opens (codes "a\nb\nc\n") Above (only 2 ∷ [])) ≡ codes "a\n\nb\nc\n"
+  pub below_the_last_line : edited_text (codes "ab\n") (opens (codes "ab\n") Forward (only 0 ∷ [])) ≡ codes "ab\n\n"
+  pub its_newline_is_left : list_left_by (codes "ab\n") (opens (codes "ab\n") Forward (only 0 ∷ [])) 0 ≡ listed (only 3 ∷ []) 0
+  pub both_above_one_line : edited_text (codes "ab\n") (opens (codes "ab\n") Backward (only 0 ∷ only 1 ∷ [])) ≡ codes "\n\nab\n"
+  pub each_has_its_line : list_left_by (codes "ab\n") (opens (codes "ab\n") Backward (only 0 ∷ only 1 ∷ [])) 1 ≡ listed (only 0 ∷ only 1 ∷ []) 1
+  pub last_line_selected : list_left_by (codes "a\nb\n") (opens (codes "a\nb\n") Forward (straight 2 3 ∷ [])) 0 ≡ listed (only 4 ∷ []) 0
+  pub below_two_lines : edited_text (codes "a\nb\n") (opens (codes "a\nb\n") Forward (only 0 ∷ only 2 ∷ [])) ≡ codes "a\n\nb\n\n"
+  pub both_are_left : list_left_by (codes "a\nb\n") (opens (codes "a\nb\n") Forward (only 0 ∷ only 2 ∷ [])) 0 ≡ listed (only 2 ∷ only 5 ∷ []) 0
+  pub above_in_the_middle : edited_text (codes "a\nb\nc\n") (opens (codes "a\nb\nc\n") Backward (only 2 ∷ [])) ≡ codes "a\n\nb\nc\n"
   -- the line of the last character counts below, and that of the first one above
-  pub below_its_last_line : edited_text (codes "a\nb\nc\n") (opens (codes "a\nb\nc\n") Below (turned 0 2 ∷ [])) ≡ codes "a\nb\n\nc\n"
-  pub above_its_first_line : edited_text (codes "a\nb\nc\n") (opens (codes "a\nb\nc\n") Above (straight 2 5 ∷ [])) ≡ codes "a\n\nb\nc\n"
+  pub below_its_last_line : edited_text (codes "a\nb\nc\n") (opens (codes "a\nb\nc\n") Forward (turned 0 2 ∷ [])) ≡ codes "a\nb\n\nc\n"
+  pub above_its_first_line : edited_text (codes "a\nb\nc\n") (opens (codes "a\nb\nc\n") Backward (straight 2 5 ∷ [])) ≡ codes "a\n\nb\nc\n"
 
 pub record RotateExamples : Type 0 where
   pub two : edited_text (codes "abc\n") (rotations (codes "abc\n") Forward (only 0 ∷ only 2 ∷ [])) ≡ codes "cba\n"

@@ -11,12 +11,12 @@ ghost use Rattle.edit_ops.specs.Aligning.{alignments, cursor_column, greatest, l
 ghost use Rattle.edit_ops.specs.declared.aligning.AlignError.TheVariants.{NoMemory};
 
 use buffer_store::Splice;
-use kak_text::{Chars, MAX_CHARS, MAX_TABSTOP};
+use kak_text::{Chars, MAX_CHARS};
 use line_buffer::Lines;
 use selection_set::{Sel, Sels};
 use std::alloc::{AllocError, Global};
 use thiserror::Error;
-use window_view::cell_of;
+use window_view::{Tabstop, cell_of};
 
 /// Why cursors aren't aligned. Nothing is changed then.
 #[derive(Clone, Copy, PartialEq, Eq, Debug, Error)]
@@ -41,24 +41,22 @@ impl From<AllocError> for AlignError {
 }
 
 /// The replacements that put spaces before the first character of each selection, from the first to the last: as many as
-/// the display column of its cursor is below the greatest one of a cursor, with a tab stop at each `tabstop` columns.
+/// the display column of its cursor is below the greatest one of a cursor.
 /// Whether it is refused is found before any memory is taken. It goes over the line of each cursor three times, up to the
 /// cursor.
 pub fn align(
     alloc: Global,
     lines: &Lines,
     sels: &Sels,
-    tabstop: u32,
+    tabstop: Tabstop,
 ) -> Result<Vec<Splice>, AlignError>
     requires held { IsHeld lines.now sels.now }
-    requires some { 1 ≤ tabstop }
-    requires few { tabstop ≤ MAX_TABSTOP }
-    ensures aligns { IfOk result (λ s. flat_splices lines.now s.items ≡ alignments lines.now tabstop (ranges_of lines.now sels.now.list)) }
+    ensures aligns { IfOk result (λ s. flat_splices lines.now s.items ≡ alignments lines.now tabstop.columns (ranges_of lines.now sels.now.list)) }
     ensures splices { IfOk result (λ s. AreSplicesOf lines.now s.items) }
     ensures same_line { IsErrOf result AlignError.SameLine ↔ (shares_line lines.now (ranges_of lines.now sels.now.list) ≡ true) }
     ensures long { IsErrOf result AlignError.TooLong ↔ ((shares_line lines.now (ranges_of lines.now sels.now.list) ≡ false)
-        × (MAX_CHARS < put_together (alignments lines.now tabstop (ranges_of lines.now sels.now.list)))) }
-    ensures fits { OnOk result (put_together (alignments lines.now tabstop (ranges_of lines.now sels.now.list)) ≤ MAX_CHARS) }
+        × (MAX_CHARS < put_together (alignments lines.now tabstop.columns (ranges_of lines.now sels.now.list)))) }
+    ensures fits { OnOk result (put_together (alignments lines.now tabstop.columns (ranges_of lines.now sels.now.list)) ≤ MAX_CHARS) }
 {
     let list = sels.as_slice();
     if share_lines(list) {
@@ -89,12 +87,10 @@ fn columns_of(
     alloc: Global,
     lines: &Lines,
     sels: &[Sel],
-    tabstop: u32,
+    tabstop: Tabstop,
 ) -> Result<Vec<u32>, AllocError>
     requires inside { AreInside lines.now sels.now }
-    requires some { 1 ≤ tabstop }
-    requires few { tabstop ≤ MAX_TABSTOP }
-    ensures { IfOk result (λ c. c.items ≡ map (cursor_column lines.now tabstop) (ranges_of lines.now sels.now)) }
+    ensures { IfOk result (λ c. c.items ≡ map (cursor_column lines.now tabstop.columns) (ranges_of lines.now sels.now)) }
 {
     let mut columns = Vec::with_capacity(alloc, sels.len())?;
     for sel in sels {
@@ -104,22 +100,18 @@ fn columns_of(
 }
 
 // The display column of the cursor of a selection.
-fn column_of(lines: &Lines, sel: Sel, tabstop: u32) -> u32
+fn column_of(lines: &Lines, sel: Sel, tabstop: Tabstop) -> u32
     requires inside { IsInside lines.now sel }
-    requires some { 1 ≤ tabstop }
-    requires few { tabstop ≤ MAX_TABSTOP }
-    ensures { result ≡ cursor_column lines.now tabstop (range_of lines.now sel) }
+    ensures { result ≡ cursor_column lines.now tabstop.columns (range_of lines.now sel) }
 {
     let at = sel.cursor();
     cell_of(lines.line(at.line as usize), at.column as usize, tabstop)
 }
 
 // The greatest display column of a cursor of selections, and 0 where there are none.
-fn greatest_column(lines: &Lines, sels: &[Sel], tabstop: u32) -> u32
+fn greatest_column(lines: &Lines, sels: &[Sel], tabstop: Tabstop) -> u32
     requires inside { AreInside lines.now sels.now }
-    requires some { 1 ≤ tabstop }
-    requires few { tabstop ≤ MAX_TABSTOP }
-    ensures { result ≡ greatest (map (cursor_column lines.now tabstop) (ranges_of lines.now sels.now)) }
+    ensures { result ≡ greatest (map (cursor_column lines.now tabstop.columns) (ranges_of lines.now sels.now)) }
 {
     let mut last = 0;
     for sel in sels {
@@ -130,21 +122,17 @@ fn greatest_column(lines: &Lines, sels: &[Sel], tabstop: u32) -> u32
 }
 
 // How many spaces bring the cursor of a selection to a display column.
-fn lacking_before(lines: &Lines, sel: Sel, tabstop: u32, last: u32) -> usize
+fn lacking_before(lines: &Lines, sel: Sel, tabstop: Tabstop, last: u32) -> usize
     requires inside { IsInside lines.now sel }
-    requires some { 1 ≤ tabstop }
-    requires few { tabstop ≤ MAX_TABSTOP }
-    ensures { result ≡ last - cursor_column lines.now tabstop (range_of lines.now sel) }
+    ensures { result ≡ last - cursor_column lines.now tabstop.columns (range_of lines.now sel) }
 {
     last.saturating_sub(column_of(lines, sel, tabstop)) as usize
 }
 
 // Whether the spaces that bring the cursors of selections to a display column are more characters than a text may have.
-fn lack_too_much(lines: &Lines, sels: &[Sel], tabstop: u32, last: u32) -> bool
+fn lack_too_much(lines: &Lines, sels: &[Sel], tabstop: Tabstop, last: u32) -> bool
     requires inside { AreInside lines.now sels.now }
-    requires some { 1 ≤ tabstop }
-    requires few { tabstop ≤ MAX_TABSTOP }
-    ensures { result ≡ nat_lt MAX_CHARS (lacking last (map (cursor_column lines.now tabstop) (ranges_of lines.now sels.now))) }
+    ensures { result ≡ nat_lt MAX_CHARS (lacking last (map (cursor_column lines.now tabstop.columns) (ranges_of lines.now sels.now))) }
 {
     let mut room = MAX_CHARS;
     for sel in sels {

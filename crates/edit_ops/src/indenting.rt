@@ -17,22 +17,22 @@ use kak_text::{Chars, Coord};
 use line_buffer::Lines;
 use selection_set::Sels;
 use std::alloc::{AllocError, Global};
+use window_view::Tabstop;
 
 /// The replacements that indent the lines that selections touch, from the first to the last, each once; lines of their newline
 /// alone are left out. Lines get `width` spaces, or one tab where it is 0; or they lose the blanks at their start that take
-/// at most `width` columns, or at most `tabstop` columns where it is 0. A tab reaches the next multiple of `tabstop`, and
-/// takes no columns where that is 0. Where a line has no such blanks, its replacement changes nothing. It costs the list, and
-/// for each line that is touched what goes in or out there.
+/// at most `width` columns, or at most those of a tab where it is 0. Where a line has no such blanks, its replacement changes
+/// nothing. It costs the list, and for each line that is touched what goes in or out there.
 pub fn indent(
     alloc: Global,
     lines: &Lines,
     sels: &Sels,
     how: Indent,
     width: u32,
-    tabstop: u32,
+    tabstop: Tabstop,
 ) -> Result<Vec<Splice>, AllocError>
     requires { IsHeld lines.now sels.now }
-    ensures indents { IfOk result (λ s. flat_splices lines.now s.items ≡ indents lines.now how width tabstop (ranges_of lines.now sels.now.list)) }
+    ensures indents { IfOk result (λ s. flat_splices lines.now s.items ≡ indents lines.now how width tabstop.columns (ranges_of lines.now sels.now.list)) }
     ensures splices { IfOk result (λ s. AreSplicesOf lines.now s.items) }
 {
     let numbers = lines_reached(alloc, lines, sels, LineReach::Touched)?;
@@ -59,11 +59,11 @@ fn indent_at(
     lines: &Lines,
     how: Indent,
     width: u32,
-    tabstop: u32,
+    tabstop: Tabstop,
     n: u32,
 ) -> Result<Splice, AllocError>
     requires { n < line_count lines.now }
-    ensures indents { IfOk result (λ s. flat_splice lines.now s ≡ indent_at lines.now how width tabstop n) }
+    ensures indents { IfOk result (λ s. flat_splice lines.now s ≡ indent_at lines.now how width tabstop.columns n) }
     ensures ends { IfOk result (λ s. IsSpliceOf lines.now s) }
 {
     let start = line_start(lines, n);
@@ -82,12 +82,12 @@ fn indent_at(
 }
 
 // The place in a line behind the blanks that it loses.
-fn behind_blanks(lines: &Lines, n: u32, width: u32, tabstop: u32) -> Coord
+fn behind_blanks(lines: &Lines, n: u32, width: u32, tabstop: Tabstop) -> Coord
     requires { n < line_count lines.now }
     ensures place { IsPlaceOrEnd lines.now result }
-    ensures value { result ≡ record { line = n; column = blanks_within tabstop (most_columns width tabstop) 0 (nth_line lines.now n) } }
+    ensures value { result ≡ record { line = n; column = blanks_within tabstop.columns (most_columns width tabstop.columns) 0 (nth_line lines.now n) } }
 {
-    let most = if width == 0 { tabstop } else { width };
+    let most = if width == 0 { tabstop.columns } else { width };
     let column = blanks_within(lines.line(n as usize), tabstop, most);
     Coord {
         line: n,

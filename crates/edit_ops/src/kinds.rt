@@ -1,5 +1,4 @@
-//! What is erased at selections, where characters are put and lines opened, which way texts go, and whether lines get blanks
-//! or lose them.
+//! What is erased at selections, where characters are put, and whether lines get blanks or lose them.
 
 /// What is erased at a selection.
 #[derive(Clone, Copy, PartialEq, Eq, Debug)]
@@ -23,24 +22,6 @@ pub enum Put {
     Over,
     /// Before its cursor.
     BeforeCursor,
-}
-
-/// On which side of a selection a line is opened.
-#[derive(Clone, Copy, PartialEq, Eq, Debug)]
-pub enum Side {
-    /// Below the line of its last character.
-    Below,
-    /// Above the line of its first character.
-    Above,
-}
-
-/// Which way the texts of selections go round.
-#[derive(Clone, Copy, PartialEq, Eq, Debug)]
-pub enum Rotation {
-    /// Each text goes to the selection behind its own, the last one to the first.
-    Forward,
-    /// Each text goes to the selection before its own, the first one to the last.
-    Backward,
 }
 
 /// Whether lines get blanks at their start, or lose them.

@@ -27,7 +27,7 @@ pub use erasing::erase;
 pub use filling::fill;
 pub use indenting::indent;
 pub use joining::join;
-pub use kinds::{Erase, Indent, Put, Rotation, Side};
+pub use kinds::{Erase, Indent, Put};
 pub use leaving::{after, left_list};
 pub use opening::open;
 pub use putting::put;

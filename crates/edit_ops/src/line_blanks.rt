@@ -7,6 +7,7 @@ ghost use Rattle.edit_ops.specs.Blanks.{is_blank, blanks, blanks_within};
 
 use compact_chars::CharsRef;
 use kak_text::{Class, cells, class};
+use window_view::Tabstop;
 
 /// How many blanks a line begins with.
 pub(crate) fn blanks(line: CharsRef<'_>) -> usize
@@ -20,10 +21,9 @@ pub(crate) fn blanks(line: CharsRef<'_>) -> usize
     line.len()
 }
 
-/// How many of the blanks that a line begins with end at a display column or before, where tabs reach the multiples of
-/// `tabstop`.
-pub(crate) fn blanks_within(line: CharsRef<'_>, tabstop: u32, most: u32) -> usize
-    ensures { result ≡ blanks_within tabstop most 0 (chars_of line.entry) }
+/// How many of the blanks that a line begins with end at a display column or before.
+pub(crate) fn blanks_within(line: CharsRef<'_>, tabstop: Tabstop, most: u32) -> usize
+    ensures { result ≡ blanks_within tabstop.columns most 0 (chars_of line.entry) }
 {
     let mut column = 0;
     for i in 0..line.len() {
@@ -46,17 +46,14 @@ fn is_blank(c: char) -> bool
     class(c).is(Class::Blank)
 }
 
-// How many cells a character takes that begins at a display column. Tabs without stops take none.
-fn cells_at(c: char, column: u64, tabstop: u32) -> u64
-    ensures value { result ≡ cells_of c column tabstop }
+// How many cells a character takes that begins at a display column.
+fn cells_at(c: char, column: u64, tabstop: Tabstop) -> u64
+    ensures value { result ≡ cells_of c column tabstop.columns }
     ensures small { result ≤ 2 ^ 32 }
 {
     if c != '\t' {
         return u64::from(cells(c, 0, 1));
     }
-    if tabstop == 0 {
-        return 0;
-    }
-    let stop = u64::from(tabstop);
+    let stop = u64::from(tabstop.columns);
     stop - column % stop
 }

@@ -13,8 +13,8 @@ use Rattle.selection_set.specs.Inside.{range_of, IsInside}
 use Rattle.motion_keys.specs.Extremes.{least_between}
 use Rattle.motion_keys.specs.Landmarks.{line_begin}
 use Rattle.motion_keys.proofs.ExtremeLemmas.{least-here, least-later}
-use Rattle.motion_keys.specs.declared.direction.Direction.{Direction}
-use Rattle.motion_keys.specs.declared.direction.Direction.TheVariants.{Forward, Backward}
+use Rattle.directions.specs.declared.direction.Direction.{Direction}
+use Rattle.directions.specs.declared.direction.Direction.TheVariants.{Forward, Backward}
 use Rattle.list_keys.specs.Copies.{away, is_copy_there, copy_of}
 use Rattle.list_keys.proofs.FoundLemmas.{only-least}
 

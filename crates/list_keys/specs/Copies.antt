@@ -5,8 +5,8 @@ use Rattle.text_model.specs.declared.coords.Coord.{Coord}
 use Rattle.text_model.specs.Texts.{offset, coord_at, nth_line, line_count}
 use Rattle.list_model.specs.Ranges.{Range}
 use Rattle.motion_keys.specs.Extremes.{least_between}
-use Rattle.motion_keys.specs.declared.direction.Direction.{Direction}
-use Rattle.motion_keys.specs.declared.direction.Direction.TheVariants.{Forward, Backward}
+use Rattle.directions.specs.declared.direction.Direction.{Direction}
+use Rattle.directions.specs.declared.direction.Direction.TheVariants.{Forward, Backward}
 
 -- the coordinate so many lines lower (`Forward`) or higher, in the same column
 abbrev pub away : Direction → ℕ → Coord → Coord

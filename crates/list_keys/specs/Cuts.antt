@@ -1,10 +1,15 @@
 -- What is left of a selection of a text, or made of it, by its lines and its characters.
-use Rattle.std.specs.Prelude.{ℕ, ◌+◌, ◌-◌, Bool, not, ◌||◌, ◌==◌, nat_le, if◌then◌else◌, List, [], ◌∷◌, filter, slice_index, None, Some}
+use Rattle.std.specs.Prelude.{◌≡◌, ℕ, ◌+◌, ◌-◌, Bool, not, ◌||◌, ◌==◌, nat_le, if◌then◌else◌, List, [], ◌∷◌, filter, filter_map, slice_index, option_map, None, Some}
 use Rattle.std.specs.List.{range_with_len}
 use Rattle.std.specs.declared.option.Option.{Option}
 use Rattle.kak_text.specs.declared.classes.Class.TheVariants.{Blank, Line}
 use Rattle.kak_text.specs.Classes.{class_of, is_same}
+use Rattle.text_model.specs.declared.coords.Coord.{Coord}
+use Rattle.text_model.specs.Texts.{offset}
 use Rattle.list_model.specs.Ranges.{Range, only}
+use Rattle.selection_set.specs.declared.sel.Sel.{Sel}
+use Rattle.selection_set.specs.Inside.{range_of}
+use Rattle.selection_set.specs.Listing.{ranges_of}
 use Rattle.list_keys.specs.declared.cuts.Cut.{Cut}
 use Rattle.list_keys.specs.declared.cuts.Cut.TheVariants.{WholeLines, Trimmed}
 use Rattle.list_keys.specs.declared.parts.Split.{Split}
@@ -30,9 +35,17 @@ cut_to r (Some low) None = None
 cut_to r (Some low) (Some high) =
     if nat_le low high then Some (record { low = low; high = high; turned = r.turned; target = None }) else None
 
+-- a selection of a text is cut to two places of it
+abbrev pub IsCutTo : List ℕ → Sel → Coord → Coord → Option Sel → Type 0
+IsCutTo text sel low high cut = option_map (range_of text) cut ≡ cut_to (range_of text sel) (Some (offset text low)) (Some (offset text high))
+
+-- the first offset in a selection at which a line begins
+abbrev pub first_start : List ℕ → Range → Option ℕ
+first_start text r = least_between (starts_line text) r.low (r.high + 1)
+
 -- the whole lines inside a selection: from the first offset in it at which a line begins to the last at which one ends
 abbrev pub whole_lines_in : List ℕ → Range → Option Range
-whole_lines_in text r = cut_to r (least_between (starts_line text) r.low (r.high + 1)) (greatest_below (ends_line text) (r.high + 1))
+whole_lines_in text r = cut_to r (first_start text r) (greatest_below (ends_line text) (r.high + 1))
 
 -- a selection without the blanks and the newlines at its ends; none where it has nothing else
 abbrev pub trimmed_range : List ℕ → Range → Option Range
@@ -59,6 +72,10 @@ ends_of r = only r.low ∷ only r.high ∷ []
 abbrev pub cut_by : Cut → List ℕ → Range → Option Range
 cut_by WholeLines text r = whole_lines_in text r
 cut_by Trimmed text r = trimmed_range text r
+
+-- what cuts leave of some selections of a text
+abbrev pub ranges_cut : Cut → List ℕ → List Sel → List Range
+ranges_cut how text sels = filter_map (cut_by how text) (ranges_of text sels)
 
 -- the parts that a selection is cut up into
 abbrev pub split_by : Split → List ℕ → Range → List Range

@@ -1,7 +1,7 @@
 -- Worked examples of the rows, which hold by computation.
 use Rattle.std.specs.Prelude.{◌≡◌, ℕ, true, false, None, Some, [], ◌∷◌, List, codes}
 use Rattle.list_model.specs.Ranges.{Range, Selected, only}
-use Rattle.motion_keys.specs.declared.direction.Direction.TheVariants.{Forward, Backward}
+use Rattle.directions.specs.declared.direction.Direction.TheVariants.{Forward, Backward}
 use Rattle.list_keys.specs.Cuts.{whole_lines_in, trimmed_range, parts_of, ends_of}
 use Rattle.list_keys.specs.Copies.{copy_of}
 use Rattle.list_keys.specs.Rows.{left_of_each, parts_of_each, copied_each, main_alone, without_main, main_turned, whole_text}

@@ -1,12 +1,13 @@
 -- The rows of the keys that change a list of selections as a whole.
-use Rattle.std.specs.Prelude.{ℕ, ◌+◌, ◌-◌, false, ◌==◌, if◌then◌else◌, List, [], ◌∷◌, ◌++◌, length, take, drop, filter_map, flat_map, is_some, None, Some}
+use Rattle.std.specs.Prelude.{◌≡◌, ℕ, ◌+◌, ◌-◌, false, ◌==◌, if◌then◌else◌, List, [], ◌∷◌, ◌++◌, length, take, drop, filter_map, flat_map, is_some, option_map, None, Some}
 use Rattle.std.specs.declared.option.Option.{Option}
 use Rattle.text_model.specs.Texts.{last_place}
 use Rattle.list_model.specs.Ranges.{Range, Selected}
 use Rattle.list_model.specs.Settling.{settled}
-use Rattle.selection_set.specs.Held.{main_of}
-use Rattle.motion_keys.specs.declared.direction.Direction.{Direction}
-use Rattle.motion_keys.specs.declared.direction.Direction.TheVariants.{Forward, Backward}
+use Rattle.selection_set.specs.Listing.{Listed}
+use Rattle.selection_set.specs.Held.{selected, main_of}
+use Rattle.directions.specs.declared.direction.Direction.{Direction}
+use Rattle.directions.specs.declared.direction.Direction.TheVariants.{Forward, Backward}
 
 -- the settled list of some selections; none where there are none
 abbrev pub settled_some : List Range → ℕ → Option Selected
@@ -36,6 +37,10 @@ main_copied copy s = if is_some (copy (main_of s)) then length s.list + length (
 -- the list with the copies of its selections
 abbrev pub copied_each : (Range → Option Range) → Selected → Selected
 copied_each copy s = settled (record { list = with_copies copy s; main = main_copied copy s })
+
+-- there is a list, and it selects this of a text
+abbrev pub Selects : List ℕ → Selected → Option Listed → Type 0
+Selects text s found = option_map (selected text) found ≡ Some s
 
 -- the main selection alone
 abbrev pub main_alone : Selected → Selected

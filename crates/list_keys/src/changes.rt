@@ -11,8 +11,8 @@ use crate::dropping::cut_each;
 use crate::main_selection::{main_alone, whole_text, without_main};
 use crate::parts::Split;
 use crate::splitting::split_each;
+use directions::Direction;
 use line_buffer::Lines;
-use motion_keys::Direction;
 use selection_set::{Sels, SelsError};
 use std::alloc::Global;
 

@@ -6,9 +6,9 @@ ghost use Rattle.text_model.specs.Texts.{nth_line, line_count};
 ghost use Rattle.selection_set.specs.Inside.{range_of, IsInside};
 ghost use Rattle.list_keys.specs.Copies.{away, copy_of};
 
+use directions::Direction;
 use kak_text::Coord;
 use line_buffer::Lines;
-use motion_keys::Direction;
 use selection_set::Sel;
 
 // The coordinate so many lines lower, or higher, in the same column.

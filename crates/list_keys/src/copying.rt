@@ -5,11 +5,11 @@ ghost use Rattle.text_model.specs.declared.TheConstants.{MAX_SELECTIONS};
 ghost use Rattle.selection_set.specs.Listing.{AreInside, ranges_of};
 ghost use Rattle.selection_set.specs.Held.{selected, IsHeld};
 ghost use Rattle.list_keys.specs.Copies.{copy_of};
-ghost use Rattle.list_keys.specs.Rows.{with_copies, main_copied, copied_each};
+ghost use Rattle.list_keys.specs.Rows.{with_copies, main_copied, copied_each, Selects};
 
 use crate::copies::copy;
+use directions::Direction;
 use line_buffer::Lines;
-use motion_keys::Direction;
 use selection_set::{Sel, Sels, SelsError};
 use smallvec::SmallVec;
 use std::alloc::{AllocError, Global};
@@ -117,7 +117,7 @@ pub(crate) fn copied(
 ) -> Result<Option<Sels>, SelsError>
     requires { IsHeld lines.now sels.now }
     ensures held { IfOk result (λ found. IfSome found (λ s. IsHeld lines.now s)) }
-    ensures copies { IfOk result (λ found. option_map (selected lines.now) found ≡ Some (copied_each (copy_of direction lines.now) (selected lines.now sels.now))) }
+    ensures copies { IfOk result (Selects lines.now (copied_each (copy_of direction lines.now) (selected lines.now sels.now))) }
     ensures too_many { IsErrOf result SelsError.TooMany ↔ (MAX_SELECTIONS < length (with_copies (copy_of direction lines.now) (selected lines.now sels.now))) }
     ensures few { length (with_copies (copy_of direction lines.now) (selected lines.now sels.now)) ≤ 4 → IsOk result }
 {

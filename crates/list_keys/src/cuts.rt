@@ -5,11 +5,12 @@ ghost use Rattle.text_model.specs.Texts.{IsText, IsStored, IsPlace, offset};
 ghost use Rattle.selection_set.specs.Inside.{range_of, IsInside};
 ghost use Rattle.motion_keys.specs.Extremes.{least_between, greatest_below};
 ghost use Rattle.motion_keys.specs.Places.{OffsetsAre};
-ghost use Rattle.list_keys.specs.Cuts.{ends_line, starts_line, is_solid, cut_to, whole_lines_in, trimmed_range, cut_by};
+ghost use Rattle.list_keys.specs.Cuts.{ends_line, starts_line, is_solid, first_start, IsCutTo, whole_lines_in, trimmed_range, cut_by};
 
+use directions::Direction;
 use kak_text::{Class, Coord, class};
 use line_buffer::Lines;
-use motion_keys::{Direction, Test, nearest};
+use motion_keys::{Test, nearest};
 use selection_set::Sel;
 
 /// What each selection is cut to.
@@ -59,7 +60,7 @@ fn solid_to(lines: &Lines, upto: Coord) -> Option<Coord>
 
 // The first place of a selection at which a line begins.
 fn start_in(sel: Sel) -> Option<Coord>
-    ensures { (text : List ℕ) → IsText text → IsInside text sel → OffsetsAre text result (least_between (starts_line text) (offset text sel.low) (offset text sel.high + 1)) }
+    ensures { (text : List ℕ) → IsText text → IsInside text sel → OffsetsAre text result (first_start text (range_of text sel)) }
 {
     if sel.low.column == 0 {
         return Some(sel.low);
@@ -92,7 +93,7 @@ fn end_to(lines: &Lines, upto: Coord) -> Option<Coord>
 // A selection cut to two ends, with its flag and without a target; none where they are out of order.
 fn cut_to(sel: Sel, low: Coord, high: Coord) -> Option<Sel>
     ensures inside { (text : List ℕ) → IsPlace text low → IsPlace text high → IfSome result (λ s. IsInside text s) }
-    ensures cuts { (text : List ℕ) → IsPlace text low → IsPlace text high → option_map (range_of text) result ≡ cut_to (range_of text sel) (Some (offset text low)) (Some (offset text high)) }
+    ensures cuts { (text : List ℕ) → IsPlace text low → IsPlace text high → IsCutTo text sel low high result }
 {
     if !low.is_at_most(high) {
         return None;

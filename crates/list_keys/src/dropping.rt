@@ -4,7 +4,7 @@ ghost use Rattle.std.specs.Prelude.{◌≡◌, ◌+◌, ◌<◌, ◌≤◌, ◌�
 ghost use Rattle.text_model.specs.declared.TheConstants.{MAX_SELECTIONS};
 ghost use Rattle.selection_set.specs.Listing.{AreInside, ranges_of};
 ghost use Rattle.selection_set.specs.Held.{selected, IsHeld};
-ghost use Rattle.list_keys.specs.Cuts.{cut_by};
+ghost use Rattle.list_keys.specs.Cuts.{cut_by, ranges_cut};
 ghost use Rattle.list_keys.specs.Rows.{left_of_each, main_left};
 
 use crate::cuts::{Cut, cut_sel};
@@ -30,7 +30,7 @@ fn push_cuts(lines: &Lines, sels: &[Sel], how: Cut, list: &mut SmallVec<Sel, 4>)
     requires listed { AreInside lines.now list.old.items }
     requires room { length list.old.items + length sels.now ≤ list.old.capacity }
     ensures inside { AreInside lines.now list.new.items }
-    ensures ranges { ranges_of lines.now list.new.items ≡ ranges_of lines.now list.old.items ++ filter_map (cut_by how lines.now) (ranges_of lines.now sels.now) }
+    ensures ranges { ranges_of lines.now list.new.items ≡ ranges_of lines.now list.old.items ++ ranges_cut how lines.now sels.now }
     ensures count { length list.new.items ≤ length list.old.items + length sels.now }
     ensures capacity { list.new.capacity ≡ list.old.capacity }
 {

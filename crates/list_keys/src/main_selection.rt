@@ -5,8 +5,8 @@ ghost use Rattle.text_model.specs.declared.TheConstants.{MAX_SELECTIONS};
 ghost use Rattle.selection_set.specs.Held.{selected, IsHeld};
 ghost use Rattle.list_keys.specs.Rows.{main_alone, without_main, place_beside, whole_text};
 
+use directions::Direction;
 use line_buffer::Lines;
-use motion_keys::Direction;
 use selection_set::{Sel, Sels, SelsError};
 use smallvec::SmallVec;
 use std::alloc::{AllocError, Global};

@@ -5,7 +5,7 @@ ghost use Rattle.text_model.specs.declared.TheConstants.{MAX_SELECTIONS};
 ghost use Rattle.selection_set.specs.Listing.{AreInside, ranges_of};
 ghost use Rattle.selection_set.specs.Held.{selected, IsHeld};
 ghost use Rattle.list_keys.specs.Cuts.{split_by};
-ghost use Rattle.list_keys.specs.Rows.{parts_of_each};
+ghost use Rattle.list_keys.specs.Rows.{parts_of_each, Selects};
 
 use crate::parts::{Split, part_count, push_parts};
 use line_buffer::Lines;
@@ -65,7 +65,7 @@ pub(crate) fn split_each(
 ) -> Result<Option<Sels>, SelsError>
     requires { IsHeld lines.now sels.now }
     ensures held { IfOk result (λ found. IfSome found (λ s. IsHeld lines.now s)) }
-    ensures divides { IfOk result (λ found. option_map (selected lines.now) found ≡ Some (parts_of_each (split_by how lines.now) (selected lines.now sels.now))) }
+    ensures divides { IfOk result (Selects lines.now (parts_of_each (split_by how lines.now) (selected lines.now sels.now))) }
     ensures too_many { IsErrOf result SelsError.TooMany ↔ (MAX_SELECTIONS < length (flat_map (split_by how lines.now) (selected lines.now sels.now).list)) }
     ensures few { length (flat_map (split_by how lines.now) (selected lines.now sels.now).list) ≤ 4 → IsOk result }
 {

@@ -10,7 +10,7 @@ use Rattle.text_model.proofs.CoordLemmas.{test_cases}
 use Rattle.kak_text.specs.declared.classes.Class.{Class}
 use Rattle.kak_text.specs.declared.classes.Class.TheVariants.{Line, Blank, Word, Mark}
 use Rattle.kak_text.specs.Classes.{is_same}
-use Rattle.motion_keys.specs.declared.direction.Direction.TheVariants.{Forward, Backward}
+use Rattle.directions.specs.declared.direction.Direction.TheVariants.{Forward, Backward}
 use Rattle.motion_keys.specs.declared.words.WordKind.{WordKind}
 use Rattle.motion_keys.specs.declared.words.WordKind.TheVariants.{Small, Big}
 use Rattle.motion_keys.specs.Motions.{offset_beside}

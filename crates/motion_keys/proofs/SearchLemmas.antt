@@ -4,7 +4,7 @@ use Rattle.std.specs.Prelude.{IsNone, IfSome, option_map}
 use Rattle.text_model.specs.declared.coords.Coord.{Coord}
 use Rattle.text_model.specs.Texts.{offset, IsPlace, last_place}
 use Rattle.text_model.proofs.PlaceLemmas.{offset-below}
-use Rattle.motion_keys.specs.declared.direction.Direction.TheVariants.{Forward, Backward}
+use Rattle.directions.specs.declared.direction.Direction.TheVariants.{Forward, Backward}
 use Rattle.motion_keys.specs.declared.char_moves.Until.TheVariants.{Before}
 use Rattle.motion_keys.specs.Extremes.{least_between, IsLeastOrNone, IsGreatestOrNone}
 use Rattle.motion_keys.specs.Places.{OffsetsAre}

@@ -6,7 +6,7 @@ use Rattle.std.proofs.lemmas.Bool.{lt-ltb, le-ltb}
 use Rattle.text_model.specs.declared.coords.Coord.{Coord}
 use Rattle.text_model.specs.Texts.{offset, IsPlace, last_place}
 use Rattle.text_model.proofs.PlaceLemmas.{offset-below}
-use Rattle.motion_keys.specs.declared.direction.Direction.TheVariants.{Forward}
+use Rattle.directions.specs.declared.direction.Direction.TheVariants.{Forward}
 use Rattle.motion_keys.specs.Motions.{offset_beside}
 use Rattle.motion_keys.specs.Places.{OffsetsAre}
 

@@ -1,8 +1,8 @@
 -- The nearest offset on a way, step by step.
 use Rattle.std.proofs.Common.{◌≡◌, ℕ, ◌+◌, ◌-◌, ◌<◌, ◌≤◌, Bool, true, false, cond, eqb, List, length, slice_index, None, Some, sym, ap, ◌∙◌, arith, inl, inr, lt-ltb, le-ltb}
 use Rattle.std.proofs.lemmas.Bool.{cases_lt}
-use Rattle.motion_keys.specs.declared.direction.Direction.{Direction}
-use Rattle.motion_keys.specs.declared.direction.Direction.TheVariants.{Forward, Backward}
+use Rattle.directions.specs.declared.direction.Direction.{Direction}
+use Rattle.directions.specs.declared.direction.Direction.TheVariants.{Forward, Backward}
 use Rattle.motion_keys.specs.Motions.{offset_beside}
 use Rattle.motion_keys.specs.Extremes.{least_between, greatest_below}
 use Rattle.motion_keys.specs.Nearest.{least_from, greatest_to}
@@ -55,22 +55,22 @@ abbrev pub remaining : Direction → List ℕ → ℕ → ℕ
 remaining Forward text o = length text - o
 remaining Backward text o = o
 
-pub near-smaller : (way : Direction) (text : List ℕ) (o n : ℕ) → o < length text → offset_beside text o way ≡ Some n → remaining way text n < remaining way text o
+pub near-smaller : (direction : Direction) (text : List ℕ) (o n : ℕ) → o < length text → offset_beside text o direction ≡ Some n → remaining direction text n < remaining direction text o
 near-smaller Forward text o n l e = omega (arith, l, (ahead-some text o n e).0)
 near-smaller Backward text o n l e = omega (arith, back-some text o n e)
 
 -- a search that passes where it is ends there
-pub near-here : (way : Direction) (test : ℕ → Bool) (text : List ℕ) (o : ℕ) → o < length text → test (slice_index text o) ≡ true → nearest way test text o ≡ Some o
+pub near-here : (direction : Direction) (test : ℕ → Bool) (text : List ℕ) (o : ℕ) → o < length text → test (slice_index text o) ≡ true → nearest direction test text o ≡ Some o
 near-here Forward test text o l e = least_here test text o l e
 near-here Backward test text o l e = greatest_here test text o e
 
 -- one that fails goes on beside
-pub near-on : (way : Direction) (test : ℕ → Bool) (text : List ℕ) (o n : ℕ) → o < length text → offset_beside text o way ≡ Some n → test (slice_index text o) ≡ false → nearest way test text n ≡ nearest way test text o
+pub near-on : (direction : Direction) (test : ℕ → Bool) (text : List ℕ) (o n : ℕ) → o < length text → offset_beside text o direction ≡ Some n → test (slice_index text o) ≡ false → nearest direction test text n ≡ nearest direction test text o
 near-on Forward test text o n l e f = least_later test text o n l (ahead-some text o n e).0 f
 near-on Backward test text o n l e f = greatest_lower test text o n (back-some text o n e) f
 
 -- where there is nothing beside, it finds nothing
-pub near-none : (way : Direction) (test : ℕ → Bool) (text : List ℕ) (o : ℕ) → o < length text → offset_beside text o way ≡ None → test (slice_index text o) ≡ false → nearest way test text o ≡ None
+pub near-none : (direction : Direction) (test : ℕ → Bool) (text : List ℕ) (o : ℕ) → o < length text → offset_beside text o direction ≡ None → test (slice_index text o) ≡ false → nearest direction test text o ≡ None
 near-none Forward test text o l e f = (let last : o + 1 ≡ length text = omega (arith, l, ahead-none text o e) in least_none test text o last f)
 near-none Backward test text o l e f = greatest_none test text o (back-none text o e) f
 

@@ -1,7 +1,7 @@
 -- Worked examples of steps, which hold by computation.
 use Rattle.std.specs.Prelude.{◌≡◌, ℕ, true, None, Some, codes}
 use Rattle.list_model.specs.Ranges.{Range, only}
-use Rattle.motion_keys.specs.declared.direction.Direction.TheVariants.{Forward, Backward}
+use Rattle.directions.specs.declared.direction.Direction.TheVariants.{Forward, Backward}
 use Rattle.motion_keys.specs.Motions.{stepped}
 
 -- a turned selection

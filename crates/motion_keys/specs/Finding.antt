@@ -6,8 +6,8 @@ use Rattle.selection_set.specs.declared.sel.Sel.{Sel}
 use Rattle.selection_set.specs.Inside.{range_of, IsInside}
 use Rattle.selection_set.specs.Listing.{range_between}
 use Rattle.window_view.specs.View.{View}
-use Rattle.motion_keys.specs.declared.direction.Direction.{Direction}
-use Rattle.motion_keys.specs.declared.direction.Direction.TheVariants.{Forward, Backward}
+use Rattle.directions.specs.declared.direction.Direction.{Direction}
+use Rattle.directions.specs.declared.direction.Direction.TheVariants.{Forward, Backward}
 use Rattle.motion_keys.specs.declared.finding.Motion.{Motion}
 use Rattle.motion_keys.specs.declared.finding.Motion.TheVariants.{Step, Line, Page, Word, Character, To, Along, Bracket}
 use Rattle.motion_keys.specs.declared.finding.Reach.{Reach}

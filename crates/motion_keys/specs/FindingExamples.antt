@@ -1,7 +1,7 @@
 -- Worked examples of what becomes of a selection by a motion, which hold by computation.
 use Rattle.std.specs.Prelude.{◌≡◌, ℕ, true, false, None, Some, codes}
 use Rattle.list_model.specs.Ranges.{Range, only}
-use Rattle.motion_keys.specs.declared.direction.Direction.TheVariants.{Forward, Backward}
+use Rattle.directions.specs.declared.direction.Direction.TheVariants.{Forward, Backward}
 use Rattle.motion_keys.specs.declared.landmarks.LinePart.TheVariants.{ToStart}
 use Rattle.motion_keys.specs.declared.landmarks.Place.TheVariants.{LastLine}
 use Rattle.motion_keys.specs.declared.finding.Motion.TheVariants.{Step, Line, Page, Character, To, Along, Bracket}

@@ -5,12 +5,12 @@ use Rattle.list_model.specs.Ranges.{Range, cursor}
 use Rattle.selection_set.specs.declared.sel.Pair.{Pair}
 use Rattle.selection_set.specs.Listing.{range_between, range_of_pair, IsPairInside}
 use Rattle.motion_keys.specs.declared.bracket_kinds.Bracket.{Bracket}
-use Rattle.motion_keys.specs.declared.direction.Direction.{Direction}
-use Rattle.motion_keys.specs.declared.direction.Direction.TheVariants.{Forward, Backward}
+use Rattle.directions.specs.declared.direction.Direction.{Direction}
+use Rattle.directions.specs.declared.direction.Direction.TheVariants.{Forward, Backward}
 use Rattle.motion_keys.specs.declared.char_moves.CharSearch.{CharSearch}
 use Rattle.motion_keys.specs.declared.char_moves.Until.{Until}
 use Rattle.motion_keys.specs.declared.char_moves.Until.TheVariants.{On, Before}
-use Rattle.motion_keys.specs.Motions.{direction_of}
+use Rattle.directions.specs.Directions.{direction_of}
 use Rattle.motion_keys.specs.Extremes.{least_between, greatest_below}
 use Rattle.motion_keys.specs.Landmarks.{line_begin, line_of}
 

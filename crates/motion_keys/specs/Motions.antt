@@ -6,14 +6,9 @@ use Rattle.text_model.specs.Texts.{offset, coord_at, nth_line, line_count}
 use Rattle.list_model.specs.Ranges.{Range, cursor}
 use Rattle.kak_text.specs.Cells.{display_column}
 use Rattle.window_view.specs.Holding.{HoldsCell}
-use Rattle.motion_keys.specs.declared.direction.Direction.{Direction}
-use Rattle.motion_keys.specs.declared.direction.Direction.TheVariants.{Forward, Backward}
+use Rattle.directions.specs.declared.direction.Direction.{Direction}
+use Rattle.directions.specs.declared.direction.Direction.TheVariants.{Forward, Backward}
 use Rattle.motion_keys.specs.Extremes.{least_between}
-
--- the way further on, or else the way further up
-abbrev pub direction_of : Bool → Direction
-direction_of true = Forward
-direction_of false = Backward
 
 -- the offset after an offset of a text, or before it
 abbrev pub offset_beside : List ℕ → ℕ → Direction → Option ℕ

@@ -3,8 +3,8 @@ use Rattle.std.specs.Prelude.{ℕ, ◌==◌, ◌||◌, Bool, not, List}
 use Rattle.std.specs.declared.option.Option.{Option}
 use Rattle.kak_text.specs.declared.classes.Class.TheVariants.{Blank, Line}
 use Rattle.kak_text.specs.Classes.{class_of, is_same}
-use Rattle.motion_keys.specs.declared.direction.Direction.{Direction}
-use Rattle.motion_keys.specs.declared.direction.Direction.TheVariants.{Forward, Backward}
+use Rattle.directions.specs.declared.direction.Direction.{Direction}
+use Rattle.directions.specs.declared.direction.Direction.TheVariants.{Forward, Backward}
 use Rattle.motion_keys.specs.declared.searching.Test.{Test}
 use Rattle.motion_keys.specs.declared.searching.Test.TheVariants.{Other, Solid, Is}
 use Rattle.motion_keys.specs.Nearest.{least_from, greatest_to}

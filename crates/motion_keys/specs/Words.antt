@@ -7,7 +7,7 @@ use Rattle.kak_text.specs.declared.classes.Class.{Class}
 use Rattle.kak_text.specs.declared.classes.Class.TheVariants.{Line, Blank}
 use Rattle.kak_text.specs.Classes.{class_of, wide, is_same}
 use Rattle.selection_set.specs.declared.sel.Pair.{Pair}
-use Rattle.motion_keys.specs.declared.direction.Direction.TheVariants.{Forward, Backward}
+use Rattle.directions.specs.declared.direction.Direction.TheVariants.{Forward, Backward}
 use Rattle.motion_keys.specs.declared.words.WordKind.{WordKind}
 use Rattle.motion_keys.specs.declared.words.WordKind.TheVariants.{Small, Big}
 use Rattle.motion_keys.specs.declared.words.WordMove.{WordMove}

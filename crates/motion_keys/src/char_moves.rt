@@ -6,8 +6,8 @@ ghost use Rattle.selection_set.specs.Inside.{range_of, IsInside};
 ghost use Rattle.motion_keys.specs.Places.{OffsetsAre};
 ghost use Rattle.motion_keys.specs.Jumps.{next_with, last_with, char_place, search_of, to_char, RangesAre};
 
-use crate::direction::Direction;
 use crate::searching::{Test, beside_place, nearest};
+use directions::Direction;
 use kak_text::Coord;
 use line_buffer::Lines;
 use selection_set::{Pair, Sel};

@@ -11,16 +11,16 @@ ghost use Rattle.motion_keys.specs.Finding.{lines_along, found, reached, moved, 
 
 use crate::bracket_moves::bracket;
 use crate::char_moves::{CharSearch, char_between};
-use crate::direction::Direction;
 use crate::landmarks::{LinePart, Place};
 use crate::moves::vertical;
 use crate::place_moves::{find_place, part_between};
 use crate::searching::beside_place;
 use crate::words::{WordKind, WordMove, word_between};
-use kak_text::{Coord, MAX_TABSTOP};
+use directions::Direction;
+use kak_text::Coord;
 use line_buffer::Lines;
 use selection_set::{Pair, Sel};
-use window_view::Window;
+use window_view::{Tabstop, Window};
 
 /// Where a motion leads from a selection.
 #[derive(Clone, Copy, PartialEq, Eq, Debug)]
@@ -84,11 +84,15 @@ fn lines_along(direction: Direction, count: u16) -> i64
 
 /// What a motion selects from a selection, for a window and a tab stop at each so many columns; None exactly where it
 /// finds no place. It costs the text that it passes over.
-pub fn find(lines: &Lines, window: &Window, tabstop: u32, sel: Sel, motion: Motion) -> Option<Sel>
+pub fn find(
+    lines: &Lines,
+    window: &Window,
+    tabstop: Tabstop,
+    sel: Sel,
+    motion: Motion,
+) -> Option<Sel>
     requires inside { IsInside lines.now sel }
-    requires some { 1 ≤ tabstop }
-    requires few { tabstop ≤ MAX_TABSTOP }
-    ensures finds { IsFound lines.now result (found motion (window_seen window.now) tabstop lines.now (range_of lines.now sel)) }
+    ensures finds { IsFound lines.now result (found motion (window_seen window.now) tabstop.columns lines.now (range_of lines.now sel)) }
 {
     match motion {
         Motion::Step(direction) => alone(beside_place(lines, sel.cursor(), direction)),
@@ -126,16 +130,14 @@ fn reached(sel: Sel, target: Sel, reach: Reach) -> Sel
 pub fn moved(
     lines: &Lines,
     window: &Window,
-    tabstop: u32,
+    tabstop: Tabstop,
     sel: Sel,
     motion: Motion,
     reach: Reach,
 ) -> Sel
     requires inside { IsInside lines.now sel }
-    requires some { 1 ≤ tabstop }
-    requires few { tabstop ≤ MAX_TABSTOP }
     ensures inside { IsInside lines.now result }
-    ensures moves { range_of lines.now result ≡ moved motion reach (window_seen window.now) tabstop lines.now (range_of lines.now sel) }
+    ensures moves { range_of lines.now result ≡ moved motion reach (window_seen window.now) tabstop.columns lines.now (range_of lines.now sel) }
 {
     match find(lines, window, tabstop, sel, motion) {
         Some(target) => reached(sel, target, reach),

@@ -4,7 +4,6 @@
 mod bracket_kinds;
 pub mod bracket_moves;
 pub mod char_moves;
-pub mod direction;
 pub mod finding;
 pub mod jump_laws;
 pub mod landmarks;
@@ -17,7 +16,6 @@ pub mod words;
 
 pub use bracket_moves::bracket;
 pub use char_moves::{CharSearch, Until, to_char};
-pub use direction::Direction;
 pub use finding::{Motion, Reach, find, moved};
 pub use landmarks::{LinePart, Place};
 pub use moves::{step, vertical};

@@ -4,16 +4,17 @@ ghost use Rattle.std.specs.Prelude.{◌≡◌, ◌<◌, ◌≤◌, None, Some, I
 ghost use Rattle.text_model.specs.Texts.{line_count, offset, IsPlace};
 ghost use Rattle.selection_set.specs.Inside.{range_of, IsInside};
 ghost use Rattle.compact_chars.specs.Rows.{chars_of};
-ghost use Rattle.motion_keys.specs.Motions.{line_by, landing, aim, landed, vertical, direction_of, stepped};
+ghost use Rattle.directions.specs.Directions.{direction_of};
+ghost use Rattle.motion_keys.specs.Motions.{line_by, landing, aim, landed, vertical, stepped};
 ghost use Rattle.motion_keys.specs.Places.{OffsetsAre};
 
-use crate::direction::Direction;
 use crate::searching::beside_place;
 use compact_chars::CharsRef;
-use kak_text::{Coord, MAX_CHARS, MAX_TABSTOP};
+use directions::Direction;
+use kak_text::{Coord, MAX_CHARS};
 use line_buffer::Lines;
 use selection_set::{Pair, Sel};
-use window_view::{cell_of, offset_at};
+use window_view::{Tabstop, cell_of, offset_at};
 
 /// The character after the cursor, or before it. None at the end of the text, or at its start.
 pub fn step(lines: &Lines, sel: &Sel, forward: bool) -> Option<Pair>
@@ -56,11 +57,9 @@ fn line_by(count: usize, line: u32, by: i64) -> Option<u32>
 }
 
 // The display column that a vertical move aims at.
-fn aim(lines: &Lines, sel: &Sel, tabstop: u32) -> u32
+fn aim(lines: &Lines, sel: &Sel, tabstop: Tabstop) -> u32
     requires inside { IsInside lines.now sel.now }
-    requires some { 1 ≤ tabstop }
-    requires few { tabstop ≤ MAX_TABSTOP }
-    ensures { result ≡ aim lines.now (range_of lines.now sel.now) tabstop }
+    ensures { result ≡ aim lines.now (range_of lines.now sel.now) tabstop.columns }
 {
     match sel.target {
         Some(target) => target,
@@ -72,12 +71,10 @@ fn aim(lines: &Lines, sel: &Sel, tabstop: u32) -> u32
 }
 
 // The column of a line at which a vertical move arrives.
-fn landing_column(line: CharsRef<'_>, target: u32, tabstop: u32) -> usize
+fn landing_column(line: CharsRef<'_>, target: u32, tabstop: Tabstop) -> usize
     requires line { 0 < length (chars_of line) }
     requires short { length (chars_of line) ≤ MAX_CHARS }
-    requires some { 1 ≤ tabstop }
-    requires few { tabstop ≤ MAX_TABSTOP }
-    ensures gives { result ≡ landing (chars_of line.entry) target tabstop }
+    ensures gives { result ≡ landing (chars_of line.entry) target tabstop.columns }
     ensures inside { result < length (chars_of line.entry) }
 {
     match offset_at(line, target, tabstop) {
@@ -87,12 +84,10 @@ fn landing_column(line: CharsRef<'_>, target: u32, tabstop: u32) -> usize
 }
 
 // The character of a line at which a vertical move arrives, with the target.
-fn land(lines: &Lines, target: u32, line: u32, tabstop: u32) -> Sel
+fn land(lines: &Lines, target: u32, line: u32, tabstop: Tabstop) -> Sel
     requires there { line < line_count lines.now }
-    requires some { 1 ≤ tabstop }
-    requires few { tabstop ≤ MAX_TABSTOP }
     ensures inside { IsInside lines.now result }
-    ensures lands { range_of lines.now result ≡ landed lines.now target tabstop line }
+    ensures lands { range_of lines.now result ≡ landed lines.now target tabstop.columns line }
 {
     let column = landing_column(lines.line(line as usize), target, tabstop) as u32;
     let place = Coord { line, column };
@@ -109,12 +104,10 @@ fn land(lines: &Lines, target: u32, line: u32, tabstop: u32) -> Sel
 /// else the display column of the cursor, with a tab stop at each `tabstop` columns. Beyond the line, it is the last
 /// character before the newline, or the newline of an empty line. None from the last line down, and from the first line
 /// up.
-pub fn vertical(lines: &Lines, sel: &Sel, by: i64, tabstop: u32) -> Option<Sel>
+pub fn vertical(lines: &Lines, sel: &Sel, by: i64, tabstop: Tabstop) -> Option<Sel>
     requires inside { IsInside lines.now sel.now }
-    requires some { 1 ≤ tabstop }
-    requires few { tabstop ≤ MAX_TABSTOP }
-    ensures none { IsNone result → vertical lines.now (range_of lines.now sel.now) by tabstop ≡ None }
-    ensures some { IfSome result (λ s. vertical lines.now (range_of lines.now sel.now) by tabstop ≡ Some (range_of lines.now s)) }
+    ensures none { IsNone result → vertical lines.now (range_of lines.now sel.now) by tabstop.columns ≡ None }
+    ensures some { IfSome result (λ s. vertical lines.now (range_of lines.now sel.now) by tabstop.columns ≡ Some (range_of lines.now s)) }
     ensures inside { IfSome result (λ s. IsInside lines.now s) }
 {
     let target = aim(lines, sel, tabstop);

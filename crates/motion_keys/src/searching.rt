@@ -7,8 +7,8 @@ ghost use Rattle.motion_keys.specs.Places.{OffsetsAre};
 ghost use Rattle.motion_keys.specs.Words.{class_for};
 ghost use Rattle.motion_keys.specs.Searching.{passes, nearest};
 
-use crate::direction::Direction;
 use crate::words::WordKind;
+use directions::Direction;
 use kak_text::{Class, Coord, class};
 use line_buffer::Lines;
 

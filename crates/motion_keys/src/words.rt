@@ -9,8 +9,8 @@ ghost use Rattle.motion_keys.specs.Nearest.{least_from, greatest_to};
 ghost use Rattle.motion_keys.specs.Words.{class_at, is_other, begin_ahead, behind_run, run_last, behind_word, last_before_next, last_of_word, begin_back, run_first, start_of_word, first_of_word, word_kind, word_ends, EndsAre};
 ghost use Rattle.motion_keys.specs.declared.words.WordMove.TheVariants.{Next, End, Back};
 
-use crate::direction::Direction;
 use crate::searching::{Test, beside_place, class_for, nearest};
+use directions::Direction;
 use kak_text::{Class, Coord};
 use line_buffer::Lines;
 use selection_set::{Pair, Sel};

@@ -18,7 +18,7 @@ use Rattle.regex_ports.specs.declared.pattern.Span.{Span}
 use Rattle.regex_ports.specs.Grouping.{group_spans, grouped_by, spans_of}
 use Rattle.regex_ports.specs.Matching.{span_of, found_by}
 
-range-first : (n count : ℕ) → n < count → range_with_len n (count - n) ≡ n ∷ range_with_len (n + 1) (count - (n + 1))
+pub range-first : (n count : ℕ) → n < count → range_with_len n (count - n) ≡ n ∷ range_with_len (n + 1) (count - (n + 1))
 range-first n count lt =
     let more : count - n ≡ suc (count - (n + 1)) = omega (arith, lt) in
     ap (range_with_len n) more
@@ -40,7 +40,7 @@ same-places f g a (suc n) h =
     ap₂ ◌∷◌ (h a (omega arith) (omega arith)) (same-places f g (a + 1) n (λ k low high. h k (omega (arith, low)) (omega (arith, high))))
 
 -- what was written of a match is what its groups span
-read-groups : (l : CaptureLocations) (m : Match) (count : ℕ) (found : ℕ × ℕ) → location_count l ≡ count → found ≡ span m → ((n : ℕ) → 1 ≤ n → n < location_count l → location l n ≡ group_of m n) →
+pub read-groups : (l : CaptureLocations) (m : Match) (count : ℕ) (found : ℕ × ℕ) → location_count l ≡ count → found ≡ span m → ((n : ℕ) → 1 ≤ n → n < location_count l → location l n ≡ group_of m n) →
     Some (span_of found) ∷ map (λ n. option_map span_of (location l n)) (range_with_len 1 (location_count l - 1)) ≡ group_spans count m
 read-groups l m count found counted spans rest =
     ap₂ (λ p ns. Some (span_of p) ∷ ns) spans

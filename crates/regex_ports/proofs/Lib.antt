@@ -3,3 +3,5 @@ pub mod SpanLemmas
 pub mod GroupLemmas
 pub mod SeriesLemmas
 pub mod SeekLemmas
+pub mod CharLemmas
+pub mod SearchLemmas

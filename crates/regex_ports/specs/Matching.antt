@@ -1,5 +1,5 @@
 -- What a pattern finds in a text.
-use Rattle.std.specs.Prelude.{ℕ, Bool, true, false, List, [], ◌∷◌, map, Option, Some, None}
+use Rattle.std.specs.Prelude.{ℕ, suc, ◌-◌, ◌==◌, if◌then◌else◌, Bool, true, false, List, [], ◌∷◌, length, map, Option, Some, None, encode_utf8}
 use Rattle.std.specs.Str.{chars}
 use Rattle.regex.specs.Patterns.{Re, Config, default_config, find_all_str, span}
 use Rattle.regex_syntax.specs.Brackets.{Nested}
@@ -31,3 +31,8 @@ is_some_span (s ∷ ss) = true
 -- whether the pattern that a text is has a match in another one, an empty match and one at its end too
 abbrev pub is_found_in : List ℕ → List ℕ → Bool
 is_found_in source text = is_some_span (matches_of source text)
+
+-- how many of some characters begin before a byte of theirs
+abbrev pub chars_before : List ℕ → ℕ → ℕ
+chars_before [] b = 0
+chars_before (c ∷ cs) b = if b == 0 then 0 else suc (chars_before cs (b - length (encode_utf8 c)))

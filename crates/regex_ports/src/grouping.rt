@@ -12,8 +12,8 @@ use crate::pattern::{Groups, Span};
 use regex::{CaptureLocations, Regex};
 use std::alloc::{AllocError, Global};
 
-// Where a group stands, if it took part.
-fn group_at(locations: &CaptureLocations, n: usize) -> Option<Span>
+/// Where a group stands, if it took part.
+pub(crate) fn group_at(locations: &CaptureLocations, n: usize) -> Option<Span>
     ensures { result ≡ option_map span_of (location locations.now n) }
 {
     let (start, end) = locations.get(n)?;

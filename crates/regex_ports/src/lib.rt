@@ -9,12 +9,13 @@ pub mod none;
 pub mod pattern;
 pub mod refusing;
 pub mod regular;
+mod searching;
 mod seeking;
 pub mod texts;
 
 pub use maker::{Made, PatternMaker};
 pub use none::{NoPattern, NoPatterns};
-pub use pattern::{Groups, Pattern, Span};
+pub use pattern::{GroupSpan, Groups, Pattern, Span};
 pub use refusing::RefusingMaker;
 pub use regular::{RegexMaker, RegexPattern};
 pub use texts::Texts;

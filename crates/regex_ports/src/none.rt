@@ -4,8 +4,9 @@ ghost use Rattle.std.specs.Prelude.{◌≡◌, [], IfOk, IsOk, OnErr};
 ghost use Rattle.regex_ports.specs.Making.{IfBuilt, IsCounted, IsRefused};
 
 use crate::maker::{Made, PatternMaker};
-use crate::pattern::{Groups, Pattern, Span};
+use crate::pattern::{GroupSpan, Groups, Pattern, Span};
 use crate::texts::Texts;
+use sequences::Seq;
 use std::alloc::{AllocError, Global};
 
 /// The pattern of a maker that makes none. It never has the memory to search.
@@ -44,6 +45,14 @@ impl Pattern for NoPattern {
     }
 
     fn found_in<T: Texts>(&self, alloc: Global, texts: &mut T) -> Result<Vec<bool>, AllocError> {
+        Err(AllocError)
+    }
+
+    fn groups_in<T: Texts>(
+        &self,
+        alloc: Global,
+        texts: &mut T,
+    ) -> Result<Vec<Seq<GroupSpan>>, AllocError> {
         Err(AllocError)
     }
 }

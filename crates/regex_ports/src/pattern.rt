@@ -2,10 +2,11 @@
 
 ghost use Rattle.std.specs.Prelude.{◌≡◌, ℕ, List, length, map, IfOk};
 ghost use Rattle.regex_ports.specs.Matching.{matches_of, is_found_in};
-ghost use Rattle.regex_ports.specs.Grouping.{groups_of, spans_of};
+ghost use Rattle.regex_ports.specs.Grouping.{groups_of, groups_found, spans_of};
 ghost use Rattle.regex_ports.specs.Seeking.{first_behind, last_before};
 
 use crate::texts::Texts;
+use sequences::Seq;
 use std::alloc::{AllocError, Global};
 
 /// A range of a text, in bytes: its first, and the one behind its last.
@@ -20,6 +21,13 @@ pub struct Span {
 pub struct Groups {
     /// At 0 the match itself, and at n its n-th group, if it took part.
     pub spans: Vec<Option<Span>>,
+}
+
+/// The range of a group of a match: the match itself has number 0, and its n-th group has number n.
+#[derive(Clone, Copy, Debug)]
+pub struct GroupSpan {
+    pub group: usize,
+    pub span: Span,
 }
 
 /// A pattern, which was made of a text.
@@ -60,4 +68,13 @@ pub trait Pattern: Drop {
     /// by itself, up to its first match, and they are all searched with one matcher.
     fn found_in<T: Texts>(&self, alloc: Global, texts: &mut T) -> Result<Vec<bool>, AllocError>
         ensures { IfOk result (λ found. found.items ≡ map (is_found_in (source self.now)) (T.left texts.old)) };
+
+    /// Of each of some texts the groups that took part in the matches in it, match by match. They are all searched with one
+    /// matcher, and a text without a match takes no memory.
+    fn groups_in<T: Texts>(
+        &self,
+        alloc: Global,
+        texts: &mut T,
+    ) -> Result<Vec<Seq<GroupSpan>>, AllocError>
+        ensures { IfOk result (λ found. found.items ≡ map (groups_found (source self.now)) (T.left texts.old)) };
 }

@@ -10,10 +10,12 @@ ghost use Rattle.regex_ports.specs.Series.{AreBytes};
 
 use crate::grouping::groups;
 use crate::maker::{Made, PatternMaker};
-use crate::pattern::{Groups, Pattern, Span};
+use crate::pattern::{GroupSpan, Groups, Pattern, Span};
+use crate::searching::groups_in;
 use crate::seeking::{first_behind, last_before};
 use crate::texts::Texts;
 use regex::{Error, Matcher, Regex, RegexBuilder};
+use sequences::Seq;
 use std::alloc::{AllocError, Global};
 use std::marker::Model;
 
@@ -104,6 +106,14 @@ impl Pattern for RegexPattern {
 
     fn found_in<T: Texts>(&self, alloc: Global, texts: &mut T) -> Result<Vec<bool>, AllocError> {
         found_in(alloc, &self.regex, texts)
+    }
+
+    fn groups_in<T: Texts>(
+        &self,
+        alloc: Global,
+        texts: &mut T,
+    ) -> Result<Vec<Seq<GroupSpan>>, AllocError> {
+        groups_in(alloc, &self.regex, texts)
     }
 }
 

@@ -5,8 +5,8 @@ use Rattle.std.specs.List.{AllByRecursion}
 use Rattle.list_model.specs.Ranges.{Range}
 use Rattle.list_model.specs.Settled.{SomeOf}
 use Rattle.list_model.proofs.ListLemmas.{all_weaker}
-use Rattle.regex_select.specs.declared.way.Way.{Way}
-use Rattle.regex_select.specs.declared.way.Way.TheVariants.{Forward, Backward}
+use Rattle.directions.specs.declared.direction.Direction.{Direction}
+use Rattle.directions.specs.declared.direction.Direction.TheVariants.{Forward, Backward}
 use Rattle.regex_select.specs.Rows.{selected_chars, spans_in}
 use Rattle.regex_select.specs.Selecting.{selected_by_all, matched_in}
 use Rattle.regex_select.specs.Searching.{all_matches, on_the_way, is_ahead, first_or, sought}
@@ -26,7 +26,7 @@ all-in : {X : Type 0} (xs : List X) → AllByRecursion (IsIn xs) xs
 all-in [] = tt
 all-in (x ∷ xs) = (inl refl, all_weaker (IsIn xs) (IsIn (x ∷ xs)) (λ y h. inr h) xs (all-in xs))
 
-all-way : {X : Type 0} (P : X → Type 0) (way : Way) (xs : List X) → AllByRecursion P xs → AllByRecursion P (on_the_way way xs)
+all-way : {X : Type 0} (P : X → Type 0) (direction : Direction) (xs : List X) → AllByRecursion P xs → AllByRecursion P (on_the_way direction xs)
 all-way P Forward xs h = h
 all-way P Backward xs h = all-reverse P xs h
 
@@ -35,7 +35,7 @@ first-of P d [] [] l h k = absurd (omega arith)
 first-of P d [] (y ∷ ys) l h k = k.0
 first-of P d (x ∷ xs) ys l h k = h.0
 
-pub is-a-match : (way : Way) (ms : List Range) (r : Range) → 0 < length ms → SomeOf (λ m. m ≡ sought way ms r) ms
-is-a-match way ms r l =
-    let there : AllByRecursion (IsIn ms) (on_the_way way ms) = all-way (IsIn ms) way ms (all-in ms) in
-    first-of (IsIn ms) r (filter (is_ahead way r) (on_the_way way ms)) (on_the_way way ms) (omega (arith, l, length-way way ms)) (all-filter (IsIn ms) (is_ahead way r) (on_the_way way ms) there) there
+pub is-a-match : (direction : Direction) (ms : List Range) (r : Range) → 0 < length ms → SomeOf (λ m. m ≡ sought direction ms r) ms
+is-a-match direction ms r l =
+    let there : AllByRecursion (IsIn ms) (on_the_way direction ms) = all-way (IsIn ms) direction ms (all-in ms) in
+    first-of (IsIn ms) r (filter (is_ahead direction r) (on_the_way direction ms)) (on_the_way direction ms) (omega (arith, l, length-way direction ms)) (all-filter (IsIn ms) (is_ahead direction r) (on_the_way direction ms) there) there

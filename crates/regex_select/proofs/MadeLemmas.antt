@@ -10,8 +10,8 @@ use Rattle.selection_set.specs.Listing.{Listed, ranges_of, AreInside, IsSettledI
 use Rattle.selection_set.specs.Held.{selected, IsHeld, main_of}
 use Rattle.selection_set.proofs.HeldLemmas.{IsMain}
 use Rattle.selection_set.proofs.InOrderLemmas.{refilled}
-use Rattle.regex_select.specs.declared.way.Way.{Way}
-use Rattle.regex_select.specs.declared.way.Way.TheVariants.{Forward, Backward}
+use Rattle.directions.specs.declared.direction.Direction.{Direction}
+use Rattle.directions.specs.declared.direction.Direction.TheVariants.{Forward, Backward}
 use Rattle.regex_select.specs.declared.way.Search.{Search}
 use Rattle.regex_select.specs.Searching.{on_the_way, searched}
 use Rattle.regex_select.specs.Ways.{searched_at}
@@ -33,18 +33,18 @@ made-selected text given list main s h settles = given-selected text list main g
 
 -- ---- lists that were written to
 
-pub length-way : {X : Type 0} (way : Way) (xs : List X) → length (on_the_way way xs) ≡ length xs
+pub length-way : {X : Type 0} (direction : Direction) (xs : List X) → length (on_the_way direction xs) ≡ length xs
 length-way Forward xs = refl
 length-way Backward xs = length-reverse xs
 
-pub way-written : (way : Way) (xs there new : List Sel) → there ≡ xs → new ≡ on_the_way way there → refill (length xs) xs new ≡ on_the_way way xs
-way-written way xs there new e f =
-    let is : new ≡ on_the_way way xs = f ∙ ap (on_the_way way) e in
-    refilled xs new (ap length is ∙ length-way way xs) ∙ is
+pub way-written : (direction : Direction) (xs there new : List Sel) → there ≡ xs → new ≡ on_the_way direction there → refill (length xs) xs new ≡ on_the_way direction xs
+way-written direction xs there new e f =
+    let is : new ≡ on_the_way direction xs = f ∙ ap (on_the_way direction) e in
+    refilled xs new (ap length is ∙ length-way direction xs) ∙ is
 
 -- ---- what is made of a list
 
-pub each-made : (text : List ℕ) (search : Search) (rs : List Range) (s : Listed) (ms slice items there new : List Sel) (main : ℕ) → IsHeld text s → AreInside text ms → ranges_of text ms ≡ on_the_way search.way rs → items ≡ s.list → there ≡ items → slice ≡ ms → main ≡ s.main → new ≡ map (searched_at search slice) there
+pub each-made : (text : List ℕ) (search : Search) (rs : List Range) (s : Listed) (ms slice items there new : List Sel) (main : ℕ) → IsHeld text s → AreInside text ms → ranges_of text ms ≡ on_the_way search.direction rs → items ≡ s.list → there ≡ items → slice ≡ ms → main ≡ s.main → new ≡ map (searched_at search slice) there
     → IsMade text (record { list = map (searched search rs) (ranges_of text s.list); main = s.main }) (refill (length items) items new) main
 each-made text search rs s ms slice items there new main h k e i t m a n =
     let is : new ≡ map (searched_at search ms) s.list = n ∙ ap₂ (λ xs ys. map (searched_at search xs) ys) m (t ∙ i) in

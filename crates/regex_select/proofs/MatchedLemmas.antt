@@ -19,7 +19,8 @@ use Rattle.regex_select.specs.declared.error.SelectError.{SelectError}
 use Rattle.regex_select.specs.declared.error.SelectError.TheVariants.{NoMatch, TooMany, NoMemory}
 use Rattle.regex_select.specs.declared.walking.SelectionWalk.{SelectionWalk}
 use Rattle.regex_select.specs.Causes.{IsCause, IsForRoom}
-use Rattle.regex_select.specs.Selecting.{chars_before, part_between, match_end, selected_by}
+use Rattle.regex_ports.specs.Matching.{chars_before}
+use Rattle.regex_select.specs.Selecting.{part_between, match_end, selected_by}
 use Rattle.regex_select.specs.Walks.{own_chars, IsWalk}
 use Rattle.regex_select.proofs.WalkLemmas.{own-length, walk-place}
 

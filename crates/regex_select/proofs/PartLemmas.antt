@@ -9,7 +9,8 @@ use Rattle.selection_set.specs.declared.sel.Sel.{Sel}
 use Rattle.selection_set.specs.Inside.{range_of, IsInside}
 use Rattle.selection_set.specs.Listing.{ranges_of}
 use Rattle.regex_select.specs.declared.walking.SelectionWalk.{SelectionWalk}
-use Rattle.regex_select.specs.Selecting.{chars_before, part_between, parts_from}
+use Rattle.regex_ports.specs.Matching.{chars_before}
+use Rattle.regex_select.specs.Selecting.{part_between, parts_from}
 use Rattle.regex_select.specs.Walks.{own_chars, IsWalk}
 use Rattle.regex_select.proofs.WalkLemmas.{own-length, walk-place}
 use Rattle.regex_select.proofs.MatchedLemmas.{straight, part-some, part-none}

@@ -18,8 +18,8 @@ use Rattle.selection_set.specs.Held.{IsHeld}
 use Rattle.selection_set.proofs.PairLemmas.{pairs-inside, pairs-ranges}
 use Rattle.selection_set.proofs.CursorLemmas.{cursor-range_of}
 use Rattle.regex_ports.specs.declared.pattern.Span.{Span}
-use Rattle.regex_select.specs.declared.way.Way.{Way}
-use Rattle.regex_select.specs.declared.way.Way.TheVariants.{Forward, Backward}
+use Rattle.directions.specs.declared.direction.Direction.{Direction}
+use Rattle.directions.specs.declared.direction.Direction.TheVariants.{Forward, Backward}
 use Rattle.regex_select.specs.declared.way.Search.{Search}
 use Rattle.regex_select.specs.Searching.{on_the_way, is_ahead, first_or, sought, reached, searched}
 use Rattle.regex_select.specs.Ways.{is_ahead_at, IsFurther, GoesAhead, sought_at, reached_at, searched_at}
@@ -62,29 +62,29 @@ selected-more text f spans n d before after found l b r e =
     ap (ranges_of text) e ∙ map-append (range_of text) before (option_to_list found) ∙ ap₂ (λ xs ys. xs ++ ys) b (r ∙ sym (append-nil (f (get_or spans n d))))
     ∙ sym (ap (flat_map f) (take_more spans n d l) ∙ flat_map-append f (take n spans) (get_or spans n d ∷ []))
 
-pub way-inside : (text : List ℕ) (way : Way) (xs ys : List Sel) → ys ≡ on_the_way way xs → AreInside text xs → AreInside text ys
+pub way-inside : (text : List ℕ) (direction : Direction) (xs ys : List Sel) → ys ≡ on_the_way direction xs → AreInside text xs → AreInside text ys
 way-inside text Forward xs ys e h = subst (AreInside text) (sym e) h
 way-inside text Backward xs ys e h = subst (AreInside text) (sym e) (all-reverse (IsInside text) xs h)
 
-pub way-ranges : (text : List ℕ) (way : Way) (xs ys : List Sel) (rs : List Range) → ys ≡ on_the_way way xs → ranges_of text xs ≡ rs → ranges_of text ys ≡ on_the_way way rs
-way-ranges text way xs ys rs e f = ap (ranges_of text) e ∙ map-way (range_of text) way xs ∙ ap (on_the_way way) f
+pub way-ranges : (text : List ℕ) (direction : Direction) (xs ys : List Sel) (rs : List Range) → ys ≡ on_the_way direction xs → ranges_of text xs ≡ rs → ranges_of text ys ≡ on_the_way direction rs
+way-ranges text direction xs ys rs e f = ap (ranges_of text) e ∙ map-way (range_of text) direction xs ∙ ap (on_the_way direction) f
 
 -- ---- what is ahead
 
 not-at-most : (a b : ℕ) → not (leb a b) ≡ ltb b a
 not-at-most a b = elim (cases_Bool (leb a b)) [ inl e ↦ ap not e ∙ sym (le-ltb b a (leb-true a b e)) | inr e ↦ ap not e ∙ sym (lt-ltb b a (leb-false a b e)) ]
 
-ahead-range : (text : List ℕ) (way : Way) (s m : Sel) → IsInside text s → IsInside text m → is_ahead_at way s m ≡ is_ahead way (range_of text s) (range_of text m)
+ahead-range : (text : List ℕ) (direction : Direction) (s m : Sel) → IsInside text s → IsInside text m → is_ahead_at direction s m ≡ is_ahead direction (range_of text s) (range_of text m)
 ahead-range text Forward s m h k = ap not (is_at_most-offset text m.low s.high (inl k.low) (inl h.high)) ∙ not-at-most (offset text m.low) (offset text s.high)
 ahead-range text Backward s m h k = ap not (is_at_most-offset text s.low m.low (inl h.low) (inl k.low)) ∙ not-at-most (offset text s.low) (offset text m.low)
 
-ahead-ranges : (text : List ℕ) (way : Way) (s : Sel) (ms : List Sel) → IsInside text s → AreInside text ms → ranges_of text (filter (is_ahead_at way s) ms) ≡ filter (is_ahead way (range_of text s)) (ranges_of text ms)
-ahead-ranges text way s [] h k = refl
-ahead-ranges text way s (m ∷ ms) h k =
-    ap (λ b. ranges_of text (cond b (m ∷ filter (is_ahead_at way s) ms) (filter (is_ahead_at way s) ms))) (ahead-range text way s m h k.0) ∙ by-flag (is_ahead way (range_of text s) (range_of text m)) (ahead-ranges text way s ms h k.1)
+ahead-ranges : (text : List ℕ) (direction : Direction) (s : Sel) (ms : List Sel) → IsInside text s → AreInside text ms → ranges_of text (filter (is_ahead_at direction s) ms) ≡ filter (is_ahead direction (range_of text s)) (ranges_of text ms)
+ahead-ranges text direction s [] h k = refl
+ahead-ranges text direction s (m ∷ ms) h k =
+    ap (λ b. ranges_of text (cond b (m ∷ filter (is_ahead_at direction s) ms) (filter (is_ahead_at direction s) ms))) (ahead-range text direction s m h k.0) ∙ by-flag (is_ahead direction (range_of text s) (range_of text m)) (ahead-ranges text direction s ms h k.1)
   where
-    by-flag : (b : Bool) → ranges_of text (filter (is_ahead_at way s) ms) ≡ filter (is_ahead way (range_of text s)) (ranges_of text ms)
-        → ranges_of text (cond b (m ∷ filter (is_ahead_at way s) ms) (filter (is_ahead_at way s) ms)) ≡ cond b (range_of text m ∷ filter (is_ahead way (range_of text s)) (ranges_of text ms)) (filter (is_ahead way (range_of text s)) (ranges_of text ms))
+    by-flag : (b : Bool) → ranges_of text (filter (is_ahead_at direction s) ms) ≡ filter (is_ahead direction (range_of text s)) (ranges_of text ms)
+        → ranges_of text (cond b (m ∷ filter (is_ahead_at direction s) ms) (filter (is_ahead_at direction s) ms)) ≡ cond b (range_of text m ∷ filter (is_ahead direction (range_of text s)) (ranges_of text ms)) (filter (is_ahead direction (range_of text s)) (ranges_of text ms))
     by-flag true e = ap (λ l. range_of text m ∷ l) e
     by-flag false e = e
 
@@ -96,13 +96,13 @@ first-range : (text : List ℕ) (d : Sel) (ms : List Sel) → range_of text (fir
 first-range text d [] = refl
 first-range text d (m ∷ ms) = refl
 
-pub sought-inside : (text : List ℕ) (way : Way) (ms : List Sel) (s : Sel) → IsInside text s → AreInside text ms → IsInside text (sought_at way ms s)
-sought-inside text way ms s h k = first-inside text s (filter (is_ahead_at way s) ms ++ ms) h (all-append (IsInside text) (filter (is_ahead_at way s) ms) ms (all-filter (IsInside text) (is_ahead_at way s) ms k) k)
+pub sought-inside : (text : List ℕ) (direction : Direction) (ms : List Sel) (s : Sel) → IsInside text s → AreInside text ms → IsInside text (sought_at direction ms s)
+sought-inside text direction ms s h k = first-inside text s (filter (is_ahead_at direction s) ms ++ ms) h (all-append (IsInside text) (filter (is_ahead_at direction s) ms) ms (all-filter (IsInside text) (is_ahead_at direction s) ms k) k)
 
-pub sought-range : (text : List ℕ) (way : Way) (ms : List Sel) (rs : List Range) (s : Sel) → IsInside text s → AreInside text ms → ranges_of text ms ≡ on_the_way way rs → range_of text (sought_at way ms s) ≡ sought way rs (range_of text s)
-sought-range text way ms rs s h k e =
-    first-range text s (filter (is_ahead_at way s) ms ++ ms)
-    ∙ ap (first_or (range_of text s)) (map-append (range_of text) (filter (is_ahead_at way s) ms) ms ∙ ap₂ (λ xs ys. xs ++ ys) (ahead-ranges text way s ms h k ∙ ap (filter (is_ahead way (range_of text s))) e) e)
+pub sought-range : (text : List ℕ) (direction : Direction) (ms : List Sel) (rs : List Range) (s : Sel) → IsInside text s → AreInside text ms → ranges_of text ms ≡ on_the_way direction rs → range_of text (sought_at direction ms s) ≡ sought direction rs (range_of text s)
+sought-range text direction ms rs s h k e =
+    first-range text s (filter (is_ahead_at direction s) ms ++ ms)
+    ∙ ap (first_or (range_of text s)) (map-append (range_of text) (filter (is_ahead_at direction s) ms) ms ∙ ap₂ (λ xs ys. xs ++ ys) (ahead-ranges text direction s ms h k ∙ ap (filter (is_ahead direction (range_of text s))) e) e)
 
 -- ---- what becomes of a selection
 
@@ -133,13 +133,13 @@ reached-range text false s m h k = refl
 
 pub each-inside : (text : List ℕ) (search : Search) (ms ss : List Sel) → AreInside text ss → AreInside text ms → AreInside text (map (searched_at search ms) ss)
 each-inside text search ms [] h k = tt
-each-inside text search ms (s ∷ ss) h k = (reached-inside text search.extend s (sought_at search.way ms s) h.0 (sought-inside text search.way ms s h.0 k), each-inside text search ms ss h.1 k)
+each-inside text search ms (s ∷ ss) h k = (reached-inside text search.extend s (sought_at search.direction ms s) h.0 (sought-inside text search.direction ms s h.0 k), each-inside text search ms ss h.1 k)
 
-pub each-ranges : (text : List ℕ) (search : Search) (ms : List Sel) (rs : List Range) (ss : List Sel) → AreInside text ss → AreInside text ms → ranges_of text ms ≡ on_the_way search.way rs → ranges_of text (map (searched_at search ms) ss) ≡ map (searched search rs) (ranges_of text ss)
+pub each-ranges : (text : List ℕ) (search : Search) (ms : List Sel) (rs : List Range) (ss : List Sel) → AreInside text ss → AreInside text ms → ranges_of text ms ≡ on_the_way search.direction rs → ranges_of text (map (searched_at search ms) ss) ≡ map (searched search rs) (ranges_of text ss)
 each-ranges text search ms rs [] h k e = refl
 each-ranges text search ms rs (s ∷ ss) h k e =
     let one : range_of text (searched_at search ms s) ≡ searched search rs (range_of text s) =
-    reached-range text search.extend s (sought_at search.way ms s) h.0 (sought-inside text search.way ms s h.0 k) ∙ ap (reached search.extend (range_of text s)) (sought-range text search.way ms rs s h.0 k e) in
+    reached-range text search.extend s (sought_at search.direction ms s) h.0 (sought-inside text search.direction ms s h.0 k) ∙ ap (reached search.extend (range_of text s)) (sought-range text search.direction ms rs s h.0 k e) in
     ap₂ (λ x xs. x ∷ xs) one (each-ranges text search ms rs ss h.1 k e)
 
 -- ---- a list that is held goes on, either way
@@ -154,11 +154,11 @@ further-backward text s [] h k a = tt
 further-backward text s (t ∷ ts) h k a =
     (is_at_most-offset text s.low t.low (inl h.low) (inl k.0.low) ∙ le-leb (offset text s.low) (offset text t.low) (omega (arith, a.0, h.ordered)), further-backward text s ts h k.1 a.1)
 
-goes-on-push : (way : Way) (ss : List Sel) (s : Sel) → GoesAhead way ss → AllByRecursion (λ t. IsFurther way t s) ss → GoesAhead way (ss ++ s ∷ [])
-goes-on-push way [] s g h = (tt, tt)
-goes-on-push way (t ∷ ts) s g h = (all-append (IsFurther way t) ts (s ∷ []) g.0 (h.0, tt), goes-on-push way ts s g.1 h.1)
+goes-on-push : (direction : Direction) (ss : List Sel) (s : Sel) → GoesAhead direction ss → AllByRecursion (λ t. IsFurther direction t s) ss → GoesAhead direction (ss ++ s ∷ [])
+goes-on-push direction [] s g h = (tt, tt)
+goes-on-push direction (t ∷ ts) s g h = (all-append (IsFurther direction t) ts (s ∷ []) g.0 (h.0, tt), goes-on-push direction ts s g.1 h.1)
 
-apart-goes-on : (text : List ℕ) (way : Way) (ss : List Sel) → AreInside text ss → AreApart (ranges_of text ss) → GoesAhead way (on_the_way way ss)
+apart-goes-on : (text : List ℕ) (direction : Direction) (ss : List Sel) → AreInside text ss → AreApart (ranges_of text ss) → GoesAhead direction (on_the_way direction ss)
 apart-goes-on text Forward [] h a = tt
 apart-goes-on text Forward (s ∷ ss) h a = (further-forward text s ss h.0 h.1 a.0, apart-goes-on text Forward ss h.1 a.1)
 apart-goes-on text Backward [] h a = tt
@@ -166,5 +166,5 @@ apart-goes-on text Backward (s ∷ ss) h a =
     subst (GoesAhead Backward) (sym (reverse-append (s ∷ []) ss))
     (goes-on-push Backward (reverse ss) s (apart-goes-on text Backward ss h.1 a.1) (all-reverse (λ t. IsFurther Backward t s) ss (further-backward text s ss h.0 h.1 a.0)))
 
-pub held-goes-on : (text : List ℕ) (way : Way) (s : Listed) (list : List Sel) → IsHeld text s → list ≡ s.list → GoesAhead way (on_the_way way list)
-held-goes-on text way s list h e = subst (λ l. GoesAhead way (on_the_way way l)) (sym e) (apart-goes-on text way s.list h.inside h.settled.apart)
+pub held-goes-on : (text : List ℕ) (direction : Direction) (s : Listed) (list : List Sel) → IsHeld text s → list ≡ s.list → GoesAhead direction (on_the_way direction list)
+held-goes-on text direction s list h e = subst (λ l. GoesAhead direction (on_the_way direction l)) (sym e) (apart-goes-on text direction s.list h.inside h.settled.apart)

@@ -12,13 +12,15 @@ use Rattle.text_model.specs.Texts.{IsText}
 use Rattle.list_model.specs.Ranges.{Range}
 use Rattle.regex_ports.specs.declared.pattern.Span.{Span}
 use Rattle.regex_ports.specs.Seeking.{first_span_where, last_where, span_begins_before, begins_between}
-use Rattle.regex_select.specs.declared.way.Way.{Way}
-use Rattle.regex_select.specs.declared.way.Way.TheVariants.{Forward, Backward}
-use Rattle.regex_select.specs.Selecting.{chars_before, part_between, match_end, selected_by, selected_by_all}
+use Rattle.directions.specs.declared.direction.Direction.{Direction}
+use Rattle.directions.specs.declared.direction.Direction.TheVariants.{Forward, Backward}
+use Rattle.regex_ports.specs.Matching.{chars_before}
+use Rattle.regex_select.specs.Selecting.{part_between, match_end, selected_by, selected_by_all}
 use Rattle.regex_select.specs.Searching.{is_ahead, first_or, sought}
 use Rattle.regex_select.specs.Walks.{bytes_of_first}
 use Rattle.regex_select.specs.Spans.{byte_bound, span_sought}
-use Rattle.regex_select.proofs.WalkLemmas.{bytes-more, chars-done, chars-some, chars-behind}
+use Rattle.regex_ports.proofs.CharLemmas.{chars-done, chars-some}
+use Rattle.regex_select.proofs.WalkLemmas.{bytes-more, chars-behind}
 use Rattle.regex_select.proofs.MatchedLemmas.{straight, part-some, part-none, end-empty}
 
 either : (a b : ℕ) → (a < b) ⊎ (b ≤ a)
@@ -214,7 +216,7 @@ every-one rs = append-nil (filter (λ r. true) rs) ∙ all-true rs
     all-true [] = refl
     all-true (x ∷ xs) = ap (λ l. x ∷ l) (all-true xs)
 
-pub sought-picked : (cs : List ℕ) (way : Way) (ss : List Span) (r : Range) → IsText cs → r.low ≤ r.high → r.high < length cs → sought way (selected_by_all cs 0 ss) r ≡ picked cs r (span_sought way cs ss r)
+pub sought-picked : (cs : List ℕ) (direction : Direction) (ss : List Span) (r : Range) → IsText cs → r.low ≤ r.high → r.high < length cs → sought direction (selected_by_all cs 0 ss) r ≡ picked cs r (span_sought direction cs ss r)
 sought-picked cs Forward ss r t o h =
     let end : ℕ = length (encode_utf8_all cs) in
     first-picked cs t (is_ahead Forward r) (begins_between (bytes_of_first cs r.high) end) (forward cs r h) r (selected_by_all cs 0 ss) ss
@@ -274,7 +276,7 @@ none-last cs t (s ∷ ss) n =
     let rest : Option Span = last_where (span_begins_before (length (encode_utf8_all cs))) ss in
     skipped cs t s ss (no-flag (span_begins_before (length (encode_utf8_all cs)) s) s None (no-second rest own n)) ∙ none-last cs t ss (no-first rest own n)
 
-pub none-there : (cs : List ℕ) (way : Way) (ss : List Span) (r : Range) → IsText cs → span_sought way cs ss r ≡ None → selected_by_all cs 0 ss ≡ []
+pub none-there : (cs : List ℕ) (direction : Direction) (ss : List Span) (r : Range) → IsText cs → span_sought direction cs ss r ≡ None → selected_by_all cs 0 ss ≡ []
 none-there cs Forward ss r t n = none-first cs t ss (no-second (first_span_where (begins_between (bytes_of_first cs r.high) (length (encode_utf8_all cs))) ss) (first_span_where (span_begins_before (length (encode_utf8_all cs))) ss) n)
 none-there cs Backward ss r t n = none-last cs t ss (no-second (last_where (span_begins_before (byte_bound cs r.low)) ss) (last_where (span_begins_before (length (encode_utf8_all cs))) ss) n)
 
@@ -313,7 +315,7 @@ module _ (cs : List ℕ) (t : IsText cs) (test : Span → Bool) (begun : (s : Sp
       go further (inl f) = found-later cs x s ss (further f)
       go further (inr f) = last-own x s ss f (cases_Bool (test x))
 
-pub some-there : (cs : List ℕ) (way : Way) (ss : List Span) (r : Range) (s : Span) → IsText cs → r.low ≤ r.high → r.high < length cs → span_sought way cs ss r ≡ Some s → IsFound cs ss s
+pub some-there : (cs : List ℕ) (direction : Direction) (ss : List Span) (r : Range) (s : Span) → IsText cs → r.low ≤ r.high → r.high < length cs → span_sought direction cs ss r ≡ Some s → IsFound cs ss s
 some-there cs Forward ss r s t o h e = go (either-one (first_span_where (begins_between (bytes_of_first cs r.high) (length (encode_utf8_all cs))) ss) (first_span_where (span_begins_before (length (encode_utf8_all cs))) ss) s e)
   where
     go : (first_span_where (begins_between (bytes_of_first cs r.high) (length (encode_utf8_all cs))) ss ≡ Some s) ⊎ (first_span_where (span_begins_before (length (encode_utf8_all cs))) ss ≡ Some s) → IsFound cs ss s
@@ -326,14 +328,14 @@ some-there cs Backward ss r s t o h e = go (either-one (last_where (span_begins_
     go (inr f) = last-there cs t (span_begins_before (length (encode_utf8_all cs))) (every cs).begun ss s f
 
 -- what the span that was found selects is the range that is sought
-pub found-is-sought : (cs : List ℕ) (way : Way) (ss : List Span) (r found : Range) (s : Span) → IsText cs → r.low ≤ r.high → r.high < length cs → span_sought way cs ss r ≡ Some s → found ∷ [] ≡ selected_by cs 0 s → found ≡ sought way (selected_by_all cs 0 ss) r
-found-is-sought cs way ss r found s t o h e f =
-    let one : found ∷ [] ≡ only_of cs s ∷ [] = f ∙ one-selected cs t s (some-there cs way ss r s t o h e).0 in
-    ap (first_or r) one ∙ ap (picked cs r) (sym e) ∙ sym (sought-picked cs way ss r t o h)
+pub found-is-sought : (cs : List ℕ) (direction : Direction) (ss : List Span) (r found : Range) (s : Span) → IsText cs → r.low ≤ r.high → r.high < length cs → span_sought direction cs ss r ≡ Some s → found ∷ [] ≡ selected_by cs 0 s → found ≡ sought direction (selected_by_all cs 0 ss) r
+found-is-sought cs direction ss r found s t o h e f =
+    let one : found ∷ [] ≡ only_of cs s ∷ [] = f ∙ one-selected cs t s (some-there cs direction ss r s t o h e).0 in
+    ap (first_or r) one ∙ ap (picked cs r) (sym e) ∙ sym (sought-picked cs direction ss r t o h)
 
 -- and it selects something
-pub found-selects : (cs : List ℕ) (way : Way) (ss : List Span) (r : Range) (s : Span) → IsText cs → r.low ≤ r.high → r.high < length cs → span_sought way cs ss r ≡ Some s → [] ≡ selected_by cs 0 s → ⊥
-found-selects cs way ss r s t o h e f = absurd (omega (arith, ap length (f ∙ one-selected cs t s (some-there cs way ss r s t o h e).0)))
+pub found-selects : (cs : List ℕ) (direction : Direction) (ss : List Span) (r : Range) (s : Span) → IsText cs → r.low ≤ r.high → r.high < length cs → span_sought direction cs ss r ≡ Some s → [] ≡ selected_by cs 0 s → ⊥
+found-selects cs direction ss r s t o h e f = absurd (omega (arith, ap length (f ∙ one-selected cs t s (some-there cs direction ss r s t o h e).0)))
 
 -- ---- the text with one of its places
 

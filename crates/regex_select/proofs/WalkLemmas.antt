@@ -1,10 +1,8 @@
 -- Walks over the characters of a selection.
-use Rattle.std.proofs.Common.{◌≡◌, ℕ, zero, suc, ◌+◌, ◌-◌, ◌*◌, ◌<◌, ◌≤◌, cond, List, [], ◌∷◌, length, get_or, take, drop, slice_range, refl, sym, ap, ap₂, ◌∙◌, arith, inl, inr, append-nil, add-one, eq-eqb, ne_eqb, length-drop}
+use Rattle.std.proofs.Common.{◌≡◌, ℕ, zero, suc, ◌+◌, ◌-◌, ◌*◌, ◌<◌, ◌≤◌, List, [], ◌∷◌, length, get_or, take, drop, slice_range, refl, sym, ap, ap₂, ◌∙◌, arith, inl, inr, add-one, length-drop}
 use Rattle.std.specs.Prelude.{slice_index, encode_utf8, IsAscii}
-use Rattle.std.proofs.Math.Seq.{drop-cons}
-use Rattle.std.proofs.Math.ListN.{drop_of_length-le}
 use Rattle.std.proofs.lemmas.List.{get_or-take, get_or-drop, length-take-le, drop-drop, drop-take, take-append-le, take-take}
-use Rattle.std.proofs.lemmas.Str.{length-le-encodes, encode_ascii}
+use Rattle.std.proofs.lemmas.Str.{encode_ascii}
 use Rattle.text_model.specs.declared.coords.Coord.{Coord}
 use Rattle.text_model.specs.Texts.{offset, nth_line, lines_of, joined, IsStored, IsPlace, IsPlaceOrEnd}
 use Rattle.text_model.proofs.PlaceLemmas.{offset-below, offset-end, offset-earlier_line, drop-offset, start-more, start-le, three_ways}
@@ -12,11 +10,9 @@ use Rattle.line_buffer.proofs.StepLemmas.{next_line_place}
 use Rattle.selection_set.specs.declared.sel.Sel.{Sel}
 use Rattle.selection_set.specs.Inside.{IsInside}
 use Rattle.regex_select.specs.declared.walking.SelectionWalk.{SelectionWalk}
-use Rattle.regex_select.specs.Selecting.{chars_before}
+use Rattle.regex_ports.specs.Matching.{chars_before}
+use Rattle.regex_ports.proofs.CharLemmas.{encode-some, chars-some, chars-step}
 use Rattle.regex_select.specs.Walks.{bytes_of_first, own_chars, IsWalk}
-
-pub encode-some : (c : ℕ) → 0 < length (encode_utf8 c)
-encode-some c = omega (arith, length-le-encodes (c ∷ []), ap length (append-nil (encode_utf8 c)))
 
 -- ---- bytes and characters
 
@@ -28,14 +24,6 @@ bytes-suc (c ∷ cs) (suc k) h = omega (arith, bytes-suc cs k (omega arith))
 pub bytes-more : (cs : List ℕ) (k : ℕ) → k < length cs → bytes_of_first cs (k + 1) ≡ bytes_of_first cs k + length (encode_utf8 (get_or cs k 0))
 bytes-more cs k h = ap (bytes_of_first cs) (add-one k) ∙ bytes-suc cs k h
 
--- no characters begin before the first byte
-pub chars-done : (cs : List ℕ) (b : ℕ) → b ≡ 0 → chars_before cs b ≡ 0
-chars-done [] b e = refl
-chars-done (c ∷ cs) b e = ap (λ t. cond t 0 (suc (chars_before cs (b - length (encode_utf8 c))))) (eq-eqb b 0 e)
-
-pub chars-some : (c : ℕ) (cs : List ℕ) (b : ℕ) → 0 < b → chars_before (c ∷ cs) b ≡ suc (chars_before cs (b - length (encode_utf8 c)))
-chars-some c cs b h = ap (λ t. cond t 0 (suc (chars_before cs (b - length (encode_utf8 c))))) (ne_eqb b 0 (λ e. omega (arith, e, h)))
-
 pub chars-behind : (cs : List ℕ) (k b : ℕ) → bytes_of_first cs k ≤ b → k ≤ length cs → chars_before cs b ≡ k + chars_before (drop k cs) (b - bytes_of_first cs k)
 chars-behind cs zero b h l = let same : b ≡ b - 0 = omega arith in ap (chars_before cs) same ∙ omega arith
 chars-behind [] (suc k) b h l = absurd (omega arith)
@@ -44,19 +32,6 @@ chars-behind (c ∷ cs) (suc k) b h l =
     let further : chars_before cs (b - length (encode_utf8 c)) ≡ k + chars_before (drop k cs) (b - length (encode_utf8 c) - bytes_of_first cs k) = chars-behind cs k (b - length (encode_utf8 c)) (omega (arith, h)) (omega (arith, l)) in
     let same : chars_before (drop k cs) (b - length (encode_utf8 c) - bytes_of_first cs k) ≡ chars_before (drop k cs) (b - (length (encode_utf8 c) + bytes_of_first cs k)) = ap (chars_before (drop k cs)) rest in
     chars-some c cs b (omega (arith, h, encode-some c)) ∙ omega (arith, further, same)
-
--- one character further
-pub chars-step : (cs : List ℕ) (k b n m : ℕ) → k < length cs → n < b → m ≡ n + length (encode_utf8 (get_or cs k 0)) → k + chars_before (drop k cs) (b - n) ≡ k + 1 + chars_before (drop (k + 1) cs) (b - m)
-chars-step cs k b n m l h e =
-    let c : ℕ = get_or cs k 0 in
-    let rest : b - n - length (encode_utf8 c) ≡ b - m = omega (arith, e) in
-    let one : chars_before (drop k cs) (b - n) ≡ suc (chars_before (drop (suc k) cs) (b - n - length (encode_utf8 c))) = ap (λ xs. chars_before xs (b - n)) (drop-cons cs k 0 l) ∙ chars-some c (drop (suc k) cs) (b - n) (omega (arith, h)) in
-    let same : chars_before (drop (suc k) cs) (b - n - length (encode_utf8 c)) ≡ chars_before (drop (k + 1) cs) (b - m) = ap₂ (λ j d. chars_before (drop j cs) d) (sym (add-one k)) rest in
-    omega (arith, one, same)
-
--- all were passed
-pub chars-over : (cs : List ℕ) (k b : ℕ) → length cs ≤ k → k + chars_before (drop k cs) b ≡ k
-chars-over cs k b l = let none : chars_before (drop k cs) b ≡ 0 = ap (λ xs. chars_before xs b) (drop_of_length-le cs l) in omega (arith, none)
 
 -- ---- the characters of a selection
 

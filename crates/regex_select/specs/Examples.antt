@@ -4,11 +4,12 @@ use Rattle.list_model.specs.Ranges.{Range, Selected, only}
 use Rattle.list_model.specs.Settling.{each_settled}
 use Rattle.regex_ports.specs.declared.pattern.Span.{Span}
 use Rattle.regex_ports.specs.Matching.{is_some_span}
-use Rattle.regex_select.specs.declared.way.Way.{Way}
-use Rattle.regex_select.specs.declared.way.Way.TheVariants.{Forward, Backward}
+use Rattle.directions.specs.declared.direction.Direction.{Direction}
+use Rattle.directions.specs.declared.direction.Direction.TheVariants.{Forward, Backward}
 use Rattle.regex_select.specs.declared.way.Search.{Search}
 use Rattle.regex_select.specs.Rows.{selected_chars, kept_each}
-use Rattle.regex_select.specs.Selecting.{chars_before, selected_by, selected_by_all, parts_from, made_each}
+use Rattle.regex_ports.specs.Matching.{chars_before}
+use Rattle.regex_select.specs.Selecting.{selected_by, selected_by_all, parts_from, made_each}
 use Rattle.regex_select.specs.Searching.{sought, searched, main_settled, main_added}
 
 -- a turned selection with a target
@@ -61,8 +62,8 @@ pub record SplitExamples : Type 0 where
   pub at_word_ends : parts_from (codes "ab cd\n") 0 0 (match 0 0 ∷ match 2 2 ∷ match 3 3 ∷ match 5 5 ∷ []) ≡ straight 0 1 ∷ only 2 ∷ straight 3 4 ∷ only 5 ∷ []
 
 -- a search that extends, and a turned selection without a target
-abbrev pub stretching : Way → Search
-stretching way = record { way = way; extend = true }
+abbrev pub stretching : Direction → Search
+stretching direction = record { direction = direction; extend = true }
 
 abbrev pub turned : ℕ → ℕ → Range
 turned a b = record { low = a; high = b; turned = true; target = None }
@@ -86,7 +87,7 @@ pub record SearchExamples : Type 0 where
   pub only_itself : sought Forward (straight 3 4 ∷ []) (straight 3 4) ≡ straight 3 4
   pub back_to_its_end : searched (stretching Backward) (straight 0 1 ∷ straight 4 5 ∷ []) (only 6) ≡ turned 5 6
   pub from_the_anchor : searched (stretching Forward) two_matches (aimed 1 2) ≡ straight 2 4
-  pub both_at_one : each_settled (searched (record { way = Forward; extend = false }) two_matches) (listed (only 0 ∷ aimed 1 2 ∷ []) 1) ≡ listed (straight 3 4 ∷ []) 0
-  pub sorted : each_settled (searched (record { way = Forward; extend = false }) two_matches) (listed (only 2 ∷ only 5 ∷ []) 0) ≡ listed (straight 0 1 ∷ straight 3 4 ∷ []) 1
+  pub both_at_one : each_settled (searched (record { direction = Forward; extend = false }) two_matches) (listed (only 0 ∷ aimed 1 2 ∷ []) 1) ≡ listed (straight 3 4 ∷ []) 0
+  pub sorted : each_settled (searched (record { direction = Forward; extend = false }) two_matches) (listed (only 2 ∷ only 5 ∷ []) 0) ≡ listed (straight 0 1 ∷ straight 3 4 ∷ []) 1
   pub of_the_main_one : main_settled (sought Forward two_matches) (listed (only 2 ∷ only 5 ∷ []) 1) ≡ listed (straight 0 1 ∷ only 2 ∷ []) 0
   pub one_more : main_added (sought Forward two_matches) (listed (only 2 ∷ only 5 ∷ []) 1) ≡ listed (straight 0 1 ∷ only 2 ∷ only 5 ∷ []) 0

@@ -1,14 +1,10 @@
 -- What matches select. A match is a range of the bytes of what was searched.
-use Rattle.std.specs.Prelude.{ℕ, suc, ◌+◌, ◌-◌, ◌==◌, min, nat_lt, false, if◌then◌else◌, None, List, [], ◌∷◌, ◌++◌, length, flat_map, encode_utf8}
+use Rattle.std.specs.Prelude.{ℕ, ◌+◌, ◌-◌, min, nat_lt, false, if◌then◌else◌, None, List, [], ◌∷◌, ◌++◌, length, flat_map}
 use Rattle.list_model.specs.Ranges.{Range, Selected}
 use Rattle.list_model.specs.Settling.{settled}
 use Rattle.regex_ports.specs.declared.pattern.Span.{Span}
+use Rattle.regex_ports.specs.Matching.{chars_before}
 use Rattle.regex_select.specs.Rows.{selected_chars, spans_in}
-
--- how many of some characters begin before a byte of theirs
-abbrev pub chars_before : List ℕ → ℕ → ℕ
-chars_before [] b = 0
-chars_before (c ∷ cs) b = if b == 0 then 0 else suc (chars_before cs (b - length (encode_utf8 c)))
 
 -- what lies from an offset on and before another, as a straight selection without a target; nothing is none
 abbrev pub part_between : ℕ → ℕ → List Range

@@ -3,8 +3,8 @@ use Rattle.std.specs.Prelude.{ℕ, zero, suc, ◌+◌, List, length, Option, enc
 use Rattle.list_model.specs.Ranges.{Range}
 use Rattle.regex_ports.specs.declared.pattern.Span.{Span}
 use Rattle.regex_ports.specs.Seeking.{first_behind, last_before}
-use Rattle.regex_select.specs.declared.way.Way.{Way}
-use Rattle.regex_select.specs.declared.way.Way.TheVariants.{Forward, Backward}
+use Rattle.directions.specs.declared.direction.Direction.{Direction}
+use Rattle.directions.specs.declared.direction.Direction.TheVariants.{Forward, Backward}
 use Rattle.regex_select.specs.Walks.{bytes_of_first}
 
 -- the byte before which a match has to begin that begins before a character: that behind the first byte of the character
@@ -14,6 +14,6 @@ byte_bound cs zero = 0
 byte_bound cs (suc n) = bytes_of_first cs n + 1
 
 -- which of some matches in the characters of a text is found from a selection
-abbrev pub span_sought : Way → List ℕ → List Span → Range → Option Span
+abbrev pub span_sought : Direction → List ℕ → List Span → Range → Option Span
 span_sought Forward cs ss r = first_behind (bytes_of_first cs r.high) (length (encode_utf8_all cs)) ss
 span_sought Backward cs ss r = last_before (byte_bound cs r.low) (length (encode_utf8_all cs)) ss

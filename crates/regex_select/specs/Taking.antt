@@ -8,7 +8,7 @@ use Rattle.regex_ports.specs.declared.pattern.Span.{Span}
 use Rattle.regex_select.specs.declared.taking.Take.{Take}
 use Rattle.regex_select.specs.declared.taking.Take.TheVariants.{Matches, Parts}
 use Rattle.regex_select.specs.Rows.{selected_chars, spans_in}
-use Rattle.regex_select.specs.Selecting.{part_between, selected_by_all, parts_from}
+use Rattle.regex_select.specs.Selecting.{match_end, part_between, selected_by_all, parts_from}
 use Rattle.regex_select.specs.Walks.{own_chars}
 
 -- what some matches select in characters that begin at an offset, or the parts that they leave
@@ -27,6 +27,10 @@ made_of what text sel spans = taken_by what (own_chars text sel) (offset text se
 -- what lies in a selection from one of its characters on and before another
 abbrev pub part_of : List ℕ → Sel → ℕ → ℕ → List Range
 part_of text sel from to = part_between (offset text sel.low + from) (offset text sel.low + to)
+
+-- what a match selects in a selection, from one of its characters on and before another
+abbrev pub part_found : List ℕ → Sel → ℕ → ℕ → List Range
+part_found text sel from to = part_of text sel from (match_end (own_chars text sel) from to)
 
 -- a list has become another, with these ranges behind those that it had
 abbrev pub AreAdded : List ℕ → List Sel → List Sel → List Range → Type 0

@@ -14,7 +14,7 @@ ghost use Rattle.list_model.specs.Settling.{each_settled};
 ghost use Rattle.selection_set.specs.Inside.{range_of, IsInside};
 ghost use Rattle.selection_set.specs.Listing.{AreInside, ranges_of, IsPairInside};
 ghost use Rattle.selection_set.specs.Held.{selected, IsHeld};
-ghost use Rattle.regex_select.specs.Searching.{all_matches, on_the_way, sought, searched, main_settled, main_added};
+ghost use Rattle.regex_select.specs.Searching.{all_matches, on_the_way, sought, searched, match_from, search_of, main_added, IsMainSettled, IsEachSettled};
 ghost use Rattle.regex_select.specs.Causes.{IsForNone, IsForOneMore};
 
 use crate::error::SelectError;
@@ -22,8 +22,9 @@ use crate::seeking::{selected_by, span_sought};
 use crate::settling::settled;
 use crate::stretching::{reached, search_each};
 use crate::taking::push;
-use crate::way::{Search, Way, order};
+use crate::way::{Search, order};
 use crate::whole::all_matches;
+use directions::Direction;
 use line_buffer::Lines;
 use regex_ports::Pattern;
 use selection_set::{Pair, Sel, Sels};
@@ -36,10 +37,10 @@ fn matches<P: Pattern>(
     alloc: Global,
     lines: &Lines,
     pattern: &P,
-    way: Way,
+    direction: Direction,
 ) -> Result<SmallVec<Sel, 4>, SelectError>
     ensures inside { IfOk result (λ v. AreInside lines.now v.items) }
-    ensures ranges { IfOk result (λ v. ranges_of lines.now v.items ≡ on_the_way way (all_matches (P.source pattern.now) lines.now)) }
+    ensures ranges { IfOk result (λ v. ranges_of lines.now v.items ≡ on_the_way direction (all_matches (P.source pattern.now) lines.now)) }
     ensures some { IfOk result (λ v. 0 < length v.items) }
     ensures refused { IfErr result (λ e. IsForNone e (all_matches (P.source pattern.now) lines.now)) }
 {
@@ -47,7 +48,7 @@ fn matches<P: Pattern>(
     if list.is_empty() {
         return Err(SelectError::NoMatch);
     }
-    order(list.as_mut_slice(), way);
+    order(list.as_mut_slice(), direction);
     Ok(list)
 }
 
@@ -57,17 +58,17 @@ fn sought<P: Pattern>(
     lines: &Lines,
     from: Sel,
     pattern: &P,
-    way: Way,
+    direction: Direction,
 ) -> Result<Sel, SelectError>
     requires { IsInside lines.now from }
     ensures inside { IfOk result (λ s. IsInside lines.now s) }
-    ensures seeks { IfOk result (λ s. range_of lines.now s ≡ sought way (all_matches (P.source pattern.now) lines.now) (range_of lines.now from)) }
+    ensures seeks { IfOk result (λ s. range_of lines.now s ≡ sought direction (all_matches (P.source pattern.now) lines.now) (range_of lines.now from)) }
     ensures some { IfOk result (λ s. 0 < length (all_matches (P.source pattern.now) lines.now)) }
     ensures refused { IfErr result (λ e. IsForNone e (all_matches (P.source pattern.now) lines.now)) }
 {
     // its contract says that the lines are a text's
     let _stored = lines.len();
-    match span_sought(alloc, lines, from, pattern, way)? {
+    match span_sought(alloc, lines, from, pattern, direction)? {
         None => Err(SelectError::NoMatch),
         Some(span) => match selected_by(lines, span) {
             Some(found) => Ok(found),
@@ -86,13 +87,13 @@ fn search_at_main<P: Pattern>(
 ) -> Result<Sels, SelectError>
     requires { IsHeld lines.now sels.now }
     ensures held { IfOk result (λ s. IsHeld lines.now s) }
-    ensures searches { IfOk result (λ s. selected lines.now s ≡ main_settled (searched search (all_matches (P.source pattern.now) lines.now)) (selected lines.now sels.now)) }
+    ensures searches { IfOk result (IsMainSettled lines.now (search_of search (P.source pattern.now) lines.now) sels.now) }
     ensures some { IfOk result (λ s. 0 < length (all_matches (P.source pattern.now) lines.now)) }
     ensures refused { IfErr result (λ e. IsForNone e (all_matches (P.source pattern.now) lines.now)) }
 {
     let main = sels.main();
     let sel = sels.at(main);
-    let found = sought(alloc, lines, sel, pattern, search.way)?;
+    let found = sought(alloc, lines, sel, pattern, search.direction)?;
     let mut list = SmallVec::from_slice(alloc, sels.as_slice())?;
     list[main] = reached(sel, found, search.extend);
     Ok(settled(alloc, list, main)?)
@@ -114,14 +115,14 @@ pub fn search<P: Pattern>(
 ) -> Result<Sels, SelectError>
     requires { IsHeld lines.now sels.now }
     ensures held { IfOk result (λ s. IsHeld lines.now s) }
-    ensures searches { IfOk result (λ s. selected lines.now s ≡ each_settled (searched search (all_matches (P.source pattern.now) lines.now)) (selected lines.now sels.now)) }
+    ensures searches { IfOk result (IsEachSettled lines.now (search_of search (P.source pattern.now) lines.now) sels.now) }
     ensures some { IfOk result (λ s. 0 < length (all_matches (P.source pattern.now) lines.now)) }
     ensures refused { IfErr result (λ e. IsForNone e (all_matches (P.source pattern.now) lines.now)) }
 {
     if sels.len() == 1 {
         return search_at_main(alloc, lines, sels, pattern, search);
     }
-    let matches = matches(alloc, lines, pattern, search.way)?;
+    let matches = matches(alloc, lines, pattern, search.direction)?;
     let mut list = SmallVec::from_slice(alloc, sels.as_slice())?;
     search_each(list.as_mut_slice(), matches.as_slice(), search);
     Ok(settled(alloc, list, sels.main())?)
@@ -136,15 +137,24 @@ pub fn search_main<P: Pattern>(
     lines: &Lines,
     sels: &Sels,
     pattern: &P,
-    way: Way,
+    direction: Direction,
 ) -> Result<Sels, SelectError>
     requires { IsHeld lines.now sels.now }
     ensures held { IfOk result (λ s. IsHeld lines.now s) }
-    ensures searches { IfOk result (λ s. selected lines.now s ≡ main_settled (sought way (all_matches (P.source pattern.now) lines.now)) (selected lines.now sels.now)) }
+    ensures searches { IfOk result (IsMainSettled lines.now (match_from direction (P.source pattern.now) lines.now) sels.now) }
     ensures some { IfOk result (λ s. 0 < length (all_matches (P.source pattern.now) lines.now)) }
     ensures refused { IfErr result (λ e. IsForNone e (all_matches (P.source pattern.now) lines.now)) }
 {
-    search_at_main(alloc, lines, sels, pattern, Search { way, extend: false })
+    search_at_main(
+        alloc,
+        lines,
+        sels,
+        pattern,
+        Search {
+            direction,
+            extend: false,
+        },
+    )
 }
 
 /// Adds the match that is found from the main selection, which becomes the main one; the others stay.
@@ -156,16 +166,16 @@ pub fn add_match<P: Pattern>(
     lines: &Lines,
     sels: &Sels,
     pattern: &P,
-    way: Way,
+    direction: Direction,
 ) -> Result<Sels, SelectError>
     requires { IsHeld lines.now sels.now }
     ensures held { IfOk result (λ s. IsHeld lines.now s) }
-    ensures adds { IfOk result (λ s. selected lines.now s ≡ main_added (sought way (all_matches (P.source pattern.now) lines.now)) (selected lines.now sels.now)) }
+    ensures adds { IfOk result (λ s. selected lines.now s ≡ main_added (match_from direction (P.source pattern.now) lines.now) (selected lines.now sels.now)) }
     ensures some { IfOk result (λ s. 0 < length (all_matches (P.source pattern.now) lines.now)) }
     ensures room { IfOk result (λ s. length sels.now.list < MAX_SELECTIONS) }
     ensures refused { IfErr result (λ e. IsForOneMore e (all_matches (P.source pattern.now) lines.now) (length sels.now.list)) }
 {
-    let found = sought(alloc, lines, sels.at(sels.main()), pattern, way)?;
+    let found = sought(alloc, lines, sels.at(sels.main()), pattern, direction)?;
     let count = sels.len();
     if count == MAX_SELECTIONS {
         return Err(SelectError::TooMany);
@@ -184,16 +194,16 @@ pub fn next_match<P: Pattern>(
     lines: &Lines,
     from: Sel,
     pattern: &P,
-    way: Way,
+    direction: Direction,
 ) -> Result<Pair, SelectError>
     requires { IsInside lines.now from }
     ensures inside { IfOk result (λ pair. IsPairInside lines.now pair) }
-    ensures anchor { IfOk result (λ pair. offset lines.now pair.anchor ≡ (sought way (all_matches (P.source pattern.now) lines.now) (range_of lines.now from)).low) }
-    ensures cursor { IfOk result (λ pair. offset lines.now pair.cursor ≡ (sought way (all_matches (P.source pattern.now) lines.now) (range_of lines.now from)).high) }
+    ensures anchor { IfOk result (λ pair. offset lines.now pair.anchor ≡ (match_from direction (P.source pattern.now) lines.now (range_of lines.now from)).low) }
+    ensures cursor { IfOk result (λ pair. offset lines.now pair.cursor ≡ (match_from direction (P.source pattern.now) lines.now (range_of lines.now from)).high) }
     ensures some { IfOk result (λ pair. 0 < length (all_matches (P.source pattern.now) lines.now)) }
     ensures refused { IfErr result (λ e. IsForNone e (all_matches (P.source pattern.now) lines.now)) }
 {
-    let found = sought(alloc, lines, from, pattern, way)?;
+    let found = sought(alloc, lines, from, pattern, direction)?;
     Ok(Pair {
         anchor: found.low,
         cursor: found.high,

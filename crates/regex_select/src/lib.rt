@@ -23,4 +23,4 @@ pub use error::SelectError;
 pub use finding::{add_match, next_match, search, search_main};
 pub use keeping::keep;
 pub use matching::{matches_in, split_in};
-pub use way::{Search, Way};
+pub use way::Search;

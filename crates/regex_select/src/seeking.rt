@@ -14,9 +14,9 @@ use crate::gathering::Gathered;
 use crate::searching::behind;
 use crate::taking::found;
 use crate::walking::{start, walk_to};
-use crate::way::Way;
 use crate::whole::whole;
 use crate::writing::with_part;
+use directions::Direction;
 use kak_text::Coord;
 use line_buffer::Lines;
 use regex_ports::{Pattern, Span};
@@ -66,7 +66,7 @@ fn span_behind<P: Pattern>(
     pattern: &P,
 ) -> Result<Option<Span>, AllocError>
     requires { IsInside lines.now from }
-    ensures { IfOk result (λ span. span ≡ span_sought Way.Forward lines.now (spans_in (P.source pattern.now) lines.now) (range_of lines.now from)) }
+    ensures { IfOk result (λ span. span ≡ span_sought Direction.Forward lines.now (spans_in (P.source pattern.now) lines.now) (range_of lines.now from)) }
 {
     let (text, byte) = written_around(alloc, lines, from.high)?;
     pattern.first_behind(alloc, text.as_str(), byte)
@@ -80,7 +80,7 @@ fn span_before<P: Pattern>(
     pattern: &P,
 ) -> Result<Option<Span>, AllocError>
     requires { IsInside lines.now from }
-    ensures { IfOk result (λ span. span ≡ span_sought Way.Backward lines.now (spans_in (P.source pattern.now) lines.now) (range_of lines.now from)) }
+    ensures { IfOk result (λ span. span ≡ span_sought Direction.Backward lines.now (spans_in (P.source pattern.now) lines.now) (range_of lines.now from)) }
 {
     let (text, byte) = written_before(alloc, lines, from.low)?;
     pattern.last_before(alloc, text.as_str(), byte)
@@ -93,14 +93,14 @@ pub(crate) fn span_sought<P: Pattern>(
     lines: &Lines,
     from: Sel,
     pattern: &P,
-    way: Way,
+    direction: Direction,
 ) -> Result<Option<Span>, AllocError>
     requires { IsInside lines.now from }
-    ensures { IfOk result (λ span. span ≡ span_sought way lines.now (spans_in (P.source pattern.now) lines.now) (range_of lines.now from)) }
+    ensures { IfOk result (λ span. span ≡ span_sought direction lines.now (spans_in (P.source pattern.now) lines.now) (range_of lines.now from)) }
 {
-    match way {
-        Way::Forward => span_behind(alloc, lines, from, pattern),
-        Way::Backward => span_before(alloc, lines, from, pattern),
+    match direction {
+        Direction::Forward => span_behind(alloc, lines, from, pattern),
+        Direction::Backward => span_before(alloc, lines, from, pattern),
     }
 }
 

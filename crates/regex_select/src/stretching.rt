@@ -23,13 +23,13 @@ pub(crate) fn reached(sel: Sel, found: Sel, extend: bool) -> Sel
 // Makes of each selection what a search makes of it, where the selections too are in the order of its way.
 fn search_on(list: &mut [Sel], matches: &[Sel], search: Search)
     requires some { 0 < length matches.now }
-    requires order { GoesAhead search.way list.old }
+    requires order { GoesAhead search.direction list.old }
     ensures { list.new ≡ map (searched_at search matches.now) list.old }
 {
     let mut passed = 0;
     for n in 0..list.len() {
         let sel = list[n];
-        passed = first_ahead(search.way, sel, matches, passed);
+        passed = first_ahead(search.direction, sel, matches, passed);
         list[n] = reached(sel, match_at(matches, passed), search.extend);
     }
 }
@@ -38,10 +38,10 @@ fn search_on(list: &mut [Sel], matches: &[Sel], search: Search)
 /// selections and over the matches once.
 pub(crate) fn search_each(list: &mut [Sel], matches: &[Sel], search: Search)
     requires some { 0 < length matches.now }
-    requires order { GoesAhead search.way (on_the_way search.way list.old) }
+    requires order { GoesAhead search.direction (on_the_way search.direction list.old) }
     ensures { list.new ≡ map (searched_at search matches.now) list.old }
 {
-    order(list, search.way);
+    order(list, search.direction);
     search_on(list, matches, search);
-    order(list, search.way);
+    order(list, search.direction);
 }

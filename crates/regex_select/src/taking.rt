@@ -6,7 +6,7 @@ ghost use Rattle.text_model.specs.Texts.{offset, IsPlace, IsPlaceOrEnd};
 ghost use Rattle.selection_set.specs.Inside.{IsInside};
 ghost use Rattle.selection_set.specs.Listing.{AreInside, ranges_of};
 ghost use Rattle.regex_select.specs.Selecting.{match_end};
-ghost use Rattle.regex_select.specs.Taking.{made_of, part_of, AreAdded};
+ghost use Rattle.regex_select.specs.Taking.{made_of, part_of, part_found, AreAdded};
 ghost use Rattle.regex_select.specs.Walks.{own_chars, IsWalk};
 ghost use Rattle.regex_select.specs.Causes.{IsForRoom};
 
@@ -93,7 +93,7 @@ pub(crate) fn found(
     requires first { IsWalk lines.now sel first }
     requires end { IsWalk lines.now sel end }
     ensures inside { IfSome result (λ s. IsInside lines.now s) }
-    ensures range { ranges_of lines.now (option_to_list result) ≡ part_of lines.now sel first.passed (match_end (own_chars lines.now sel) first.passed end.passed) }
+    ensures range { ranges_of lines.now (option_to_list result) ≡ part_found lines.now sel first.passed end.passed }
 {
     if first.passed < end.passed {
         return part(lines, sel, first, end);

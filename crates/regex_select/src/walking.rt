@@ -5,7 +5,7 @@ ghost use Rattle.text_model.specs.declared.TheConstants.{MAX_CHARS};
 ghost use Rattle.text_model.specs.Texts.{IsPlace, IsPlaceOrEnd, offset, nth_line};
 ghost use Rattle.selection_set.specs.Inside.{IsInside};
 ghost use Rattle.compact_chars.specs.Rows.{chars_of};
-ghost use Rattle.regex_select.specs.Selecting.{chars_before};
+ghost use Rattle.regex_ports.specs.Matching.{chars_before};
 ghost use Rattle.regex_select.specs.Walks.{bytes_of_first, own_chars, IsWalk};
 
 use compact_chars::CharsRef;

@@ -1,61 +1,54 @@
-//! The two ways of a search over a text, and what is ahead on them.
+//! The way of a search over a text, and what is ahead on it.
 
 ghost use Rattle.std.specs.Prelude.{◌≡◌, ◌<◌, ◌≤◌, ◌++◌, true, length, take, drop, slice_index_or};
 ghost use Rattle.selection_set.specs.declared.sel.Sel.{Sel};
 ghost use Rattle.regex_select.specs.Searching.{on_the_way, first_or};
 ghost use Rattle.regex_select.specs.Ways.{is_ahead_at, ArePassed};
 
+use directions::Direction;
 use selection_set::Sel;
-
-/// A way of a search over a text.
-#[derive(Clone, Copy, PartialEq, Eq, Debug)]
-pub enum Way {
-    /// To the first match that begins behind a selection.
-    Forward,
-    /// To the last match that begins before it.
-    Backward,
-}
 
 /// How each selection of a list is searched from.
 #[derive(Clone, Copy, PartialEq, Eq, Debug)]
 pub struct Search {
-    /// Where the match lies that is sought.
-    pub way: Way,
+    /// Where the match lies that is sought: the first one that begins behind the selection, or, backward, the last one that
+    /// begins before it.
+    pub direction: Direction,
     /// Whether the selection is stretched from its anchor to the match's last character; else it becomes the match.
     pub extend: bool,
 }
 
 /// Puts selections that are in the order of the text into that in which a search comes to them, and back.
-pub(crate) fn order(list: &mut [Sel], way: Way)
-    ensures { list.new ≡ on_the_way way list.old }
+pub(crate) fn order(list: &mut [Sel], direction: Direction)
+    ensures { list.new ≡ on_the_way direction list.old }
 {
-    match way {
-        Way::Forward => {}
-        Way::Backward => list.reverse(),
+    match direction {
+        Direction::Forward => {}
+        Direction::Backward => list.reverse(),
     }
 }
 
 // Whether a match is ahead of a selection.
-fn is_ahead(way: Way, sel: Sel, found: Sel) -> bool
-    ensures { result ≡ is_ahead_at way sel found }
+fn is_ahead(direction: Direction, sel: Sel, found: Sel) -> bool
+    ensures { result ≡ is_ahead_at direction sel found }
 {
-    match way {
-        Way::Forward => !found.low.is_at_most(sel.high),
-        Way::Backward => !sel.low.is_at_most(found.low),
+    match direction {
+        Direction::Forward => !found.low.is_at_most(sel.high),
+        Direction::Backward => !sel.low.is_at_most(found.low),
     }
 }
 
 /// The place of the first match that is ahead of a selection, or how many matches there are. It is sought from a place on
 /// before which none is ahead, and costs the matches from there to the one that is found.
-pub(crate) fn first_ahead(way: Way, sel: Sel, matches: &[Sel], from: usize) -> usize
+pub(crate) fn first_ahead(direction: Direction, sel: Sel, matches: &[Sel], from: usize) -> usize
     requires few { from ≤ length matches.now }
-    requires passed { ArePassed way sel (take from matches.now) }
+    requires passed { ArePassed direction sel (take from matches.now) }
     ensures few { result ≤ length matches.now }
-    ensures passed { ArePassed way sel (take result matches.now) }
-    ensures ahead { (d : Sel) → result < length matches.now → is_ahead_at way sel (slice_index_or matches.now result d) ≡ true }
+    ensures passed { ArePassed direction sel (take result matches.now) }
+    ensures ahead { (d : Sel) → result < length matches.now → is_ahead_at direction sel (slice_index_or matches.now result d) ≡ true }
 {
     for n in from..matches.len() {
-        if is_ahead(way, sel, matches[n]) {
+        if is_ahead(direction, sel, matches[n]) {
             return n;
         }
     }

@@ -1,6 +1,5 @@
 -- The kinds of lines that runs are made of.
-use Rattle.std.specs.Prelude.{⊤, ℕ, ◌≤◌, Bool, List}
-use Rattle.kak_text.specs.declared.widths.TheConstants.{MAX_TABSTOP}
+use Rattle.std.specs.Prelude.{ℕ, Bool, List}
 use Rattle.text_objects.specs.declared.line_runs.LineKind.{LineKind}
 use Rattle.text_objects.specs.declared.line_runs.LineKind.TheVariants.{Full, Empty, Indented}
 use Rattle.text_objects.specs.LineObjects.{is_full, is_empty, is_indented}
@@ -9,10 +8,4 @@ use Rattle.text_objects.specs.LineObjects.{is_full, is_empty, is_indented}
 abbrev pub is_line_of : LineKind → List ℕ → ℕ → Bool
 is_line_of Full text n = is_full text n
 is_line_of Empty text n = is_empty text n
-is_line_of (Indented least tabstop) text n = is_indented text tabstop least n
-
--- the tab stop of a kind, where it has one, is within what windows have
-abbrev pub HasTabstop : LineKind → Type 0
-HasTabstop Full = ⊤
-HasTabstop Empty = ⊤
-HasTabstop (Indented least tabstop) = (1 ≤ tabstop) × (tabstop ≤ MAX_TABSTOP)
+is_line_of (Indented least tabstop) text n = is_indented text tabstop.columns least n

@@ -8,9 +8,9 @@ ghost use Rattle.motion_keys.specs.Words.{EndsAre};
 ghost use Rattle.text_objects.specs.LineObjects.{paragraph, paragraph_and_behind, indented_lines, indented_inside, inner_paragraph, around_paragraph, inner_indent, around_indent};
 
 use crate::line_runs::{LineKind, first_line, indentation, is_full, line_behind, whole_lines};
-use kak_text::MAX_TABSTOP;
 use line_buffer::Lines;
 use selection_set::{Pair, Sel};
+use window_view::Tabstop;
 
 // The paragraph that a line is in.
 fn paragraph(lines: &Lines, line: u32) -> Option<Pair>
@@ -42,11 +42,9 @@ fn paragraph_and_behind(lines: &Lines, line: u32) -> Option<Pair>
 }
 
 // The lines around a line that are empty or indented at least as it.
-fn indented_lines(lines: &Lines, line: u32, tabstop: u32) -> Option<Pair>
+fn indented_lines(lines: &Lines, line: u32, tabstop: Tabstop) -> Option<Pair>
     requires there { line < line_count lines.now }
-    requires some { 1 ≤ tabstop }
-    requires few { tabstop ≤ MAX_TABSTOP }
-    ensures { EndsAre lines.now result (indented_lines lines.now tabstop line) }
+    ensures { EndsAre lines.now result (indented_lines lines.now tabstop.columns line) }
 {
     let n = line as usize;
     if !is_full(lines, n) {
@@ -59,11 +57,9 @@ fn indented_lines(lines: &Lines, line: u32, tabstop: u32) -> Option<Pair>
 }
 
 // The same, without the empty lines at their ends.
-fn indented_inside(lines: &Lines, line: u32, tabstop: u32) -> Option<Pair>
+fn indented_inside(lines: &Lines, line: u32, tabstop: Tabstop) -> Option<Pair>
     requires there { line < line_count lines.now }
-    requires some { 1 ≤ tabstop }
-    requires few { tabstop ≤ MAX_TABSTOP }
-    ensures { EndsAre lines.now result (indented_inside lines.now tabstop line) }
+    ensures { EndsAre lines.now result (indented_inside lines.now tabstop.columns line) }
 {
     let n = line as usize;
     if !is_full(lines, n) {
@@ -98,21 +94,17 @@ pub fn around_paragraph(lines: &Lines, sel: &Sel) -> Option<Pair>
 /// the first character to the last newline. A line is indented up to its first character that is no blank, in cells,
 /// with a tab stop at each `tabstop` columns. None where the cursor's line is empty. It costs the indentation of these
 /// lines.
-pub fn inner_indent(lines: &Lines, sel: &Sel, tabstop: u32) -> Option<Pair>
+pub fn inner_indent(lines: &Lines, sel: &Sel, tabstop: Tabstop) -> Option<Pair>
     requires inside { IsInside lines.now sel.now }
-    requires some { 1 ≤ tabstop }
-    requires few { tabstop ≤ MAX_TABSTOP }
-    ensures gives { EndsAre lines.now result (inner_indent lines.now (cursor (range_of lines.now sel.now)) tabstop) }
+    ensures gives { EndsAre lines.now result (inner_indent lines.now (cursor (range_of lines.now sel.now)) tabstop.columns) }
 {
     indented_inside(lines, sel.cursor().line, tabstop)
 }
 
 /// The same with the empty lines at their ends.
-pub fn around_indent(lines: &Lines, sel: &Sel, tabstop: u32) -> Option<Pair>
+pub fn around_indent(lines: &Lines, sel: &Sel, tabstop: Tabstop) -> Option<Pair>
     requires inside { IsInside lines.now sel.now }
-    requires some { 1 ≤ tabstop }
-    requires few { tabstop ≤ MAX_TABSTOP }
-    ensures gives { EndsAre lines.now result (around_indent lines.now (cursor (range_of lines.now sel.now)) tabstop) }
+    ensures gives { EndsAre lines.now result (around_indent lines.now (cursor (range_of lines.now sel.now)) tabstop.columns) }
 {
     indented_lines(lines, sel.cursor().line, tabstop)
 }

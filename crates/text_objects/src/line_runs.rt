@@ -7,14 +7,14 @@ ghost use Rattle.motion_keys.specs.Words.{EndsAre};
 ghost use Rattle.text_objects.specs.Runs.{run_begin, run_end, chars_end};
 ghost use Rattle.text_objects.specs.RunObjects.{is_blank};
 ghost use Rattle.text_objects.specs.LineObjects.{is_full, indentation, lines_between};
-ghost use Rattle.text_objects.specs.LineKinds.{is_line_of, HasTabstop};
+ghost use Rattle.text_objects.specs.LineKinds.{is_line_of};
 
 use crate::runs::{CharKind, is_char_of};
 use compact_chars::CharsRef;
-use kak_text::{Coord, MAX_CHARS, MAX_TABSTOP};
+use kak_text::{Coord, MAX_CHARS};
 use line_buffer::Lines;
 use selection_set::Pair;
-use window_view::cell_of;
+use window_view::{Tabstop, cell_of};
 
 /// What a run is made of.
 #[derive(Clone, Copy, PartialEq, Eq, Debug)]
@@ -23,8 +23,8 @@ pub(crate) enum LineKind {
     Full,
     /// Empty lines.
     Empty,
-    /// Lines that are empty or indented at least so many columns, with a tab stop at each so many.
-    Indented(u32, u32),
+    /// Lines that are empty or indented at least so many columns.
+    Indented(u32, Tabstop),
 }
 
 // How many blanks a line begins with.
@@ -41,11 +41,9 @@ fn leading_blanks(line: CharsRef<'_>) -> usize
 }
 
 /// The display column of the first character of a line that is no blank.
-pub(crate) fn indentation(line: CharsRef<'_>, tabstop: u32) -> u32
-    requires some { 1 ≤ tabstop }
-    requires few { tabstop ≤ MAX_TABSTOP }
+pub(crate) fn indentation(line: CharsRef<'_>, tabstop: Tabstop) -> u32
     requires short { length (chars_of line) ≤ MAX_CHARS }
-    ensures { result ≡ indentation (chars_of line.entry) tabstop }
+    ensures { result ≡ indentation (chars_of line.entry) tabstop.columns }
 {
     cell_of(line, leading_blanks(line), tabstop)
 }
@@ -61,7 +59,6 @@ pub(crate) fn is_full(lines: &Lines, n: usize) -> bool
 // Whether a line is of a kind.
 fn is_line_of(lines: &Lines, n: usize, kind: LineKind) -> bool
     requires there { n < line_count lines.now }
-    requires stops { HasTabstop kind }
     ensures { result ≡ is_line_of kind lines.now n }
 {
     match kind {
@@ -76,7 +73,6 @@ fn is_line_of(lines: &Lines, n: usize, kind: LineKind) -> bool
 /// The first of the lines of a kind that stand right before a line; that line itself where there are none.
 pub(crate) fn first_line(lines: &Lines, from: usize, kind: LineKind) -> usize
     requires there { from ≤ line_count lines.now }
-    requires stops { HasTabstop kind }
     ensures value { result ≡ run_begin (is_line_of kind lines.now) from }
     ensures before { result ≤ from }
 {
@@ -93,7 +89,6 @@ pub(crate) fn first_line(lines: &Lines, from: usize, kind: LineKind) -> usize
 /// The line behind those of a kind that begin at a line; that line itself where there are none.
 pub(crate) fn line_behind(lines: &Lines, from: usize, kind: LineKind) -> usize
     requires there { from ≤ line_count lines.now }
-    requires stops { HasTabstop kind }
     ensures value { result ≡ run_end (is_line_of kind lines.now) from (line_count lines.now) }
     ensures behind { from ≤ result }
     ensures there { result ≤ line_count lines.now }

@@ -14,18 +14,16 @@ use crate::run_objects::{
     around_blanks, around_number, around_word, inner_blanks, inner_number, inner_word,
 };
 use crate::sentence_objects::{around_sentence, inner_sentence};
-use kak_text::MAX_TABSTOP;
 use line_buffer::Lines;
 use selection_set::{Pair, Sel};
+use window_view::Tabstop;
 
 /// The object of a kind that the cursor is in, from its first to its last character. Lines are indented by a tab stop at
 /// each `tabstop` columns. None where the cursor is in no such object, or where nothing stands between brackets or
 /// quotes. What it costs is said at the call of each kind.
-pub fn inner(lines: &Lines, sel: &Sel, object: Object, tabstop: u32) -> Option<Pair>
+pub fn inner(lines: &Lines, sel: &Sel, object: Object, tabstop: Tabstop) -> Option<Pair>
     requires inside { IsInside lines.now sel.now }
-    requires some { 1 ≤ tabstop }
-    requires few { tabstop ≤ MAX_TABSTOP }
-    ensures gives { EndsAre lines.now result (inner object lines.now (cursor (range_of lines.now sel.now)) tabstop) }
+    ensures gives { EndsAre lines.now result (inner object lines.now (cursor (range_of lines.now sel.now)) tabstop.columns) }
 {
     match object {
         Object::Word => inner_word(lines, sel, false),
@@ -46,11 +44,9 @@ pub fn inner(lines: &Lines, sel: &Sel, object: Object, tabstop: u32) -> Option<P
 }
 
 /// The same with what belongs to it: the blanks, empty lines or newlines at it, the sign, the brackets or the quotes.
-pub fn around(lines: &Lines, sel: &Sel, object: Object, tabstop: u32) -> Option<Pair>
+pub fn around(lines: &Lines, sel: &Sel, object: Object, tabstop: Tabstop) -> Option<Pair>
     requires inside { IsInside lines.now sel.now }
-    requires some { 1 ≤ tabstop }
-    requires few { tabstop ≤ MAX_TABSTOP }
-    ensures gives { EndsAre lines.now result (around object lines.now (cursor (range_of lines.now sel.now)) tabstop) }
+    ensures gives { EndsAre lines.now result (around object lines.now (cursor (range_of lines.now sel.now)) tabstop.columns) }
 {
     match object {
         Object::Word => around_word(lines, sel, false),

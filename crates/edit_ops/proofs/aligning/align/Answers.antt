@@ -28,9 +28,9 @@ pub returns-then-lack_too_much-clause-long : goal.returns-then-lack_too_much-cla
 returns-then-lack_too_much-clause-long c =
     let none : shares_line c.args.lines.now (ranges_of c.args.lines.now c.args.sels.now.list) ≡ false =
     shares-is c.args.lines.now c.args.sels.now c.as_slice-list.result.now c.share_lines.result c.requires.held c.as_slice-list.ensures.value c.share_lines.ensures ∙ c.if-share_lines.false in
-    let all : ℕ = put_together (alignments c.args.lines.now c.args.tabstop (ranges_of c.args.lines.now c.args.sels.now.list)) in
+    let all : ℕ = put_together (alignments c.args.lines.now c.args.tabstop.columns (ranges_of c.args.lines.now c.args.sels.now.list)) in
     let found : c.lack_too_much.result ≡ ltb MAX_CHARS all =
-    long-is c.args.lines.now c.args.tabstop c.args.sels.now.list c.as_slice-list.result.now c.greatest_column-last.result c.lack_too_much.result c.as_slice-list.ensures.value c.greatest_column-last.ensures c.lack_too_much.ensures in
+    long-is c.args.lines.now c.args.tabstop.columns c.args.sels.now.list c.as_slice-list.result.now c.greatest_column-last.result c.lack_too_much.result c.as_slice-list.ensures.value c.greatest_column-last.ensures c.lack_too_much.ensures in
     (λ _. (none, ltb-true MAX_CHARS all (sym found ∙ c.if-lack_too_much.true)), λ _. refl)
 
 pub returns-in_err-columns-clause-same_line : goal.returns-in_err-columns-clause-same_line
@@ -42,9 +42,9 @@ returns-in_err-columns-clause-same_line c =
 
 pub returns-in_err-columns-clause-long : goal.returns-in_err-columns-clause-long
 returns-in_err-columns-clause-long c =
-    let all : ℕ = put_together (alignments c.args.lines.now c.args.tabstop (ranges_of c.args.lines.now c.args.sels.now.list)) in
+    let all : ℕ = put_together (alignments c.args.lines.now c.args.tabstop.columns (ranges_of c.args.lines.now c.args.sels.now.list)) in
     let found : c.lack_too_much.result ≡ ltb MAX_CHARS all =
-    long-is c.args.lines.now c.args.tabstop c.args.sels.now.list c.as_slice-list.result.now c.greatest_column-last.result c.lack_too_much.result c.as_slice-list.ensures.value c.greatest_column-last.ensures c.lack_too_much.ensures in
+    long-is c.args.lines.now c.args.tabstop.columns c.args.sels.now.list c.as_slice-list.result.now c.greatest_column-last.result c.lack_too_much.result c.as_slice-list.ensures.value c.greatest_column-last.ensures c.lack_too_much.ensures in
     let few : all ≤ MAX_CHARS = ltb-false MAX_CHARS all (sym found ∙ c.if-lack_too_much.false) in
     let p = err_from_is_err_and c.from_residual.result c.from_residual.ensures.1 in
     (λ e. absurd (let two = sym p.1 ∙ e in cc (p.2)), λ both. absurd (omega (arith, both.1, few)))
@@ -58,9 +58,9 @@ returns-in_err-spaced-clause-same_line c =
 
 pub returns-in_err-spaced-clause-long : goal.returns-in_err-spaced-clause-long
 returns-in_err-spaced-clause-long c =
-    let all : ℕ = put_together (alignments c.args.lines.now c.args.tabstop (ranges_of c.args.lines.now c.args.sels.now.list)) in
+    let all : ℕ = put_together (alignments c.args.lines.now c.args.tabstop.columns (ranges_of c.args.lines.now c.args.sels.now.list)) in
     let found : c.lack_too_much.result ≡ ltb MAX_CHARS all =
-    long-is c.args.lines.now c.args.tabstop c.args.sels.now.list c.as_slice-list.result.now c.greatest_column-last.result c.lack_too_much.result c.as_slice-list.ensures.value c.greatest_column-last.ensures c.lack_too_much.ensures in
+    long-is c.args.lines.now c.args.tabstop.columns c.args.sels.now.list c.as_slice-list.result.now c.greatest_column-last.result c.lack_too_much.result c.as_slice-list.ensures.value c.greatest_column-last.ensures c.lack_too_much.ensures in
     let few : all ≤ MAX_CHARS = ltb-false MAX_CHARS all (sym found ∙ c.if-lack_too_much.false) in
     let p = err_from_is_err_and c.from_residual-in_err-spaced.result c.from_residual-in_err-spaced.ensures.1 in
     (λ e. absurd (let two = sym p.1 ∙ e in cc (p.2)), λ both. absurd (omega (arith, both.1, few)))
@@ -69,21 +69,21 @@ pub returns-clause-aligns : goal.returns-clause-aligns
 returns-clause-aligns c =
     let last : ℕ = c.greatest_column-last.result in
     let columns : List ℕ = c.as_slice.result.now in
-    let m : IsMeasured c.args.lines.now c.args.tabstop c.args.sels.now.list columns last =
-    measured c.args.lines.now c.args.tabstop c.args.sels.now.list c.as_slice-list.result.now c.in_ok-columns.columns.items columns last
+    let m : IsMeasured c.args.lines.now c.args.tabstop.columns c.args.sels.now.list columns last =
+    measured c.args.lines.now c.args.tabstop.columns c.args.sels.now.list c.as_slice-list.result.now c.in_ok-columns.columns.items columns last
     c.as_slice-list.ensures.value c.in_ok-columns.ensures c.as_slice.ensures.value c.greatest_column-last.ensures in
     ap (flat_splices c.args.lines.now) (c.in_ok-spaced.ensures ∙ ap (spaced last columns) c.as_slice-list.ensures.value)
-    ∙ spaced-flat c.args.lines.now c.args.tabstop last columns c.args.sels.now.list m.columns_are m.last_is
+    ∙ spaced-flat c.args.lines.now c.args.tabstop.columns last columns c.args.sels.now.list m.columns_are m.last_is
 
 pub returns-clause-splices : goal.returns-clause-splices
 returns-clause-splices c =
     let last : ℕ = c.greatest_column-last.result in
     let columns : List ℕ = c.as_slice.result.now in
-    let m : IsMeasured c.args.lines.now c.args.tabstop c.args.sels.now.list columns last =
-    measured c.args.lines.now c.args.tabstop c.args.sels.now.list c.as_slice-list.result.now c.in_ok-columns.columns.items columns last
+    let m : IsMeasured c.args.lines.now c.args.tabstop.columns c.args.sels.now.list columns last =
+    measured c.args.lines.now c.args.tabstop.columns c.args.sels.now.list c.as_slice-list.result.now c.in_ok-columns.columns.items columns last
     c.as_slice-list.ensures.value c.in_ok-columns.ensures c.as_slice.ensures.value c.greatest_column-last.ensures in
     subst (AreSplicesOf c.args.lines.now) (sym (c.in_ok-spaced.ensures ∙ ap (spaced last columns) c.as_slice-list.ensures.value))
-    (spaced-splices c.args.lines.now c.args.tabstop last columns c.args.sels.now c.requires.held m.columns_are m.last_is)
+    (spaced-splices c.args.lines.now c.args.tabstop.columns last columns c.args.sels.now c.requires.held m.columns_are m.last_is)
 
 pub returns-clause-same_line : goal.returns-clause-same_line
 returns-clause-same_line c =
@@ -93,15 +93,15 @@ returns-clause-same_line c =
 
 pub returns-clause-long : goal.returns-clause-long
 returns-clause-long c =
-    let all : ℕ = put_together (alignments c.args.lines.now c.args.tabstop (ranges_of c.args.lines.now c.args.sels.now.list)) in
+    let all : ℕ = put_together (alignments c.args.lines.now c.args.tabstop.columns (ranges_of c.args.lines.now c.args.sels.now.list)) in
     let found : c.lack_too_much.result ≡ ltb MAX_CHARS all =
-    long-is c.args.lines.now c.args.tabstop c.args.sels.now.list c.as_slice-list.result.now c.greatest_column-last.result c.lack_too_much.result c.as_slice-list.ensures.value c.greatest_column-last.ensures c.lack_too_much.ensures in
+    long-is c.args.lines.now c.args.tabstop.columns c.args.sels.now.list c.as_slice-list.result.now c.greatest_column-last.result c.lack_too_much.result c.as_slice-list.ensures.value c.greatest_column-last.ensures c.lack_too_much.ensures in
     let few : all ≤ MAX_CHARS = ltb-false MAX_CHARS all (sym found ∙ c.if-lack_too_much.false) in
     (λ e. absurd (cc (e)), λ both. absurd (omega (arith, both.1, few)))
 
 pub returns-clause-fits : goal.returns-clause-fits
 returns-clause-fits c =
-    let all : ℕ = put_together (alignments c.args.lines.now c.args.tabstop (ranges_of c.args.lines.now c.args.sels.now.list)) in
+    let all : ℕ = put_together (alignments c.args.lines.now c.args.tabstop.columns (ranges_of c.args.lines.now c.args.sels.now.list)) in
     let found : c.lack_too_much.result ≡ ltb MAX_CHARS all =
-    long-is c.args.lines.now c.args.tabstop c.args.sels.now.list c.as_slice-list.result.now c.greatest_column-last.result c.lack_too_much.result c.as_slice-list.ensures.value c.greatest_column-last.ensures c.lack_too_much.ensures in
+    long-is c.args.lines.now c.args.tabstop.columns c.args.sels.now.list c.as_slice-list.result.now c.greatest_column-last.result c.lack_too_much.result c.as_slice-list.ensures.value c.greatest_column-last.ensures c.lack_too_much.ensures in
     ltb-false MAX_CHARS all (sym found ∙ c.if-lack_too_much.false)

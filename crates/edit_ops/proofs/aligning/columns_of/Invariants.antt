@@ -6,7 +6,7 @@ use Rattle.edit_ops.proofs.aligning.columns_of.Given as goal
 
 abbrev pub invariant-loop-sel : goal.invariant-loop-sel
 invariant-loop-sel l = record {
-  so_far : l.columns.items ≡ map (cursor_column l.lines l.tabstop) (ranges_of l.lines (take l.sel-index l.sels));
+  so_far : l.columns.items ≡ map (cursor_column l.lines l.tabstop.columns) (ranges_of l.lines (take l.sel-index l.sels));
   count : length l.columns.items ≡ l.sel-index;
   reserved : length l.sels ≤ vec_capacity l.columns;
 }

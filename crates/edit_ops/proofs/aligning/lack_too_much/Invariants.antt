@@ -7,4 +7,4 @@ use Rattle.edit_ops.proofs.aligning.lack_too_much.Given as goal
 -- what is left of the room
 abbrev pub invariant-loop-sel : goal.invariant-loop-sel
 invariant-loop-sel l =
-    lacking l.last (map (cursor_column l.lines l.tabstop) (ranges_of l.lines l.sels)) + l.room ≡ MAX_CHARS + lacking l.last (map (cursor_column l.lines l.tabstop) (ranges_of l.lines (drop l.sel-index l.sels)))
+    lacking l.last (map (cursor_column l.lines l.tabstop.columns) (ranges_of l.lines l.sels)) + l.room ≡ MAX_CHARS + lacking l.last (map (cursor_column l.lines l.tabstop.columns) (ranges_of l.lines (drop l.sel-index l.sels)))

@@ -12,6 +12,6 @@ has_more-requires c =
 
 pub returns-clause-splices : goal.returns-clause-splices
 returns-clause-splices c =
-    kept-splices c.args.lines.now Touched (ranges_of c.args.lines.now c.args.sels.now.list) (has_more c.args.lines.now) (indent_at c.args.lines.now c.args.how c.args.width c.args.tabstop) c.as_slice-n-items.result.now c.loop-n.n-index
-    c.loop-n.splices.items (indents-keep c.args.lines.now c.args.how c.args.width c.args.tabstop c.lines_reached.ensures.valid.is_text) (c.as_slice-n-items.ensures.value ∙ c.in_ok-numbers.ensures.reached) (omega (arith, c.loop-n-test.false))
+    kept-splices c.args.lines.now Touched (ranges_of c.args.lines.now c.args.sels.now.list) (has_more c.args.lines.now) (indent_at c.args.lines.now c.args.how c.args.width c.args.tabstop.columns) c.as_slice-n-items.result.now c.loop-n.n-index
+    c.loop-n.splices.items (indents-keep c.args.lines.now c.args.how c.args.width c.args.tabstop.columns c.lines_reached.ensures.valid.is_text) (c.as_slice-n-items.ensures.value ∙ c.in_ok-numbers.ensures.reached) (omega (arith, c.loop-n-test.false))
     c.loop-n.invariant.so_far c.loop-n.invariant.ends

@@ -18,7 +18,7 @@ loop-sel-preserved c =
     let sel : Sel = get_or c.as_slice-sel-items.result.now i no_sel in
     let pushed = c.push_reserved.ensures.items in
     record {
-      so_far = ap (flat_splices text) pushed ∙ each-more (λ n r. put_in_at (opened_from text c.args.side r) (10 ∷ [])) text c.args.sels.now.list c.loop-sel.splices.items c.put_in_at.result sel no_sel i here
+      so_far = ap (flat_splices text) pushed ∙ each-more (λ n r. put_in_at (opened_from text c.args.direction r) (10 ∷ [])) text c.args.sels.now.list c.loop-sel.splices.items c.put_in_at.result sel no_sel i here
           (ap (λ xs. get_or xs i no_sel) c.as_slice-sel-items.ensures.value) c.loop-sel.invariant.so_far (ap (flat_splice text) c.put_in_at.ensures ∙ ap₂ put_in_at c.opened_from.ensures.value c.in_ok-newline.ensures);
       ends = subst (AllByRecursion (IsSpliceOf text)) (sym pushed) (ends-more text c.loop-sel.splices.items c.put_in_at.result c.loop-sel.invariant.ends
           (subst (IsSpliceOf text) (sym c.put_in_at.ensures) (record { from = c.opened_from.ensures.place; «to» = c.opened_from.ensures.place })));
@@ -29,5 +29,5 @@ loop-sel-preserved c =
 pub returns-clause-splices : goal.returns-clause-splices
 returns-clause-splices c =
     let all : take c.loop-sel.sel-index c.args.sels.now.list ≡ c.args.sels.now.list = take_all c.loop-sel.sel-index c.args.sels.now.list (omega (arith, ap length c.as_slice-sel-items.ensures.value)) in
-    held-splices (λ n r. put_in_at (opened_from c.args.lines.now c.args.side r) (10 ∷ [])) c.args.lines.now c.args.sels.now c.loop-sel.splices.items c.requires (opens-keep c.args.lines.now c.args.side (10 ∷ []))
-    (c.loop-sel.invariant.so_far ∙ ap (λ sels. opens c.args.lines.now c.args.side (ranges_of c.args.lines.now sels)) all) c.loop-sel.invariant.ends
+    held-splices (λ n r. put_in_at (opened_from c.args.lines.now c.args.direction r) (10 ∷ [])) c.args.lines.now c.args.sels.now c.loop-sel.splices.items c.requires (opens-keep c.args.lines.now c.args.direction (10 ∷ []))
+    (c.loop-sel.invariant.so_far ∙ ap (λ sels. opens c.args.lines.now c.args.direction (ranges_of c.args.lines.now sels)) all) c.loop-sel.invariant.ends

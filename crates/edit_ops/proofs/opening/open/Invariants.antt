@@ -8,7 +8,7 @@ use Rattle.edit_ops.proofs.opening.open.Given as goal
 
 abbrev pub invariant-loop-sel : goal.invariant-loop-sel
 invariant-loop-sel l = record {
-  so_far : flat_splices l.lines l.splices.items ≡ opens l.lines l.side (ranges_of l.lines (take l.sel-index l.sels.list));
+  so_far : flat_splices l.lines l.splices.items ≡ opens l.lines l.direction (ranges_of l.lines (take l.sel-index l.sels.list));
   ends : AllByRecursion (IsSpliceOf l.lines) l.splices.items;
   count : length l.splices.items ≡ l.sel-index;
   reserved : length l.sels.list ≤ vec_capacity l.splices;

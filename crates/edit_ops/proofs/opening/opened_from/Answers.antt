@@ -5,12 +5,12 @@ use Rattle.edit_ops.specs.Opening.{opened_from}
 use Rattle.edit_ops.proofs.PuttingLemmas.{line_begin-at, line_behind-at}
 use Rattle.edit_ops.proofs.opening.opened_from.Goals as goal
 
-pub returns-in-Below-clause-value : goal.returns-in-Below-clause-value
-returns-in-Below-clause-value c =
+pub returns-in-Forward-clause-value : goal.returns-in-Forward-clause-value
+returns-in-Forward-clause-value c =
     let text : List ℕ = c.args.lines.now in
-    ap (offset text) c.next_line.ensures.value ∙ sym (line_behind-at text c.args.sel.high c.requires.high) ∙ ap (λ side. opened_from text side (range_of text c.args.sel)) (sym c.in-Below.is)
+    ap (offset text) c.next_line.ensures.value ∙ sym (line_behind-at text c.args.sel.high c.requires.high) ∙ ap (λ direction. opened_from text direction (range_of text c.args.sel)) (sym c.in-Forward.is)
 
-pub returns-in-Above-clause-value : goal.returns-in-Above-clause-value
-returns-in-Above-clause-value c =
+pub returns-in-Backward-clause-value : goal.returns-in-Backward-clause-value
+returns-in-Backward-clause-value c =
     let text : List ℕ = c.args.lines.now in
-    ap (offset text) c.line_start.ensures.value ∙ sym (line_begin-at text c.args.sel.low c.requires.low) ∙ ap (λ side. opened_from text side (range_of text c.args.sel)) (sym c.in-Above.is)
+    ap (offset text) c.line_start.ensures.value ∙ sym (line_begin-at text c.args.sel.low c.requires.low) ∙ ap (λ direction. opened_from text direction (range_of text c.args.sel)) (sym c.in-Backward.is)

@@ -6,5 +6,5 @@ use Rattle.motion_keys.proofs.moves.aim.Goals as goal
 pub returns-in-None : goal.returns-in-None
 returns-in-None c =
     c.cell_of.ensures.value
-    ∙ ap (λ line. display_column line c.cursor-at.result.column c.args.tabstop) c.line.ensures.value
-    ∙ sym (aim-cursor c.args.lines.now c.args.sel.now c.cursor-at.result c.args.tabstop c.requires.inside c.cursor-at.ensures c.in-None.is)
+    ∙ ap (λ line. display_column line c.cursor-at.result.column c.args.tabstop.columns) c.line.ensures.value
+    ∙ sym (aim-cursor c.args.lines.now c.args.sel.now c.cursor-at.result c.args.tabstop.columns c.requires.inside c.cursor-at.ensures c.in-None.is)

@@ -7,10 +7,10 @@ use Rattle.motion_keys.proofs.moves.landing_column.Goals as goal
 
 pub returns-in-Some-clause-gives : goal.returns-in-Some-clause-gives
 returns-in-Some-clause-gives c =
-    ap (λ (found : Option ℕ). unwrap_or found (length (chars_of c.args.line) - 2)) (held-is (chars_of c.args.line) c.args.target c.args.tabstop (Some c.in-Some.column) c.in-Some.ensures.holds)
+    ap (λ (found : Option ℕ). unwrap_or found (length (chars_of c.args.line) - 2)) (held-is (chars_of c.args.line) c.args.target c.args.tabstop.columns (Some c.in-Some.column) c.in-Some.ensures.holds)
 
 pub returns-in-None-clause-gives : goal.returns-in-None-clause-gives
 returns-in-None-clause-gives c =
     c.saturating_sub.ensures
     ∙ ap (λ n. n - 2) c.len.ensures
-    ∙ ap (λ (found : Option ℕ). unwrap_or found (length (chars_of c.args.line) - 2)) (held-is (chars_of c.args.line) c.args.target c.args.tabstop None (c.in-None.ensures.none refl))
+    ∙ ap (λ (found : Option ℕ). unwrap_or found (length (chars_of c.args.line) - 2)) (held-is (chars_of c.args.line) c.args.target c.args.tabstop.columns None (c.in-None.ensures.none refl))

@@ -8,4 +8,4 @@ use Rattle.regex_ports.proofs.laws.group_examples.Goals as goal
 
 pub returns : goal.returns
 unfolding regex_on_literals find_str slot_of first_from matches_from attempt rounds is_boundary has_bytes_at
-returns c = record { one_takes_part = refl; last_time = refl; without_groups = refl; no_pattern = refl }
+returns c = record { one_takes_part = refl; last_time = refl; without_groups = refl; no_pattern = refl; numbers = refl; empty_one_too = refl }

@@ -5,7 +5,7 @@ use Rattle.regex_select.proofs.MadeLemmas.{made-held, made-selected, each-made}
 use Rattle.regex_select.proofs.finding.search.Goals as goal
 
 pub search_each-requires-clause-order : goal.search_each-requires-clause-order
-search_each-requires-clause-order g c = held-goes-on c.args.lines.now c.args.search.way c.args.sels.now c.as_mut_slice.result.now c.requires (c.as_mut_slice.ensures.value ∙ c.in_ok-list.ensures.ok ∙ c.as_slice.ensures.value)
+search_each-requires-clause-order g c = held-goes-on c.args.lines.now c.args.search.direction c.args.sels.now c.as_mut_slice.result.now c.requires (c.as_mut_slice.ensures.value ∙ c.in_ok-list.ensures.ok ∙ c.as_slice.ensures.value)
 
 pub returns-clause-held : goal.returns-clause-held
 returns-clause-held g c =

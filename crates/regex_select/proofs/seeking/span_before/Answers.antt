@@ -3,7 +3,7 @@ use Rattle.std.proofs.lemmas.Result.{IfOk-weaker}
 use Rattle.regex_ports.specs.Matching.{matches_of}
 use Rattle.regex_ports.specs.Seeking.{last_before}
 use Rattle.selection_set.specs.Inside.{range_of}
-use Rattle.regex_select.specs.declared.way.Way.TheVariants.{Backward}
+use Rattle.directions.specs.declared.direction.Direction.TheVariants.{Backward}
 use Rattle.regex_select.specs.Rows.{spans_in}
 use Rattle.regex_select.specs.Spans.{span_sought}
 use Rattle.regex_select.proofs.seeking.span_before.Goals as goal

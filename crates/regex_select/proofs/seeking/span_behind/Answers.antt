@@ -3,7 +3,7 @@ use Rattle.std.proofs.lemmas.Result.{IfOk-weaker}
 use Rattle.regex_ports.specs.Matching.{matches_of}
 use Rattle.regex_ports.specs.Seeking.{first_behind}
 use Rattle.selection_set.specs.Inside.{range_of}
-use Rattle.regex_select.specs.declared.way.Way.TheVariants.{Forward}
+use Rattle.directions.specs.declared.direction.Direction.TheVariants.{Forward}
 use Rattle.regex_select.specs.Rows.{spans_in}
 use Rattle.regex_select.specs.Spans.{span_sought}
 use Rattle.regex_select.proofs.seeking.span_behind.Goals as goal

@@ -1,7 +1,8 @@
 use Rattle.std.proofs.Common.{◌≡◌, ◌+◌, ◌-◌, drop, sym, ap, ◌∙◌, arith}
-use Rattle.regex_select.specs.Selecting.{chars_before}
+use Rattle.regex_ports.specs.Matching.{chars_before}
 use Rattle.regex_select.specs.Walks.{own_chars, IsWalk}
-use Rattle.regex_select.proofs.WalkLemmas.{chars-behind, chars-begun, chars-done, chars-over}
+use Rattle.regex_ports.proofs.CharLemmas.{chars-done, chars-over}
+use Rattle.regex_select.proofs.WalkLemmas.{chars-behind, chars-begun}
 use Rattle.regex_select.proofs.MatchedLemmas.{walk-inside, walk-over}
 use Rattle.regex_select.proofs.walking.walk_to.Goals as goal
 

@@ -1,5 +1,5 @@
 use Rattle.std.proofs.Common.{◌≡◌, ◌+◌, ◌-◌, length, drop}
-use Rattle.regex_select.specs.Selecting.{chars_before}
+use Rattle.regex_ports.specs.Matching.{chars_before}
 use Rattle.regex_select.specs.Walks.{own_chars, IsWalk}
 use Rattle.regex_select.proofs.walking.walk_to.Given as goal
 

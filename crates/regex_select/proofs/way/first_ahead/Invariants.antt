@@ -3,4 +3,4 @@ use Rattle.regex_select.specs.Ways.{ArePassed}
 use Rattle.regex_select.proofs.way.first_ahead.Given as goal
 
 abbrev pub invariant-loop-n : goal.invariant-loop-n
-invariant-loop-n l = record { few : l.n ≤ length l.matches; passed : ArePassed l.way l.sel (take l.n l.matches) }
+invariant-loop-n l = record { few : l.n ≤ length l.matches; passed : ArePassed l.direction l.sel (take l.n l.matches) }
