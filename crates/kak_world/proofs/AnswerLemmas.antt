@@ -35,6 +35,10 @@ error-of d (Err z) = z
 pub ok-err : {T : Type 0} {E : Type 0} (x : T) (e : E) → ◌≡◌ {A = Result T E} (Ok x) (Err e) → ⊥
 ok-err x e h = let no : true ≡ false = ap is-ok h in cc
 
+-- an answer that is the same
+pub ok-as : {T : Type 0} {E : Type 0} (P : Type 0) (r s : Result T E) → r ≡ s → OnOk s P → OnOk r P
+ok-as P r s e p = subst (λ x. OnOk x P) (sym e) p
+
 -- what holds of an answer without a value holds of it with one
 pub carried-ok : {T : Type 0} {E : Type 0} (P : Type 0) (d : Result (Unit {0}) E) (x : T) (r : Result T E) → CarriesValue d x r → OnOk d P → OnOk r P
 carried-ok P (Ok u) x (Ok y) c p = p
@@ -57,3 +61,7 @@ carried-to (Err f) x r e c h = c ∙ ap Err (ap (error-of f) h)
 pub carried-from : {T : Type 0} {E : Type 0} (d : Result (Unit {0}) E) (x : T) (r : Result T E) (e : E) → CarriesValue d x r → IsErrOf r e → IsErrOf d e
 carried-from (Ok u) x r e c h = absurd (let no : true ≡ false = ap is-ok (sym c ∙ h) in cc)
 carried-from (Err f) x r e c h = ap Err (ap (error-of f) (sym c ∙ h))
+
+pub on-ok-of : {T : Type 0} {E : Type 0} {P : Type 0} (r : Result T E) → P → OnOk r P
+on-ok-of (Ok x) p = p
+on-ok-of (Err e) p = tt

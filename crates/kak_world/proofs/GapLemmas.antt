@@ -6,12 +6,12 @@ use Rattle.tables.proofs.TableLemmas.{by_test}
 use Rattle.std.specs.declared.option.Option.{Option}
 use Rattle.kak_world.specs.declared.clients.Client.{Client}
 use Rattle.kak_world.specs.declared.world.Rest.{Rest}
-use Rattle.kak_world.specs.Flat.{Buffer, Flat, made_buffer, is_there, lowest, client_of, shown_of}
+use Rattle.kak_world.specs.Flat.{Buffer, Flat, made_buffer, is_there, lowest}
 use Rattle.kak_world.specs.Keeping.{KeepsClients}
 use Rattle.kak_world.specs.Seen.{Kept, HasBuffer}
 use Rattle.kak_world.specs.Showing.{first_gap, buffer_placed, buffer_opened, buffer_count, IsFirstGap, BufferStandsAt, GapsAreTaken}
 use Rattle.kak_world.proofs.WorldLemmas.{parts}
-use Rattle.kak_world.proofs.KeepingLaws.{listed_in, keeps-by-parts}
+use Rattle.kak_world.proofs.KeepingLaws.{listed_in, keeps_buffers}
 
 -- looking for the gap, in what is left of the slots
 pub gap-here : (bs : List (Option Buffer)) (i : ℕ) (d : Option Buffer) → i < length bs → is_none (get_or bs i d) ≡ true → i + first_gap (drop i bs) ≡ i
@@ -151,8 +151,8 @@ listed-placed k (suc n) name file text (Some a ∷ bs) = listed-placed k n name 
 
 -- nobody comes or goes
 pub keeps_opened : (name : List ℕ) (file : Bool) (text : List ℕ) (flat : Flat) → KeepsClients flat (buffer_opened name file text flat)
-unfolding buffer_opened shown_of client_of
-keeps_opened name file text flat = keeps-by-parts flat (buffer_opened name file text flat) refl (λ k. refl) (λ k n. listed-placed k n name file text flat.buffers)
+unfolding buffer_opened
+keeps_opened name file text flat = keeps_buffers _ flat (λ k n. listed-placed k n name file text flat.buffers)
 
 pub open-keeps : (name : List ℕ) (file : Bool) (text : List ℕ) (old now : Flat) → now ≡ buffer_opened name file text old → KeepsClients old now
 open-keeps name file text old now e = subst (KeepsClients old) (sym e) (keeps_opened name file text old)

@@ -1,40 +1,42 @@
--- Which changes keep the clients, and who is there when one comes or goes.
+-- Which changes keep the clients: each of the three setters by one law, and an operation on buffers by what it leaves of their
+-- lists. And who is there when a client comes or goes.
 use Rattle.std.proofs.Common.{◌≡◌, ℕ, zero, suc, ◌+◌, ◌≤◌, Bool, true, false, cond, ◌||◌, List, [], ◌∷◌, length, map, refl, sym, ap, ◌∙◌, length-append}
 use Rattle.std.specs.Prelude.{◌&&◌, ◌==◌, is_some, option_map, slice_index_or, Some, None}
 use Rattle.std.specs.List.{list_any}
 use Rattle.std.specs.declared.option.Option.{Option}
 use Rattle.std.proofs.lemmas.Bool.{eqb-true}
 use Rattle.std.proofs.lemmas.List.{length-map}
-use Rattle.tables.specs.Tables.{changed_where}
-use Rattle.tables.proofs.RowLemmas.{any-changed, first-kept, map-changed, any-added, first-added, any-left, none-left, first-left, fewer-left, any-with_other}
+use Rattle.tables.proofs.RowLemmas.{Leaves, any-changed, any-map, first-kept, map-changed, any-added, first-added, any-left, none-left, first-left, fewer-left, any-with_other}
 use Rattle.list_model.specs.Ranges.{Selected}
-use Rattle.window_view.specs.View.{View}
+use Rattle.window_view.specs.declared.corner.Corner.{Corner}
+use Rattle.text_model.specs.Changes.{Change}
 use Rattle.undo_model.specs.declared.travel.Travel.{Travel}
-use Rattle.undo_model.specs.Stories.{edited, is_undo_full}
-use Rattle.undo_model.specs.Moves.{target_of}
+use Rattle.undo_model.specs.Stories.{Story, edited, is_undo_full}
+use Rattle.undo_model.specs.Moves.{target_of, moved_by, move_changes}
+use Rattle.undo_model.specs.Marks.{left_by}
 use Rattle.undo_model.specs.Edits.{Splice, is_too_long}
+use Rattle.list_shelf.specs.Shelves.{Held, same_holder, is_held_by, list_moved}
 use Rattle.kak_world.specs.declared.ask.EditError.TheVariants.{UndoFull, TextFull}
-use Rattle.kak_world.specs.declared.holder.Holder.{Holder}
-use Rattle.kak_world.specs.declared.holder.Holder.TheVariants.{Of}
+use Rattle.list_shelf.specs.declared.holder.Holder.{Holder}
+use Rattle.list_shelf.specs.declared.holder.Holder.TheVariants.{Of}
 use Rattle.kak_world.specs.declared.own.Own.{Own}
 use Rattle.kak_world.specs.declared.clients.Client.{Client}
-use Rattle.kak_registers.specs.declared.row.Register.{Register}
+use Rattle.kak_world.specs.declared.world.Rest.{Rest}
 use Rattle.kak_registers.specs.declared.names.RegisterError.{RegisterError}
 use Rattle.kak_registers.specs.Refusals.{register_refusal}
 use Rattle.kak_world.specs.Registers.{set_unless, set_row}
-use Rattle.kak_world.specs.Flat.{Held, Buffer, Flat, fresh_list, newcomer, is_of, is_here, is_held_by, has_list, with_list, listed_for, committed_for, left_behind, buffer_or_scratch, changed_at, lowest, least_free, numbers_of, client_of, shown_of, buffer_of, story_of, text_of, is_joined, with_own, with_list_of, with_sels, with_view, with_units, joined_by, left_by_client, with_registers}
-use Rattle.kak_world.specs.Changing.{changed_in, splice_changes_of, edited_by, traveled_by, commits}
-use Rattle.kak_world.proofs.WorldLaws.{has-edited, has-traveled}
+use Rattle.kak_world.specs.Flat.{Buffer, Flat, fresh_list, newcomer, is_of, is_here, has_list, with_list, listed_for, committed_for, left_behind, buffer_or_scratch, changed_at, lowest, least_free, numbers_of, client_of, shown_of, buffer_of, story_of, text_of, is_joined, rest_of, turn_of, is_turn_of, acts, with_own, with_rest, with_buffers, with_list_of, with_sels, with_corner, with_units, joined_by, left_by_client}
+use Rattle.kak_world.specs.Changing.{buffer_changed, buffer_traveled, changed_in, splice_changes_of, edited_by, traveled_by, commits}
 use Rattle.kak_world.specs.Rows.{does, fails}
 use Rattle.kak_world.specs.Editing.{edit_row, travel_row, move_ends}
 use Rattle.kak_world.specs.Keeping.{whos_of, KeepsClients}
 
 pub keeps_same : (flat : Flat) → KeepsClients flat flat
-keeps_same flat = record { whos = refl; joined = λ k. refl }
+keeps_same flat = record { whos = refl; joined = λ k. refl; turn = refl }
 
 -- one change after another
 pub keeps_after : (a b c : Flat) → KeepsClients a b → KeepsClients b c → KeepsClients a c
-keeps_after a b c f g = record { whos = g.whos ∙ f.whos; joined = λ k. g.joined k ∙ f.joined k }
+keeps_after a b c f g = record { whos = g.whos ∙ f.whos; joined = λ k. g.joined k ∙ f.joined k; turn = g.turn ∙ f.turn }
 
 here-whos : (k : ℕ) (cs : List Client) → is_here k cs ≡ list_any (λ n. n == k) (whos_of cs)
 here-whos k [] = refl
@@ -60,13 +62,23 @@ pub is-joined-in : (k : ℕ) (flat : Flat) → is_joined k flat ≡ joined_in k 
 unfolding is_joined buffer_of
 is-joined-in k flat = refl
 
+-- the same ones act
+pub acts_kept : (who : ℕ) (old new : Flat) → KeepsClients old new → acts who new ≡ acts who old
+unfolding acts
+acts_kept who old new k = ap (λ b. b && is_turn_of who (turn_of new)) (k.joined who) ∙ ap (λ o. is_joined who old && is_turn_of who o) k.turn
+
+pub and-first : (a b : Bool) → (a && b) ≡ true → a ≡ true
+and-first true b h = refl
+and-first false b h = h
+
+pub and-second : (a b : Bool) → (a && b) ≡ true → b ≡ true
+and-second true b h = h
+and-second false b h = absurd (let no : false ≡ true = h in cc)
+
 -- who has joined is here
 pub here_joined : (k : ℕ) (flat : Flat) → is_joined k flat ≡ true → is_here k flat.clients ≡ true
-here_joined k flat j = first-true (is_here k flat.clients) (listed_in k (slice_index_or flat.buffers (shown_of k flat) None)) (sym (is-joined-in k flat) ∙ j)
-  where
-    first-true : (a b : Bool) → (a && b) ≡ true → a ≡ true
-    first-true true b e = refl
-    first-true false b e = e
+unfolding is_joined
+here_joined k flat j = and-first _ _ j
 
 pub joined-by-parts : (k : ℕ) (old new : Flat) → is_here k new.clients ≡ is_here k old.clients → shown_of k new ≡ shown_of k old
     → ((n : ℕ) → listed_in k (slice_index_or new.buffers n None) ≡ listed_in k (slice_index_or old.buffers n None)) → is_joined k new ≡ is_joined k old
@@ -77,22 +89,37 @@ joined-by-parts k old new here shown listed =
     ∙ ap (λ n. joined_in k (is_here k old.clients) n old.buffers) shown
     ∙ sym (is-joined-in k old)
 
-pub keeps-by-parts : (old new : Flat) → whos_of new.clients ≡ whos_of old.clients → ((k : ℕ) → shown_of k new ≡ shown_of k old)
+pub keeps-by-parts : (old new : Flat) → whos_of new.clients ≡ whos_of old.clients → turn_of new ≡ turn_of old → ((k : ℕ) → shown_of k new ≡ shown_of k old)
     → ((k n : ℕ) → listed_in k (slice_index_or new.buffers n None) ≡ listed_in k (slice_index_or old.buffers n None)) → KeepsClients old new
-keeps-by-parts old new whos shown listed = record {
+keeps-by-parts old new whos turn shown listed = record {
   whos = whos;
+  turn = turn;
   joined = λ k. joined-by-parts k old new (here-whos k new.clients ∙ ap (list_any (λ n. n == k)) whos ∙ sym (here-whos k old.clients)) (shown k) (listed k);
 }
 
 -- what is a client's own
 pub keeps_own : (who : ℕ) (f : Own → Own) (flat : Flat) → KeepsClients flat (with_own who f flat)
-unfolding with_own shown_of client_of
+unfolding with_own rest_of shown_of client_of
 keeps_own who f flat =
     let g : Client → Client = λ c. record c { own = f c.own } in
     keeps-by-parts flat (with_own who f flat)
     (map-changed (is_of who) g (λ c. c.who) flat.clients (λ c. refl))
+    refl
     (λ k. first-kept (is_of who) (is_of k) g (λ c. c.shown) (newcomer k 0 0) flat.clients (λ c. refl) (λ c. refl))
     (λ k n. refl)
+
+-- what is no buffer's and no client's, where the turn stays
+pub keeps_rest : (f : Rest → Rest) (flat : Flat) → ((r : Rest) → (f r).step.turn ≡ r.step.turn) → KeepsClients flat (with_rest f flat)
+unfolding with_rest rest_of shown_of client_of
+keeps_rest f flat same = keeps-by-parts flat (with_rest f flat) refl (same flat.rest) (λ k. refl) (λ k n. refl)
+
+pub keeps_units : (units : ℕ) (flat : Flat) → KeepsClients flat (with_units units flat)
+keeps_units units flat = keeps_rest _ flat (λ r. refl)
+
+-- the buffers, where each client has a list on the same ones
+pub keeps_buffers : (buffers : List (Option Buffer)) (flat : Flat) → ((k n : ℕ) → listed_in k (slice_index_or buffers n None) ≡ listed_in k (slice_index_or flat.buffers n None)) → KeepsClients flat (with_buffers buffers flat)
+unfolding with_buffers rest_of shown_of client_of
+keeps_buffers buffers flat listed = keeps-by-parts flat (with_buffers buffers flat) refl refl (λ k. refl) listed
 
 option-kept : (k : ℕ) (f : Buffer → Buffer) (o : Option Buffer) → ((b : Buffer) → has_list (Of k) (f b) ≡ has_list (Of k) b) → listed_in k (option_map f o) ≡ listed_in k o
 option-kept k f None h = refl
@@ -112,35 +139,39 @@ listed-each k n f [] h = refl
 listed-each k zero f (b ∷ bs) h = option-kept k f b h
 listed-each k (suc n) f (b ∷ bs) h = listed-each k n f bs h
 
--- a list whose holder stays
-any-held : (k : ℕ) (p : Held → Bool) (f : Held → Held) (hs : List Held) → ((h : Held) → is_held_by (Of k) (f h) ≡ is_held_by (Of k) h)
-    → list_any (is_held_by (Of k)) (changed_where p f hs) ≡ list_any (is_held_by (Of k)) hs
-any-held k p f hs keeps = any-changed p (is_held_by (Of k)) f hs keeps
+-- a buffer that was changed, and keeps whose lists are on it
+pub keeps-changed : (n : ℕ) (f : Buffer → Buffer) (flat : Flat) → ((k : ℕ) (b : Buffer) → has_list (Of k) (f b) ≡ has_list (Of k) b) → KeepsClients flat (changed_in n f flat)
+unfolding changed_in
+keeps-changed n f flat keeps = keeps_buffers (changed_at n f flat.buffers) flat (λ k m. listed-changed k n m f flat.buffers (keeps k))
 
-keeps-list_of : (who : ℕ) (f : Held → Held) (flat : Flat) → ((k : ℕ) (h : Held) → is_held_by (Of k) (f h) ≡ is_held_by (Of k) h) → KeepsClients flat (with_list_of who f flat)
-unfolding with_list_of shown_of client_of
+-- a change that leaves the holder of a list alone leaves its test alone
+pub list-leaves : (k : Holder) (f : Held → Held) → ((h : Held) → (f h).holder ≡ h.holder) → Leaves (is_held_by k) f
+list-leaves k f keeps h = ap (same_holder k) (keeps h)
+
+keeps-list_of : (who : ℕ) (f : Held → Held) (flat : Flat) → ((h : Held) → (f h).holder ≡ h.holder) → KeepsClients flat (with_list_of who f flat)
+unfolding with_list_of
 keeps-list_of who f flat keeps =
-    keeps-by-parts flat (with_list_of who f flat) refl (λ k. refl)
-    (λ k n. listed-changed k (shown_of who flat) n (with_list (Of who) f) flat.buffers (λ b. any-held k (is_held_by (Of who)) f b.lists (keeps k)))
+    keeps_buffers (changed_at (shown_of who flat) (with_list (Of who) f) flat.buffers) flat
+    (λ k n. listed-changed k (shown_of who flat) n (with_list (Of who) f) flat.buffers (λ b. any-changed (is_held_by (Of who)) (is_held_by (Of k)) f b.lists (list-leaves (Of k) f keeps)))
 
--- its selections, and its window
+-- a client's selections, and the corner of its window
 pub keeps_sels : (who : ℕ) (sels : Selected) (flat : Flat) → KeepsClients flat (with_sels who sels flat)
 unfolding with_sels
-keeps_sels who sels flat = keeps-list_of who (λ held. record held { sels = sels }) flat (λ k h. refl)
+keeps_sels who sels flat = keeps-list_of who (λ held. record held { sels = sels }) flat (λ h. refl)
 
-pub keeps_view : (who : ℕ) (view : View) (flat : Flat) → KeepsClients flat (with_view who view flat)
-unfolding with_view
-keeps_view who view flat = keeps-list_of who (λ held. record held { view = view }) flat (λ k h. refl)
+pub keeps_corner : (who : ℕ) (corner : Corner) (flat : Flat) → KeepsClients flat (with_corner who corner flat)
+unfolding with_corner
+keeps_corner who corner flat = keeps-list_of who (λ held. record held { corner = corner }) flat (λ h. refl)
 
--- the units
-pub keeps_units : (units : ℕ) (flat : Flat) → KeepsClients flat (with_units units flat)
-unfolding with_units shown_of client_of
-keeps_units units flat = keeps-by-parts flat (with_units units flat) refl (λ k. refl) (λ k n. refl)
+-- an edit keeps whose lists are on a buffer, and so does a move
+pub has-edited : (k : Holder) (cs : List Change) (story : Story) (b : Buffer) → has_list k (buffer_changed cs story b) ≡ has_list k b
+has-edited k cs story b = any-map (is_held_by k) (list_moved b.story.text cs) b.lists
 
--- a buffer that was changed, and keeps whose lists are on it
-keeps-changed : (n : ℕ) (f : Buffer → Buffer) (flat : Flat) → ((k : ℕ) (b : Buffer) → has_list (Of k) (f b) ≡ has_list (Of k) b) → KeepsClients flat (changed_in n f flat)
-unfolding changed_in shown_of client_of
-keeps-changed n f flat keeps = keeps-by-parts flat (changed_in n f flat) refl (λ k. refl) (λ k m. listed-changed k n m f flat.buffers (keeps k))
+pub has-traveled : (k holder : Holder) (travel : Travel) (b : Buffer) → has_list k (buffer_traveled holder travel b) ≡ has_list k b
+has-traveled k holder travel b =
+    let cs : List Change = move_changes travel b.story in
+    let f : Held → Held = λ held. record held { sels = left_by b.story.text cs held.sels } in
+    any-changed (is_held_by holder) (is_held_by k) f (map (list_moved b.story.text cs) b.lists) (list-leaves k f (λ h. refl)) ∙ has-edited k cs (moved_by travel b.story) b
 
 pub keeps_edited : (splices : List Splice) (who : ℕ) (flat : Flat) → KeepsClients flat (edited_by splices who flat)
 unfolding edited_by
@@ -151,8 +182,8 @@ unfolding traveled_by
 keeps_traveled travel who flat = keeps-changed _ _ flat (λ k b. has-traveled (Of k) (Of who) travel b)
 
 pub keeps_commits : (who : ℕ) (flat : Flat) → KeepsClients flat (commits who flat)
-unfolding commits shown_of client_of
-keeps_commits who flat = keeps-by-parts flat (commits who flat) refl (λ k. refl) (λ k n. listed-each k n (committed_for who) flat.buffers (λ b. refl))
+unfolding commits
+keeps_commits who flat = keeps_buffers _ flat (λ k n. listed-each k n (committed_for who) flat.buffers (λ b. refl))
 
 -- who is here when a client has come
 pub here_come : (k who : ℕ) (flat : Flat) → is_here k (joined_by who flat).clients ≡ (is_here k flat.clients || ((who == k) || false))
@@ -210,20 +241,15 @@ joined_others_go k who flat other =
         by : (holder : Holder) → is_held_by (Of who) (record (fresh_list holder) { holder = holder }) ≡ true → is_held_by (Of k) (record (fresh_list holder) { holder = holder }) ≡ false
         by (Of n) e = apart who k n other e
 
--- the registers
-pub keeps_registers : (rows : List Register) (flat : Flat) → KeepsClients flat (with_registers rows flat)
-unfolding with_registers shown_of client_of
-keeps_registers rows flat = keeps-by-parts flat (with_registers rows flat) refl (λ k. refl) (λ k n. refl)
-
+-- the rows of registers, edits and moves
 pub keeps_set_row : (name : ℕ) (strings : List (List ℕ)) (flat : Flat) → KeepsClients flat (set_row name strings flat).world
 unfolding set_row
 keeps_set_row name strings flat = by (register_refusal name strings)
   where
     by : (o : Option RegisterError) → KeepsClients flat (set_unless o name strings flat).world
-    by None = keeps_registers _ flat
+    by None = keeps_rest _ flat (λ r. refl)
     by (Some refusal) = keeps_same flat
 
--- the rows of edits and moves
 pub keeps_edit_row : (splices : List Splice) (who : ℕ) (flat : Flat) → KeepsClients flat (edit_row splices who flat).world
 unfolding edit_row
 keeps_edit_row splices who flat = by (is_undo_full who (splice_changes_of splices who flat) (story_of who flat)) (is_too_long (length (text_of who flat)) (text_of who flat) splices)

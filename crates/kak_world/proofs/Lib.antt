@@ -6,7 +6,8 @@ pub mod ClientLemmas
 pub mod WorldLaws
 pub mod WorldLemmas
 pub mod QuietLemmas
-pub mod MoveLemmas
+pub mod KeptLemmas
+pub mod StandingLemmas
 pub mod AnswerLemmas
 pub mod EditingLemmas
 pub mod RowAnswers

@@ -1,125 +1,265 @@
--- The lists of the code as those of the flat world.
-use Rattle.std.proofs.Common.{◌≡◌, ℕ, zero, suc, ◌<◌, Bool, true, false, not, cond, List, [], ◌∷◌, ◌++◌, length, map, get_or, set, refl, sym, ap, subst, ◌∙◌, arith}
-use Rattle.std.specs.Prelude.{nat_lt}
-use Rattle.std.specs.List.{AllByRecursion, list_any, filter}
-use Rattle.std.proofs.lemmas.List.{length-map, get_or-map, map-set}
-use Rattle.std.proofs.lemmas.Bool.{lt-ltb, ltb-true}
-use Rattle.tables.specs.Tables.{place_where}
-use Rattle.tables.proofs.TableLemmas.{by_test, first-at}
-use Rattle.tables.proofs.RowLemmas.{place-inside, inside-any, changed-place, place-map, any-map}
-use Rattle.selection_set.specs.Held.{IsHeld}
-use Rattle.selection_set.specs.Inside.{range_of}
-use Rattle.selection_set.specs.Listing.{Listed}
-use Rattle.selection_set.proofs.HeldLemmas.{all-at}
+-- The lists on a shelf as those of a buffer.
+use Rattle.std.proofs.Common.{◌≡◌, ℕ, ◌<◌, ◌||◌, Bool, true, false, not, cond, List, [], ◌∷◌, ◌++◌, length, map, take, refl, sym, ap, ap₂, subst, ◌∙◌, arith, append-nil, append_assoc, Ok, Err}
+use Rattle.std.specs.Prelude.{OnOk, OnErr}
+use Rattle.std.specs.declared.result.Result.{Result}
+use Rattle.std.specs.List.{list_any, filter}
+use Rattle.std.proofs.lemmas.List.{length-map}
+use Rattle.tables.specs.Tables.{first_where, changed_where, with_row}
+use Rattle.tables.proofs.TableLemmas.{by_test}
+use Rattle.tables.proofs.RowLemmas.{any-map, changed-same}
+use Rattle.text_model.specs.Texts.{IsStored}
+use Rattle.list_model.specs.Ranges.{Selected}
 use Rattle.undo_model.specs.Stories.{Story}
-use Rattle.kak_world.specs.declared.lists.HeldList.{HeldList}
-use Rattle.kak_world.specs.declared.holder.Holder.{Holder}
-use Rattle.kak_world.specs.Flat.{Held, Buffer, is_held_by, has_list, list_on, with_list, listed_for, unlisted_for, fresh_list}
-use Rattle.kak_world.specs.Seen.{held_seen, is_list_of, buffer_seen, AreHeld}
+use Rattle.window_view.specs.declared.corner.Corner.{Corner}
+use Rattle.selection_set.specs.Listing.{Listed}
+use Rattle.selection_set.specs.Inside.{range_of}
+use Rattle.selection_set.specs.Held.{selected, IsHeld}
+use Rattle.change_list.specs.Logs.{Logged, stamp_of}
+use Rattle.list_shelf.specs.declared.holder.Holder.{Holder}
+use Rattle.list_shelf.specs.declared.rows.ShelfRow.{ShelfRow}
+use Rattle.list_shelf.specs.Lagging.{seen_by}
+use Rattle.list_shelf.specs.Shelves.{Shelved, is_of, has_row, no_row, row_of, with_sels, with_main, with_corner, listed, unlisted, trimmed_shelf, entered, AllLag, Stands, CanStand, IsUp, KeepsUp, IsTrimmed, StandsWith, Held, seen_in, lists_in, is_held_by}
+use Rattle.list_shelf.proofs.LagLemmas.{lags-stored}
+use Rattle.list_shelf.proofs.FollowLemmas.{as_seen}
+use Rattle.list_shelf.proofs.StandLemmas.{read-row, replaced-rows, other_seen, main-rows, main_seen, corner-rows, other_corner_seen, added-rows, left-rows, trimmed-stands, entered-stands}
+use Rattle.list_shelf.proofs.UpLemmas.{up-replaced, up-added, up-left, up-trimmed, up-entered, is-trimmed, entered-trimmed, main-trimmed, corner-trimmed, added-trimmed}
+use Rattle.kak_world.specs.Flat.{Buffer, has_list, list_on, with_list, listed_for, fresh_list}
+use Rattle.kak_world.specs.Seen.{KeptBuffer, buffer_seen, buffer_kept, with_seen, IsShelfOf, IsListedBy}
 
--- a holder's list is at the same place in both
-pub same-place : (holder : Holder) (text : List ℕ) (rows : List HeldList) → place_where (is_held_by holder) (map (held_seen text) rows) ≡ place_where (is_list_of holder) rows
-same-place holder text rows = place-map (is_held_by holder) (held_seen text) rows
+-- a holder has a list on a buffer where it has one on its shelf
+pub list-there : (holder : Holder) (name : List ℕ) (file : Bool) (story : Story) (shelf : Shelved) (b : KeptBuffer) → buffer_kept name file story shelf ≡ b → has_row holder shelf ≡ has_list holder b.seen
+list-there holder name file story shelf b e = sym (any-map (is_held_by holder) (seen_in story.text shelf.log) shelf.rows) ∙ ap (λ (x : KeptBuffer). has_list holder x.seen) e
 
-pub same-any : (holder : Holder) (text : List ℕ) (rows : List HeldList) → list_any (is_held_by holder) (map (held_seen text) rows) ≡ list_any (is_list_of holder) rows
-same-any holder text rows = any-map (is_held_by holder) (held_seen text) rows
+pub list-has : (holder : Holder) (name : List ℕ) (file : Bool) (story : Story) (shelf : Shelved) (b : KeptBuffer) → buffer_kept name file story shelf ≡ b → has_list holder b.seen ≡ true → has_row holder shelf ≡ true
+list-has holder name file story shelf b e h = list-there holder name file story shelf b e ∙ h
 
--- a holder that has a list has one in the code
-pub list-there : (holder : Holder) (name : List ℕ) (file : Bool) (story : Story) (rows : List HeldList) (b : Buffer) → buffer_seen name file story rows ≡ b → has_list holder b ≡ true → list_any (is_list_of holder) rows ≡ true
-list-there holder name file story rows b e h = sym (same-any holder story.text rows) ∙ ap (has_list holder) e ∙ h
+-- what is known of a buffer's shelf
+pub up-inside : (holder : Holder) (name : List ℕ) (file : Bool) (story : Story) (shelf : Shelved) (b : KeptBuffer) → buffer_kept name file story shelf ≡ b → IsUp holder b.shelf → IsUp holder shelf
+up-inside holder name file story shelf b e up = subst (λ (x : KeptBuffer). IsUp holder x.shelf) (sym e) up
 
-pub list-inside : (holder : Holder) (name : List ℕ) (file : Bool) (story : Story) (rows : List HeldList) (b : Buffer) (n : ℕ) → buffer_seen name file story rows ≡ b → has_list holder b ≡ true → n ≡ place_where (is_list_of holder) rows → n < length rows
-list-inside holder name file story rows b n e h p =
-    let inside : place_where (is_list_of holder) rows < length rows = place-inside (is_list_of holder) rows (list-there holder name file story rows b e h) in omega arith
+pub up-outside : (name : List ℕ) (file : Bool) (story : Story) (shelf now : Shelved) (b : KeptBuffer) → buffer_kept name file story shelf ≡ b → KeepsUp shelf now → KeepsUp b.shelf now
+up-outside name file story shelf now b e up = subst (λ (x : KeptBuffer). KeepsUp x.shelf now) e up
 
--- whether a holder has a list, by its place
-pub list-test : (holder : Holder) (name : List ℕ) (file : Bool) (story : Story) (rows : List HeldList) (b : Buffer) (n len : ℕ) → buffer_seen name file story rows ≡ b → n ≡ place_where (is_list_of holder) rows → len ≡ length rows → nat_lt n len ≡ has_list holder b
-list-test holder name file story rows b n len e p l =
-    ap (λ k. nat_lt k len) p ∙ ap (nat_lt (place_where (is_list_of holder) rows)) l
-    ∙ by_test (λ t. t ≡ list_any (is_list_of holder) rows → nat_lt (place_where (is_list_of holder) rows) (length rows) ≡ t) (list_any (is_list_of holder) rows)
-    (λ _ t. lt-ltb (place_where (is_list_of holder) rows) (length rows) (place-inside (is_list_of holder) rows (sym t)))
-    (λ _ t. outside t (nat_lt (place_where (is_list_of holder) rows) (length rows)) refl)
-    refl
-    ∙ sym (same-any holder story.text rows) ∙ ap (has_list holder) e
-  where
-    outside : false ≡ list_any (is_list_of holder) rows → (t : Bool) → nat_lt (place_where (is_list_of holder) rows) (length rows) ≡ t → nat_lt (place_where (is_list_of holder) rows) (length rows) ≡ false
-    outside none false q = q
-    outside none true q = absurd (let some : list_any (is_list_of holder) rows ≡ true = inside-any (is_list_of holder) rows (below q) in let no : false ≡ true = none ∙ some in cc)
-      where
-        below : nat_lt (place_where (is_list_of holder) rows) (length rows) ≡ true → place_where (is_list_of holder) rows < length rows
-        below q = ltb-true _ _ q
+pub can-stand : (text : List ℕ) (shelf : Shelved) → IsShelfOf text shelf → CanStand shelf
+can-stand text shelf st = record { text = text; all = st.stands }
 
--- the list at a holder's place
-pub list-read : (holder : Holder) (name : List ℕ) (file : Bool) (story : Story) (rows : List HeldList) (b : Buffer) (n : ℕ) (row : HeldList) → buffer_seen name file story rows ≡ b → has_list holder b ≡ true → n ≡ place_where (is_list_of holder) rows → row ≡ get_or rows n row
-    → held_seen story.text row ≡ list_on holder b
-list-read holder name file story rows b n row e h p r =
-    let inside : n < length rows = list-inside holder name file story rows b n e h p in
-    first-at (is_held_by holder) (fresh_list holder) (held_seen story.text row) (map (held_seen story.text) rows) b.lists n (ap (λ (x : Buffer). x.lists) e) (p ∙ sym (same-place holder story.text rows)) (omega (arith, length-map rows (held_seen story.text)))
-    (ap (held_seen story.text) r ∙ sym (get_or-map (held_seen story.text) rows n row (held_seen story.text row) inside))
+-- a holder's list among those that are seen
+list-found : (holder : Holder) (text : List ℕ) (log : Logged) (d : ShelfRow) (none : Held) (rows : List ShelfRow) → list_any (is_of holder) rows ≡ true → first_where (is_held_by holder) none (map (seen_in text log) rows) ≡ seen_in text log (first_where (is_of holder) d rows)
+list-found holder text log d none [] some = absurd (let no : false ≡ true = some in cc)
+list-found holder text log d none (row ∷ rows) some =
+    by_test (λ b. (b || list_any (is_of holder) rows) ≡ true → cond b (seen_in text log row) (first_where (is_held_by holder) none (map (seen_in text log) rows)) ≡ seen_in text log (cond b row (first_where (is_of holder) d rows))) (is_of holder row)
+    (λ _ _. refl)
+    (λ _ s. list-found holder text log d none rows s)
+    some
 
-pub list-held : (text : List ℕ) (rows : List HeldList) (n : ℕ) (row : HeldList) → AreHeld text rows → n < length rows → row ≡ get_or rows n row → IsHeld text row.sels
-list-held text rows n row a h r = subst (λ (x : HeldList). IsHeld text x.sels) (sym r) (all-at (λ (x : HeldList). IsHeld text x.sels) rows n row h a)
+pub list-seen : (holder : Holder) (name : List ℕ) (file : Bool) (story : Story) (shelf : Shelved) (b : KeptBuffer) → buffer_kept name file story shelf ≡ b → has_list holder b.seen ≡ true → list_on holder b.seen ≡ seen_in story.text shelf.log (row_of holder shelf)
+list-seen holder name file story shelf b e h =
+    sym (ap (λ (x : KeptBuffer). list_on holder x.seen) e)
+    ∙ list-found holder story.text shelf.log (no_row holder) (fresh_list holder) shelf.rows (list-has holder name file story shelf b e h)
 
--- the list at a holder's place, set to another one
-pub list-set : (holder : Holder) (name : List ℕ) (file : Bool) (story : Story) (rows : List HeldList) (b : Buffer) (n : ℕ) (row to : HeldList) (f : Held → Held) → buffer_seen name file story rows ≡ b → has_list holder b ≡ true → n ≡ place_where (is_list_of holder) rows → row ≡ get_or rows n row
-    → held_seen story.text to ≡ f (held_seen story.text row) → buffer_seen name file story (set rows n to) ≡ with_list holder f b
-list-set holder name file story rows b n row to f e h p r g =
-    let inside : n < length rows = list-inside holder name file story rows b n e h p in
-    let place : place_where (is_held_by holder) (map (held_seen story.text) rows) ≡ n = same-place holder story.text rows ∙ sym p in
-    let found : get_or (map (held_seen story.text) rows) n (held_seen story.text row) ≡ held_seen story.text row = get_or-map (held_seen story.text) rows n row (held_seen story.text row) inside ∙ ap (held_seen story.text) (sym r) in
-    let below : place_where (is_held_by holder) (map (held_seen story.text) rows) < length (map (held_seen story.text) rows) = omega (arith, length-map rows (held_seen story.text)) in
-    ap (λ ls. let x : Buffer = record { name = name; is_file = file; story = story; lists = ls } in x)
-    (map-set (held_seen story.text) rows n to
-    ∙ ap (set (map (held_seen story.text) rows) n) (g ∙ ap f (sym found))
-    ∙ ap (λ k. set (map (held_seen story.text) rows) k (f (get_or (map (held_seen story.text) rows) k (held_seen story.text row)))) (sym place)
-    ∙ sym (changed-place (is_held_by holder) f (held_seen story.text row) (map (held_seen story.text) rows) below))
-    ∙ ap (with_list holder f) e
+-- how many selections are in it
+pub list-count : (holder : Holder) (name : List ℕ) (file : Bool) (story : Story) (shelf : Shelved) (b : KeptBuffer) (s : Listed) (n : ℕ) → buffer_kept name file story shelf ≡ b → has_list holder b.seen ≡ true → s ≡ seen_by shelf.log (row_of holder shelf).lag → n ≡ length s.list → n ≡ length (list_on holder b.seen).sels.list
+list-count holder name file story shelf b s n e h is c =
+    c
+    ∙ ap (λ (x : Listed). length x.list) is
+    ∙ sym (length-map (seen_by shelf.log (row_of holder shelf).lag).list (range_of story.text))
+    ∙ ap (λ (l : Held). length l.sels.list) (sym (list-seen holder name file story shelf b e h))
 
-pub all-set : {X : Type 0} (P : X → Type 0) (xs : List X) (n : ℕ) (x : X) → AllByRecursion P xs → P x → AllByRecursion P (set xs n x)
-all-set P [] n x a p = a
-all-set P (y ∷ ys) zero x a p = (p, a.1)
-all-set P (y ∷ ys) (suc n) x a p = (a.0, all-set P ys n x a.1 p)
+-- where its window stands
+pub list-corner : (holder : Holder) (name : List ℕ) (file : Bool) (story : Story) (shelf : Shelved) (b : KeptBuffer) (corner : Corner) → buffer_kept name file story shelf ≡ b → has_list holder b.seen ≡ true → corner ≡ (row_of holder shelf).corner → corner ≡ (list_on holder b.seen).corner
+list-corner holder name file story shelf b corner e h is = is ∙ ap (λ (l : Held). l.corner) (sym (list-seen holder name file story shelf b e h))
+
+-- it is read, where it is up to date
+pub list-read : (holder : Holder) (name : List ℕ) (file : Bool) (story : Story) (shelf : Shelved) (b : KeptBuffer) (s : Listed) → buffer_kept name file story shelf ≡ b → has_list holder b.seen ≡ true → IsUp holder b.shelf → Stands story.text shelf → s ≡ (row_of holder shelf).lag.sels
+    → ((list_on holder b.seen).sels ≡ selected b.seen.story.text s) × IsHeld b.seen.story.text s
+list-read holder name file story shelf b s e h up st is =
+    let P : KeptBuffer → Type 0 = λ x. ((list_on holder x.seen).sels ≡ selected x.seen.story.text s) × IsHeld x.seen.story.text s in
+    let some : has_row holder shelf ≡ true = list-has holder name file story shelf b e h in
+    let r = read-row story.text shelf.log holder (no_row holder) (fresh_list holder) shelf.rows some (up-inside holder name file story shelf b e up some) st in
+    subst P e (sym (ap (selected story.text) is ∙ r.1), subst (IsHeld story.text) (sym is) r.0)
+
+-- a shelf whose lists are seen as these
+pub record Got (text : List ℕ) (lists : List Held) (shelf : Shelved) : Type 0 where
+  pub is : IsShelfOf text shelf
+  pub lists_are : lists_in text shelf ≡ lists
+
+pub got-of : (text : List ℕ) (lists : List Held) (now last : Shelved) → StandsWith text now lists → IsTrimmed now → last ≡ now → Got text lists last
+got-of text lists now last st t e = subst (Got text lists) (sym e) (record { is = record { stands = st.stands; trimmed = t }; lists_are = st.lists_are })
+
+-- a shelf that is trimmed
+pub trimmed-got : (text : List ℕ) (lists : List Held) (now : Shelved) → StandsWith text now lists → Got text lists (trimmed_shelf now)
+trimmed-got text lists now st =
+    let t = trimmed-stands text now st.stands in
+    record { is = record { stands = t.stands; trimmed = is-trimmed text now st.stands }; lists_are = t.lists_are ∙ st.lists_are }
+
+-- a buffer with other lists
+pub now-lists : (name : List ℕ) (file : Bool) (story : Story) (shelf now : Shelved) (b : KeptBuffer) (f : List Held → List Held) → buffer_kept name file story shelf ≡ b → lists_in story.text now ≡ f (lists_in story.text shelf)
+    → buffer_seen name file story now ≡ record b.seen { lists = f b.seen.lists }
+now-lists name file story shelf now b f e l =
+    ap (λ ls. let x : Buffer = record { name = name; is_file = file; story = story; lists = ls } in x) l
+    ∙ ap (λ (x : KeptBuffer). record x.seen { lists = f x.seen.lists }) e
+
+-- or with the same
+pub now-same : (name : List ℕ) (file : Bool) (story : Story) (shelf now : Shelved) (b : KeptBuffer) → buffer_kept name file story shelf ≡ b → lists_in story.text now ≡ lists_in story.text shelf → buffer_seen name file story now ≡ b.seen
+now-same name file story shelf now b e l =
+    ap (λ ls. let x : Buffer = record { name = name; is_file = file; story = story; lists = ls } in x) l ∙ ap (λ (x : KeptBuffer). x.seen) e
+
+-- a buffer with another story of the same text, and its lists as they are stored
+pub kept-as : (name : List ℕ) (file now_file : Bool) (old new : Story) (shelf : Shelved) (b : KeptBuffer) (g : Buffer → Buffer) → buffer_kept name file old shelf ≡ b → new.text ≡ old.text
+    → (let x : Buffer = record { name = name; is_file = now_file; story = new; lists = lists_in old.text shelf } in x) ≡ g (buffer_seen name file old shelf) → buffer_kept name now_file new shelf ≡ with_seen g b
+kept-as name file now_file old new shelf b g e t h =
+    ap (λ s. let y : KeptBuffer = record { seen = record { name = name; is_file = now_file; story = new; lists = lists_in s shelf }; shelf = shelf } in y) t
+    ∙ ap (λ x. let y : KeptBuffer = record { seen = x; shelf = shelf } in y) h
+    ∙ ap (with_seen g) e
+
+pub shelf-of : (old new : List ℕ) (shelf : Shelved) → new ≡ old → IsShelfOf old shelf → IsShelfOf new shelf
+shelf-of old new shelf e st = subst (λ t. IsShelfOf t shelf) (sym e) st
+
+-- one list is another, where it is the same for what stands there
+one-same : (holder : Holder) (f g : Held → Held) (lists : List Held) → f (first_where (is_held_by holder) (fresh_list holder) lists) ≡ g (first_where (is_held_by holder) (fresh_list holder) lists) → changed_where (is_held_by holder) f lists ≡ changed_where (is_held_by holder) g lists
+one-same holder f g lists e = changed-same (is_held_by holder) f g (fresh_list holder) lists e
+
+pub now-one : (holder : Holder) (name : List ℕ) (file : Bool) (story : Story) (shelf now : Shelved) (b : KeptBuffer) (f g : Held → Held) → buffer_kept name file story shelf ≡ b → lists_in story.text now ≡ changed_where (is_held_by holder) f (lists_in story.text shelf) → f (list_on holder b.seen) ≡ g (list_on holder b.seen)
+    → buffer_seen name file story now ≡ with_list holder g b.seen
+now-one holder name file story shelf now b f g e l same =
+    now-lists name file story shelf now b (changed_where (is_held_by holder) f) e l
+    ∙ ap (λ ls. record b.seen { lists = ls }) (one-same holder f g b.seen.lists same)
+
+-- a text on whose shelf there is a list is stored
+some-stored : (holder : Holder) (text : List ℕ) (log : Logged) (rows : List ShelfRow) → list_any (is_of holder) rows ≡ true → AllLag text log rows → IsStored text
+some-stored holder text log [] some a = absurd (let no : false ≡ true = some in cc)
+some-stored holder text log (row ∷ rows) some a = lags-stored text log row.lag a.0
+
+-- a holder's list is replaced, and the log trimmed
+replaced-stands : (holder : Holder) (text : List ℕ) (s : Listed) (shelf : Shelved) → has_row holder shelf ≡ true → IsHeld text s → Stands text shelf → StandsWith text (with_sels holder s shelf) (changed_where (is_held_by holder) (other_seen text s) (lists_in text shelf))
+replaced-stands holder text s shelf some held st = replaced-rows text shelf.log holder s shelf.rows (some-stored holder text shelf.log shelf.rows some st) held st
+
+pub replaced-can : (holder : Holder) (text : List ℕ) (s : Listed) (shelf now : Shelved) → has_row holder shelf ≡ true → IsHeld text s → IsShelfOf text shelf → now ≡ with_sels holder s shelf → CanStand now
+replaced-can holder text s shelf now some held st e = subst CanStand (sym e) (record { text = text; all = (replaced-stands holder text s shelf some held st.stands).stands })
+
+pub replaced-got : (holder : Holder) (text : List ℕ) (s : Listed) (shelf now last : Shelved) → has_row holder shelf ≡ true → IsHeld text s → IsShelfOf text shelf → now ≡ with_sels holder s shelf → last ≡ trimmed_shelf now
+    → Got text (changed_where (is_held_by holder) (other_seen text s) (lists_in text shelf)) last
+replaced-got holder text s shelf now last some held st e t =
+    subst (Got text (changed_where (is_held_by holder) (other_seen text s) (lists_in text shelf))) (sym (t ∙ ap trimmed_shelf e))
+    (trimmed-got text (changed_where (is_held_by holder) (other_seen text s) (lists_in text shelf)) (with_sels holder s shelf) (replaced-stands holder text s shelf some held st.stands))
+
+pub replaced-up : (holder : Holder) (text : List ℕ) (s : Listed) (shelf now last : Shelved) → has_row holder shelf ≡ true → IsHeld text s → IsShelfOf text shelf → now ≡ with_sels holder s shelf → last ≡ trimmed_shelf now → KeepsUp shelf last
+replaced-up holder text s shelf now last some held st e t =
+    subst (KeepsUp shelf) (sym (t ∙ ap trimmed_shelf e))
+    (λ other up. up-trimmed text (with_sels holder s shelf) (replaced-stands holder text s shelf some held st.stands).stands other (up-replaced holder s shelf other up))
 
 -- another main selection
-pub main-held : (text : List ℕ) (s : Listed) (n : ℕ) → IsHeld text s → n < length s.list → IsHeld text (record { list = s.list; main = n })
-main-held text s n h l = record { inside = h.inside; settled = record { ranges = h.settled.ranges; apart = h.settled.apart; main_is = omega (arith, l, length-map s.list (range_of text)) } }
+pub main-there : (holder : Holder) (name : List ℕ) (file : Bool) (story : Story) (shelf : Shelved) (b : KeptBuffer) (n : ℕ) → buffer_kept name file story shelf ≡ b → has_list holder b.seen ≡ true → IsUp holder b.shelf → Stands story.text shelf → n < length (list_on holder b.seen).sels.list → n < length (row_of holder shelf).lag.sels.list
+main-there holder name file story shelf b n e h up st there =
+    let some : has_row holder shelf ≡ true = list-has holder name file story shelf b e h in
+    let r = read-row story.text shelf.log holder (no_row holder) (fresh_list holder) shelf.rows some (up-inside holder name file story shelf b e up some) st in
+    let count : length (list_on holder b.seen).sels.list ≡ length (row_of holder shelf).lag.sels.list =
+    sym (ap (λ (x : KeptBuffer). length (list_on holder x.seen).sels.list) e) ∙ ap (λ (s : Selected). length s.list) (sym r.1) ∙ length-map (row_of holder shelf).lag.sels.list (range_of story.text) in
+    omega (arith, there, count)
 
--- a list that was added
-pub list-added : (holder : Holder) (name : List ℕ) (file : Bool) (story : Story) (rows : List HeldList) (b : Buffer) (row : HeldList) → buffer_seen name file story rows ≡ b → has_list holder b ≡ false → held_seen story.text row ≡ fresh_list holder
-    → buffer_seen name file story (rows ++ row ∷ []) ≡ listed_for holder b
-list-added holder name file story rows b row e h r =
-    ap (λ ls. let x : Buffer = record { name = name; is_file = file; story = story; lists = ls } in x)
-    (map-added rows ∙ ap (λ x. map (held_seen story.text) rows ++ x ∷ []) r ∙ sym (ap (λ t. cond t (map (held_seen story.text) rows) (map (held_seen story.text) rows ++ fresh_list holder ∷ [])) (ap (has_list holder) e ∙ h)))
-    ∙ ap (listed_for holder) e
+pub main-got : (holder : Holder) (text : List ℕ) (n : ℕ) (shelf now : Shelved) → has_row holder shelf ≡ true → IsUp holder shelf → n < length (row_of holder shelf).lag.sels.list → IsShelfOf text shelf → now ≡ with_main holder n shelf
+    → Got text (changed_where (is_held_by holder) (main_seen n) (lists_in text shelf)) now
+main-got holder text n shelf now some up there st e =
+    got-of text (changed_where (is_held_by holder) (main_seen n) (lists_in text shelf)) (with_main holder n shelf) now
+    (main-rows text shelf.log holder n (no_row holder) shelf.rows some (up some) there st.stands) (main-trimmed holder n shelf st.trimmed) e
+
+-- its window stands elsewhere
+pub corner-got : (holder : Holder) (text : List ℕ) (corner : Corner) (shelf now : Shelved) → IsShelfOf text shelf → now ≡ with_corner holder corner shelf → Got text (changed_where (is_held_by holder) (other_corner_seen corner) (lists_in text shelf)) now
+corner-got holder text corner shelf now st e =
+    got-of text (changed_where (is_held_by holder) (other_corner_seen corner) (lists_in text shelf)) (with_corner holder corner shelf) now (corner-rows text shelf.log holder corner shelf.rows st.stands) (corner-trimmed holder corner shelf st.trimmed) e
+
+-- a holder's list is brought up to date
+pub entered-got : (holder : Holder) (text : List ℕ) (shelf now : Shelved) → IsShelfOf text shelf → now ≡ entered holder shelf → Got text (lists_in text shelf) now
+entered-got holder text shelf now st e = got-of text (lists_in text shelf) (entered holder shelf) now (entered-stands text holder shelf st.stands) (entered-trimmed text holder shelf st.stands) e
+
+pub entered-up : (holder : Holder) (text : List ℕ) (shelf now : Shelved) → IsShelfOf text shelf → now ≡ entered holder shelf → IsUp holder now
+entered-up holder text shelf now st e = subst (IsUp holder) (sym e) (up-entered text holder shelf st.stands).1
+
+-- a holder's lists are taken off, and the log trimmed
+pub left-can : (holder : Holder) (text : List ℕ) (shelf now : Shelved) → IsShelfOf text shelf → now ≡ unlisted holder shelf → CanStand now
+left-can holder text shelf now st e = subst CanStand (sym e) (record { text = text; all = (left-rows text shelf.log holder shelf.rows st.stands).stands })
+
+pub left-got : (holder : Holder) (text : List ℕ) (shelf now last : Shelved) → IsShelfOf text shelf → now ≡ unlisted holder shelf → last ≡ trimmed_shelf now → Got text (filter (λ list. not (is_held_by holder list)) (lists_in text shelf)) last
+left-got holder text shelf now last st e t =
+    subst (Got text (filter (λ list. not (is_held_by holder list)) (lists_in text shelf))) (sym (t ∙ ap trimmed_shelf e))
+    (trimmed-got text (filter (λ list. not (is_held_by holder list)) (lists_in text shelf)) (unlisted holder shelf) (left-rows text shelf.log holder shelf.rows st.stands))
+
+pub left-up : (holder : Holder) (text : List ℕ) (shelf now last : Shelved) → IsShelfOf text shelf → now ≡ unlisted holder shelf → last ≡ trimmed_shelf now → KeepsUp shelf last
+left-up holder text shelf now last st e t =
+    subst (KeepsUp shelf) (sym (t ∙ ap trimmed_shelf e))
+    (λ other up. up-trimmed text (unlisted holder shelf) (left-rows text shelf.log holder shelf.rows st.stands).stands other (up-left holder shelf other up))
+
+-- the list to begin with is added
+added-behind : (holder : Holder) (s : Listed) (corner : Corner) (shelf : Shelved) → (added : List ShelfRow) × (listed holder s corner shelf ≡ record shelf { rows = shelf.rows ++ added })
+added-behind holder s corner shelf =
+    let row : ShelfRow = record { holder = holder; lag = record { stamp = stamp_of shelf.log; sels = s }; corner = corner } in
+    let with_rows : List ShelfRow → Shelved = λ rows. record { limit = shelf.limit; log = shelf.log; rows = rows } in
+    by_test (λ b. (added : List ShelfRow) × (with_rows (cond b shelf.rows (shelf.rows ++ row ∷ [])) ≡ with_rows (shelf.rows ++ added))) (list_any (is_of holder) shelf.rows)
+    (λ _. ([], ap with_rows (sym (append-nil shelf.rows))))
+    (λ _. (row ∷ [], refl))
+
+pub added-first : (holder : Holder) (text : List ℕ) (s : Listed) (corner : Corner) (shelf now : Shelved) → IsStored text → IsHeld text s → selected text s ≡ (fresh_list holder).sels → corner ≡ (fresh_list holder).corner → IsShelfOf text shelf → now ≡ listed holder s corner shelf
+    → IsListedBy (listed_for holder) text shelf now
+added-first holder text s corner shelf now stored held first stands st e =
+    let all = added-rows text shelf.log holder s corner shelf.rows stored held st.stands in
+    let fresh : as_seen holder corner (selected text s) ≡ fresh_list holder = ap₂ (as_seen holder) stands first in
+    let b = added-behind holder s corner shelf in
+    subst (IsListedBy (listed_for holder) text shelf) (sym e) (record {
+      added = b.0;
+      behind = b.1;
+      seen = λ name file story same.
+          ap (λ t. with_lists name file story (lists_in t (listed holder s corner shelf))) same
+          ∙ ap (with_lists name file story) (all.lists_are ∙ ap (λ h. with_row (is_held_by holder) h (lists_in text shelf)) fresh)
+          ∙ ap (λ t. with_lists name file story (with_row (is_held_by holder) (fresh_list holder) (lists_in t shelf))) (sym same);
+      shelf = record { stands = all.stands; trimmed = added-trimmed holder s corner shelf st.trimmed };
+      up = up-added holder s corner shelf;
+    })
   where
-    map-added : (xs : List HeldList) → map (held_seen story.text) (xs ++ row ∷ []) ≡ map (held_seen story.text) xs ++ held_seen story.text row ∷ []
-    map-added [] = refl
-    map-added (x ∷ xs) = ap (λ ys. held_seen story.text x ∷ ys) (map-added xs)
+    with_lists : List ℕ → Bool → Story → List Held → Buffer
+    with_lists name file story ls = record { name = name; is_file = file; story = story; lists = ls }
 
-pub list-stays : (holder : Holder) (b : Buffer) → has_list holder b ≡ true → b ≡ listed_for holder b
-list-stays holder b h = ap (λ t. let x : Buffer = record { name = b.name; is_file = b.is_file; story = b.story; lists = cond t b.lists (b.lists ++ fresh_list holder ∷ []) } in x) (sym h)
+-- nothing is added, or one thing more
+pub listed-none : (f : Buffer → Buffer) (text : List ℕ) (shelf : Shelved) → ((b : Buffer) → b ≡ f b) → IsShelfOf text shelf → IsListedBy f text shelf shelf
+listed-none f text shelf same st = record {
+  added = [];
+  behind = ap (λ rows. let x : Shelved = record { limit = shelf.limit; log = shelf.log; rows = rows } in x) (sym (append-nil shelf.rows));
+  seen = λ name file story e. same (buffer_seen name file story shelf);
+  shelf = st;
+  up = λ holder up. up;
+}
 
-pub added-held : (text : List ℕ) (rows : List HeldList) (row : HeldList) → AreHeld text rows → IsHeld text row.sels → AreHeld text (rows ++ row ∷ [])
-added-held text [] row a h = (h, tt)
-added-held text (x ∷ xs) row a h = (a.0, added-held text xs row a.1 h)
+pub listed-more : (f g h : Buffer → Buffer) (text : List ℕ) (a b c : Shelved) → ((x : Buffer) → h x ≡ g (f x)) → IsListedBy f text a b → IsListedBy g text b c → IsListedBy h text a c
+listed-more f g h text a b c both l m = record {
+  added = l.added ++ m.added;
+  behind =
+      m.behind
+      ∙ ap (λ (x : Shelved). let y : Shelved = record { limit = x.limit; log = x.log; rows = x.rows ++ m.added } in y) l.behind
+      ∙ ap (λ rows. let x : Shelved = record { limit = a.limit; log = a.log; rows = rows } in x) (append_assoc a.rows l.added m.added);
+  seen = λ name file story e. m.seen name file story e ∙ ap g (l.seen name file story e) ∙ sym (both (buffer_seen name file story a));
+  shelf = m.shelf;
+  up = λ holder up. m.up holder (l.up holder up);
+}
 
--- lists that were taken off
-pub lists-left : (holder : Holder) (name : List ℕ) (file : Bool) (story : Story) (rows left : List HeldList) (b : Buffer) → buffer_seen name file story rows ≡ b → left ≡ filter (λ row. not (is_list_of holder row)) rows → buffer_seen name file story left ≡ unlisted_for holder b
-lists-left holder name file story rows left b e l =
-    ap (buffer_seen name file story) l
-    ∙ ap (λ ls. let x : Buffer = record { name = name; is_file = file; story = story; lists = ls } in x) (filter-map rows)
-    ∙ ap (unlisted_for holder) e
-  where
-    filter-map : (xs : List HeldList) → map (held_seen story.text) (filter (λ row. not (is_list_of holder row)) xs) ≡ filter (λ held. not (is_held_by holder held)) (map (held_seen story.text) xs)
-    filter-map [] = refl
-    filter-map (x ∷ xs) =
-        by_test (λ t. map (held_seen story.text) (cond (not t) (x ∷ filter (λ row. not (is_list_of holder row)) xs) (filter (λ row. not (is_list_of holder row)) xs)) ≡ cond (not t) (held_seen story.text x ∷ filter (λ held. not (is_held_by holder held)) (map (held_seen story.text) xs)) (filter (λ held. not (is_held_by holder held)) (map (held_seen story.text) xs))) (is_list_of holder x)
-        (λ _. filter-map xs)
-        (λ _. ap (λ ys. held_seen story.text x ∷ ys) (filter-map xs))
+-- the same is done by another name
+pub listed-as : (f g : Buffer → Buffer) (text : List ℕ) (a b : Shelved) → ((x : Buffer) → f x ≡ g x) → IsListedBy f text a b → IsListedBy g text a b
+listed-as f g text a b same l = record { added = l.added; behind = l.behind; seen = λ name file story e. l.seen name file story e ∙ same (buffer_seen name file story a); shelf = l.shelf; up = l.up }
 
-pub left-held : (holder : Holder) (text : List ℕ) (rows : List HeldList) → AreHeld text rows → AreHeld text (filter (λ row. not (is_list_of holder row)) rows)
-left-held holder text [] a = tt
-left-held holder text (x ∷ xs) a =
-    by_test (λ t. AreHeld text (cond (not t) (x ∷ filter (λ row. not (is_list_of holder row)) xs) (filter (λ row. not (is_list_of holder row)) xs))) (is_list_of holder x)
-    (λ _. left-held holder text xs a.1)
-    (λ _. (a.0, left-held holder text xs a.1))
+-- what was added is taken off
+take-first : (xs ys : List ShelfRow) → take (length xs) (xs ++ ys) ≡ xs
+take-first [] ys = refl
+take-first (x ∷ xs) ys = ap (λ zs. x ∷ zs) (take-first xs ys)
+
+pub listed-back : (f : Buffer → Buffer) (text : List ℕ) (old mid now : Shelved) (n : ℕ) → IsListedBy f text old mid → n ≡ length old.rows → now ≡ record mid { rows = take n mid.rows } → now ≡ old
+listed-back f text old mid now n l e t =
+    t
+    ∙ ap (λ (x : Shelved). let y : Shelved = record { limit = x.limit; log = x.log; rows = take n x.rows } in y) l.behind
+    ∙ ap (λ k. let y : Shelved = record { limit = old.limit; log = old.log; rows = take k (old.rows ++ l.added) } in y) e
+    ∙ ap (λ rows. let y : Shelved = record { limit = old.limit; log = old.log; rows = rows } in y) (take-first old.rows l.added)
+
+-- a buffer on whose shelf lists were added
+pub listed-seen : (name : List ℕ) (file : Bool) (story : Story) (f : Buffer → Buffer) (text : List ℕ) (shelf now : Shelved) (b : KeptBuffer) → buffer_kept name file story shelf ≡ b → text ≡ story.text → IsListedBy f text shelf now → buffer_seen name file story now ≡ f b.seen
+listed-seen name file story f text shelf now b e t l = l.seen name file story (sym t) ∙ ap (λ (x : KeptBuffer). f x.seen) e
+
+pub listed-is : {T E : Type 0} (f : Buffer → Buffer) (text : List ℕ) (stored : List ℕ) (shelf now : Shelved) (r : Result T E) → text ≡ stored → OnOk r (IsListedBy f text shelf now) → OnErr r (now ≡ shelf) → IsShelfOf stored shelf → IsShelfOf stored now
+listed-is f text stored shelf now (Ok x) t l e st = subst (λ s. IsShelfOf s now) t l.shelf
+listed-is f text stored shelf now (Err x) t l e st = subst (IsShelfOf stored) (sym e) st

@@ -1,6 +1,7 @@
 -- Lemmas on buffers in which nothing is pending.
-use Rattle.std.proofs.Common.{◌≡◌, ℕ, zero, suc, Bool, true, false, List, [], ◌∷◌, None, Some, refl, ap, sym, subst, ◌∙◌, map, set, get_or}
+use Rattle.std.proofs.Common.{◌≡◌, ℕ, zero, suc, List, [], ◌∷◌, None, Some, refl, ap, sym, subst, ◌∙◌, map, set, get_or}
 use Rattle.std.specs.Prelude.{option_map, if◌then◌else◌}
+use Rattle.std.specs.List.{AllByRecursion}
 use Rattle.std.specs.declared.option.Option.{Option}
 use Rattle.undo_model.specs.Stories.{Group, is_own, committed}
 use Rattle.kak_world.specs.declared.world.Rest.{Rest}
@@ -8,8 +9,12 @@ use Rattle.kak_world.specs.declared.clients.Client.{Client}
 use Rattle.kak_world.specs.Flat.{Buffer, committed_for}
 use Rattle.kak_world.specs.Changing.{commits}
 use Rattle.kak_world.specs.Seen.{Kept, SlotIsQuiet, AreQuiet}
-use Rattle.kak_world.proofs.ListLemmas.{all-set}
 use Rattle.kak_world.proofs.WorldLemmas.{parts, committed-all}
+
+all-set : {X : Type 0} (P : X → Type 0) (xs : List X) (n : ℕ) (x : X) → AllByRecursion P xs → P x → AllByRecursion P (set xs n x)
+all-set P [] n x a p = a
+all-set P (y ∷ ys) zero x a p = (p, a.1)
+all-set P (y ∷ ys) (suc n) x a p = (a.0, all-set P ys n x a.1 p)
 
 quiet-slot : (slot : Option Buffer) (b : Buffer) → SlotIsQuiet slot → slot ≡ Some b → b.story.group ≡ None
 quiet-slot slot b q e = let there : SlotIsQuiet (Some b) = subst SlotIsQuiet e q in there

@@ -2,11 +2,11 @@
 use Rattle.std.proofs.Common.{◌≡◌, ℕ, ◌<◌, Bool, true, false, cond, List, [], ◌∷◌, length, take, refl, sym, ap, subst, ◌∙◌, None, Some, inl, inr, arith}
 use Rattle.std.specs.Prelude.{◌⊎◌}
 use Rattle.std.specs.declared.option.Option.{Option}
-use Rattle.text_model.specs.Changes.{Change, all_changed}
+use Rattle.text_model.specs.Changes.{Change}
 use Rattle.undo_model.specs.declared.travel.Travel.{Travel}
 use Rattle.undo_model.specs.declared.travel.Travel.TheVariants.{Undo, Redo, Node}
 use Rattle.undo_model.specs.Stories.{Story, is_undo_full}
-use Rattle.undo_model.specs.Moves.{target_of}
+use Rattle.undo_model.specs.Moves.{target_of, move_changes}
 use Rattle.undo_model.specs.Edits.{Splice, is_too_long}
 use Rattle.buffer_store.specs.declared.edits.Splice.{Splice as CodeSplice}
 use Rattle.buffer_store.specs.declared.errors.BufferError.{BufferError}
@@ -15,9 +15,9 @@ use Rattle.buffer_store.specs.declared.errors.MoveError.{MoveError}
 use Rattle.buffer_store.specs.declared.errors.MoveError.TheVariants as move
 use Rattle.buffer_store.specs.Buffers.{flat_splices, changes_of, refusal_of}
 use Rattle.kak_world.specs.declared.ask.EditError.TheVariants.{UndoFull, TextFull}
-use Rattle.kak_world.specs.declared.holder.Holder.TheVariants.{Of}
+use Rattle.list_shelf.specs.declared.holder.Holder.TheVariants.{Of}
 use Rattle.kak_world.specs.Flat.{Buffer, Flat, shown_of, buffer_of, story_of, text_of}
-use Rattle.kak_world.specs.Changing.{buffer_changed, buffer_edited, buffer_traveled, changed_in, splice_changes_of, edited_by, traveled_by, IsSomeEdited, IsSomeMoved, IsAfterSomeChanges, IsCutOff}
+use Rattle.kak_world.specs.Changing.{buffer_edited, buffer_traveled, changed_in, splice_changes_of, edited_by, traveled_by, buffer_broken_off, IsSomeEdited, IsCutMove, IsAfterSomeChanges, IsMoveCutIn}
 use Rattle.kak_world.specs.Rows.{Row, Fails, does, fails, error_text, row_of}
 use Rattle.kak_world.specs.Refusals.{of_edit, of_move}
 use Rattle.kak_world.specs.Editing.{is_full_for, long_refusal, edit_row, travel_row, move_ends, move_refusal}
@@ -114,14 +114,13 @@ some-edited who cs ds flat new b to e s changed = record {
   is = changed (buffer_edited who (take s.made cs)) s.is ∙ ap (λ xs. changed_in (shown_of who flat) (buffer_edited who (take s.made xs)) flat) e;
 }
 
-pub some-cut : (who : ℕ) (cs ds : List Change) (flat new : Flat) (b to : Buffer) → b ≡ buffer_of who flat → cs ≡ ds → IsSomeMoved cs b to → ((f : Buffer → Buffer) → to ≡ f b → new ≡ changed_in (shown_of who flat) f flat) → IsCutOff who ds flat new
-unfolding text_of
-some-cut who cs ds flat new b to same e s changed = record {
+pub some-cut : (who : ℕ) (travel : Travel) (flat new : Flat) (b to : Buffer) → b ≡ buffer_of who flat → IsCutMove (Of who) travel b to → ((f : Buffer → Buffer) → to ≡ f b → new ≡ changed_in (shown_of who flat) f flat) → IsMoveCutIn who travel flat new
+unfolding story_of
+some-cut who travel flat new b to e (inl s) changed = inl (record {
   made = s.made;
-  story = s.story;
-  text = s.text ∙ ap (λ (x : Buffer). all_changed x.story.text (take s.made cs)) same ∙ ap (λ xs. all_changed (buffer_of who flat).story.text (take s.made xs)) e;
-  is = changed (buffer_changed (take s.made cs) s.story) s.is ∙ ap (λ xs. changed_in (shown_of who flat) (buffer_changed (take s.made xs) s.story) flat) e;
-}
+  is = changed (buffer_broken_off (take s.made (move_changes travel b.story))) s.is ∙ ap (λ (x : Buffer). changed_in (shown_of who flat) (buffer_broken_off (take s.made (move_changes travel x.story))) flat) e;
+})
+some-cut who travel flat new b to e (inr whole) changed = inr (traveled-of travel who flat new b to whole changed)
 
 pub either-none : (error : MoveError) (travel : Travel) (s t : Story) → s ≡ t → ((error ≡ move.NoMemory) ⊎ (target_of travel s ≡ None)) → ((error ≡ move.NoMemory) ⊎ (target_of travel t ≡ None))
 either-none error travel s t e h = subst (λ x. (error ≡ move.NoMemory) ⊎ (target_of travel x ≡ None)) e h

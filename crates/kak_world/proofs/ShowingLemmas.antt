@@ -6,10 +6,11 @@ use Rattle.std.proofs.lemmas.Bool.{eqb-true, eq-eqb}
 use Rattle.tables.specs.Tables.{first_where, place_where, changed_where}
 use Rattle.tables.proofs.TableLemmas.{by_test}
 use Rattle.tables.proofs.RowLemmas.{first-changed, first-changed_other, any-changed, map-changed, place-inside, changed-place, any-with_row, any-with_other}
-use Rattle.kak_world.specs.declared.holder.Holder.TheVariants.{Of}
+use Rattle.list_shelf.specs.declared.holder.Holder.TheVariants.{Of}
+use Rattle.list_shelf.specs.Shelves.{is_held_by}
 use Rattle.kak_world.specs.declared.clients.Client.{Client}
 use Rattle.kak_world.specs.declared.world.Rest.{Rest}
-use Rattle.kak_world.specs.Flat.{Buffer, Flat, is_of, is_here, newcomer, fresh_list, is_held_by, has_list, listed_for, is_there, buffer_at, changed_at, client_of, shown_of, buffer_of, is_joined}
+use Rattle.kak_world.specs.Flat.{Buffer, Flat, is_of, is_here, newcomer, fresh_list, has_list, listed_for, is_there, buffer_at, changed_at, client_of, shown_of, buffer_of, is_joined, rest_of, turn_of}
 use Rattle.kak_world.specs.Keeping.{KeepsClients}
 use Rattle.kak_world.specs.Seen.{Kept, HasBuffer}
 use Rattle.kak_world.specs.Showing.{seeing_buffer, shows}
@@ -34,7 +35,7 @@ set-slot zero f (o ∷ bs) slot to g t = ap (λ x. x ∷ bs) (t ∙ ap (option_m
 set-slot (suc n) f (o ∷ bs) slot to g t = ap (λ xs. o ∷ xs) (set-slot n f bs slot to g t)
 
 -- or to what it was
-pub set-slot_same : (n : ℕ) (bs : List (Option Buffer)) (slot to : Option Buffer) → slot ≡ get_or bs n slot → to ≡ slot → set bs n to ≡ bs
+pub set-slot_same : {A : Type 0} (n : ℕ) (bs : List A) (slot to : A) → slot ≡ get_or bs n slot → to ≡ slot → set bs n to ≡ bs
 set-slot_same n [] slot to g t = refl
 set-slot_same zero (o ∷ bs) slot to g t = ap (λ x. x ∷ bs) (t ∙ g)
 set-slot_same (suc n) (o ∷ bs) slot to g t = ap (λ xs. o ∷ xs) (set-slot_same n bs slot to g t)
@@ -96,10 +97,15 @@ pub whos-shown : (who n : ℕ) (flat : Flat) → map (λ (c : Client). c.who) (s
 unfolding shows
 whos-shown who n flat = map-changed (is_of who) (seeing_buffer n) (λ c. c.who) flat.clients (λ c. refl)
 
--- who is there, and who has joined, is as before
+pub turn_shows : (who n : ℕ) (flat : Flat) → turn_of (shows who n flat) ≡ turn_of flat
+unfolding rest_of shows
+turn_shows who n flat = refl
+
+-- who is there, who has joined, and whose turn it is, is as before
 pub keeps_shows : (who n : ℕ) (flat : Flat) → is_joined who flat ≡ true → is_there n flat.buffers ≡ true → KeepsClients flat (shows who n flat)
 keeps_shows who n flat j t = record {
   whos = whos-shown who n flat;
+  turn = turn_shows who n flat;
   joined = λ k.
       by_test (λ b. b ≡ (who == k) → is_joined k (shows who n flat) ≡ is_joined k flat) (who == k)
       (λ _ e. subst (λ m. is_joined m (shows who n flat) ≡ is_joined m flat) (eqb-true who k (sym e)) (joined_shows who n flat j t ∙ sym j))

@@ -7,13 +7,14 @@ use Rattle.std.proofs.lemmas.Bool.{eqb-true, eq-eqb}
 use Rattle.tables.specs.Tables.{first_where, with_row}
 use Rattle.tables.proofs.TableLemmas.{by_test}
 use Rattle.tables.proofs.RowLemmas.{any-added, any-with_row}
-use Rattle.kak_world.specs.declared.holder.Holder.TheVariants.{Of}
+use Rattle.list_shelf.specs.declared.holder.Holder.TheVariants.{Of}
+use Rattle.list_shelf.specs.Shelves.{Held, is_held_by}
 use Rattle.kak_world.specs.declared.clients.Client.{Client}
-use Rattle.kak_world.specs.Flat.{Held, Buffer, Flat, fresh_list, newcomer, is_of, is_here, is_held_by, has_list, listed_for, changed_at, lowest, client_of, shown_of, is_joined}
+use Rattle.kak_world.specs.Flat.{Buffer, Flat, fresh_list, newcomer, is_of, is_here, has_list, listed_for, changed_at, lowest, client_of, shown_of, is_joined, rest_of, turn_of}
 use Rattle.kak_world.specs.Keeping.{whos_of}
 use Rattle.kak_world.specs.Dropping.{emptied, moved_on, listed_for_viewer, listed_for_viewers, left_without, buffers_dropped, dropped, KeepsJoined}
 use Rattle.kak_world.proofs.SlotLemmas.{slot-changed}
-use Rattle.kak_world.proofs.KeepingLaws.{listed_in, joined_in, is-joined-in, here_joined}
+use Rattle.kak_world.proofs.KeepingLaws.{listed_in, joined_in, is-joined-in, and-first, and-second, here_joined}
 use Rattle.kak_world.proofs.DroppingLemmas.{emptied-other, there-any, left-some, some-left}
 
 -- a client, when those that saw a buffer see another one
@@ -86,18 +87,10 @@ changed-stays k (suc m) zero f (b ∷ bs) h s = s
 changed-stays k zero (suc to) f (b ∷ bs) h s = s
 changed-stays k (suc m) (suc to) f (b ∷ bs) h s = changed-stays k m to f bs h s
 
-and-one : (a b : Bool) → (a && b) ≡ true → a ≡ true
-and-one true b h = refl
-and-one false b h = h
-
-and-two : (a b : Bool) → (a && b) ≡ true → b ≡ true
-and-two true b h = h
-and-two false b h = absurd (let no : false ≡ true = h in cc)
-
 left-stays : (k m n : ℕ) (bs : List (Option Buffer)) → m ≢ n → listed_in k (get_or bs m None) ≡ true → listed_in k (get_or (left_without n bs) m None) ≡ true
 left-stays k m n bs apart s =
     let same : get_or (emptied n bs) m None ≡ get_or bs m None = emptied-other n m bs None apart in
-    let there : is_some (get_or (emptied n bs) m None) ≡ true = ap is_some same ∙ and-one _ _ s in
+    let there : is_some (get_or (emptied n bs) m None) ≡ true = ap is_some same ∙ and-first _ _ s in
     ap (λ xs. listed_in k (get_or xs m None)) (left-some (emptied n bs) (there-any m (emptied n bs) there)) ∙ ap (listed_in k) same ∙ s
 
 -- who saw it sees the one with the least number, and has a list there
@@ -135,7 +128,7 @@ in-parts k n flat h j =
     let here : is_here k cs ≡ true = moved-here k n (lowest (left_without n flat.buffers)) flat.clients ∙ h in
     ap (λ t. t && listed_in k (get_or bs (first_where (is_of k) (newcomer k 0 0) cs).shown None)) here
     ∙ ap (λ (c : Client). listed_in k (get_or bs c.shown None)) (moved-first k n (lowest (left_without n flat.buffers)) (newcomer k 0 0) flat.clients h)
-    ∙ stays-listed k n (newcomer k 0 0) flat.clients flat.buffers h (and-two _ _ j)
+    ∙ stays-listed k n (newcomer k 0 0) flat.clients flat.buffers h (and-second _ _ j)
 
 pub joined_drops : (k n : ℕ) (flat : Flat) → is_joined k flat ≡ true → is_joined k (dropped n flat) ≡ true
 joined_drops k n flat j = is-joined-in k (dropped n flat) ∙ in-parts k n flat (here_joined k flat j) (sym (is-joined-in k flat) ∙ j)
@@ -144,9 +137,13 @@ whos-dropped : (n : ℕ) (flat : Flat) → whos_of (dropped n flat).clients ≡ 
 unfolding dropped
 whos-dropped n flat = moved-whos n (lowest (left_without n flat.buffers)) flat.clients
 
+turn-dropped : (n : ℕ) (flat : Flat) → turn_of (dropped n flat) ≡ turn_of flat
+unfolding rest_of dropped
+turn-dropped n flat = refl
+
 -- the same clients are there, and have joined still
 pub keeps_dropped : (n : ℕ) (flat : Flat) → KeepsJoined flat (dropped n flat)
-keeps_dropped n flat = record { whos = whos-dropped n flat; joined = λ k j. joined_drops k n flat j }
+keeps_dropped n flat = record { whos = whos-dropped n flat; joined = λ k j. joined_drops k n flat j; turn = turn-dropped n flat }
 
 pub drop-keeps : (n : ℕ) (flat now : Flat) → now ≡ dropped n flat → KeepsJoined flat now
 drop-keeps n flat now e = subst (KeepsJoined flat) (sym e) (keeps_dropped n flat)

@@ -8,16 +8,17 @@ use Rattle.tables.proofs.RowLemmas.{any-added, first-new, any-with_row}
 use Rattle.std.specs.Prelude.{◌&&◌, is_some, option_map}
 use Rattle.std.specs.declared.option.Option.{Option}
 use Rattle.tables.specs.Tables.{first_where}
-use Rattle.kak_world.specs.declared.holder.Holder.TheVariants.{Of}
+use Rattle.list_shelf.specs.declared.holder.Holder.TheVariants.{Of}
 use Rattle.scope_options.specs.declared.setting.Setting.{Setting}
 use Rattle.scope_options.specs.Settings.{without_client}
+use Rattle.list_shelf.specs.Shelves.{Held, is_held_by}
 use Rattle.kak_world.specs.declared.clients.Client.{Client}
 use Rattle.kak_world.specs.declared.world.Rest.{Rest}
-use Rattle.kak_world.specs.Flat.{Held, Buffer, Flat, is_of, is_here, newcomer, is_there, buffer_or_scratch, buffer_at, changed_at, has_list, list_on, client_of, shown_of, buffer_of, list_of, is_joined, own_of, number_of, text_of, story_of, sels_of, view_of, with_list_of, with_list}
+use Rattle.kak_world.specs.Flat.{Buffer, Flat, is_of, is_here, newcomer, is_there, buffer_or_scratch, buffer_at, changed_at, has_list, list_on, client_of, shown_of, buffer_of, list_of, is_joined, own_of, number_of, text_of, story_of, sels_of, with_list_of, with_list}
 use Rattle.kak_world.specs.Changing.{changed_in, commits}
 use Rattle.kak_world.specs.Seen.{Kept, HasBuffer}
 use Rattle.kak_world.proofs.SlotLemmas.{there-inside, set-changed, there-kept, length-kept, there-mapped, buffer-changed}
-use Rattle.kak_world.specs.Flat.{lowest, least_free, numbers_of, is_held_by, fresh_list, listed_for, committed_for, left_behind, joined_by, left_by_client}
+use Rattle.kak_world.specs.Flat.{with_rest, takes_turn, lowest, least_free, numbers_of, fresh_list, listed_for, committed_for, left_behind, joined_by, left_by_client}
 use Rattle.kak_world.proofs.WorldLaws.{joined_here, joined_there, joined_list}
 
 -- the world of some parts
@@ -63,7 +64,7 @@ shown-not_none who bs cs r w c slot e f j g n =
     let same : get_or bs c.shown None ≡ None = ap (λ d. get_or bs c.shown d) (sym n) ∙ sym g ∙ n in
     let no : is_some {T = Buffer} None ≡ true = ap is_some (sym same) ∙ there in cc
 
-pub get_or_same : (xs : List (Option Buffer)) (n : ℕ) (d : Option Buffer) → n < length xs → get_or xs n None ≡ get_or xs n d
+pub get_or_same : {A : Type 0} (xs : List (Option A)) (n : ℕ) (d : Option A) → n < length xs → get_or xs n None ≡ get_or xs n d
 get_or_same [] n d h = absurd (omega arith)
 get_or_same (x ∷ xs) zero d h = refl
 get_or_same (x ∷ xs) (suc n) d h = get_or_same xs n d (omega arith)
@@ -109,7 +110,7 @@ has-changed n f bs h = record {
 pub has-set : (n : ℕ) (b to : Buffer) (bs : List (Option Buffer)) → get_or bs n None ≡ Some b → HasBuffer bs → HasBuffer (set bs n (Some to))
 has-set n b to bs g h = subst HasBuffer (sym (set-changed n (λ _. to) b bs g)) (has-changed n (λ _. to) bs h)
 
--- its text, the client's selections and its window
+-- its text, and the client's selections
 pub text-of : (who : ℕ) (bs : List (Option Buffer)) (cs : List Client) (r : Rest) (w : Kept) (c : Client) (slot : Option Buffer) (b : Buffer) → parts bs cs r ≡ w → c ≡ first_where (is_of who) (newcomer who 0 0) cs → is_joined who w.flat ≡ true → slot ≡ get_or bs c.shown slot → slot ≡ Some b → b.story.text ≡ text_of who w.flat
 unfolding text_of
 text-of who bs cs r w c slot b e f j g s = ap (λ (x : Buffer). x.story.text) (buffer-of who bs cs r w c slot b e f j g s)
@@ -117,10 +118,6 @@ text-of who bs cs r w c slot b e f j g s = ap (λ (x : Buffer). x.story.text) (b
 pub sels-of : (who : ℕ) (bs : List (Option Buffer)) (cs : List Client) (r : Rest) (w : Kept) (c : Client) (slot : Option Buffer) (b : Buffer) → parts bs cs r ≡ w → c ≡ first_where (is_of who) (newcomer who 0 0) cs → is_joined who w.flat ≡ true → slot ≡ get_or bs c.shown slot → slot ≡ Some b → (list_on (Of who) b).sels ≡ sels_of who w.flat
 unfolding sels_of list_of
 sels-of who bs cs r w c slot b e f j g s = ap (λ (x : Buffer). (list_on (Of who) x).sels) (buffer-of who bs cs r w c slot b e f j g s)
-
-pub view-of : (who : ℕ) (bs : List (Option Buffer)) (cs : List Client) (r : Rest) (w : Kept) (c : Client) (slot : Option Buffer) (b : Buffer) → parts bs cs r ≡ w → c ≡ first_where (is_of who) (newcomer who 0 0) cs → is_joined who w.flat ≡ true → slot ≡ get_or bs c.shown slot → slot ≡ Some b → (list_on (Of who) b).view ≡ view_of who w.flat
-unfolding view_of list_of
-view-of who bs cs r w c slot b e f j g s = ap (λ (x : Buffer). (list_on (Of who) x).view) (buffer-of who bs cs r w c slot b e f j g s)
 
 -- whether a client has joined
 pub joined-not : (who : ℕ) (bs : List (Option Buffer)) (cs : List Client) (r : Rest) (w : Kept) → parts bs cs r ≡ w → is_here who cs ≡ false → false ≡ is_joined who w.flat
@@ -169,17 +166,16 @@ set-same zero b (o ∷ bs) h = ap (λ x. x ∷ bs) (sym h)
 set-same (suc n) b (o ∷ bs) h = ap (λ xs. o ∷ xs) (set-same n b bs h)
 
 -- the world after a client came, and where it didn't
-pub came : (who : ℕ) (bs : List (Option Buffer)) (cs added : List Client) (r : Rest) (w : Kept) (n : ℕ) (b to : Buffer) → parts bs cs r ≡ w → n ≡ lowest bs → get_or bs n None ≡ Some b → to ≡ listed_for (Of who) b
-    → added ≡ cs ++ newcomer who (least_free (numbers_of cs)) n ∷ [] → (parts (set bs n (Some to)) added r).flat ≡ joined_by who w.flat
+pub came : (who : ℕ) (bs now : List (Option Buffer)) (cs added : List Client) (r : Rest) (w : Kept) (n : ℕ) → parts bs cs r ≡ w → n ≡ lowest bs → now ≡ changed_at n (listed_for (Of who)) bs
+    → added ≡ cs ++ newcomer who (least_free (numbers_of cs)) n ∷ [] → (parts now added r).flat ≡ joined_by who w.flat
 unfolding joined_by
-came who bs cs added r w n b to e l g t a =
-    ap (λ x. (parts (set bs n (Some x)) added r).flat) t
-    ∙ ap (λ x. (parts x added r).flat) (set-changed n (listed_for (Of who)) b bs g)
+came who bs now cs added r w n e l g a =
+    ap (λ x. (parts x added r).flat) g
     ∙ ap (λ x. (parts (changed_at n (listed_for (Of who)) bs) x r).flat) a
     ∙ ap (λ k. (parts (changed_at k (listed_for (Of who)) bs) (cs ++ newcomer who (least_free (numbers_of cs)) k ∷ []) r).flat) l
     ∙ ap (λ (k : Kept). joined_by who k.flat) e
 
-without-new : (who : ℕ) (new : Client) (cs : List Client) → is_here who cs ≡ false → is_of who new ≡ true → filter (λ c. not (is_of who c)) (cs ++ new ∷ []) ≡ cs
+pub without-new : (who : ℕ) (new : Client) (cs : List Client) → is_here who cs ≡ false → is_of who new ≡ true → filter (λ c. not (is_of who c)) (cs ++ new ∷ []) ≡ cs
 without-new who new [] h n = ap (λ t. cond (not t) (new ∷ []) []) n
 without-new who new (c ∷ cs) h n =
     by_test (λ t. (t || is_here who cs) ≡ false → cond (not t) (c ∷ filter (λ x. not (is_of who x)) (cs ++ new ∷ [])) (filter (λ x. not (is_of who x)) (cs ++ new ∷ [])) ≡ c ∷ cs) (is_of who c)
@@ -187,11 +183,10 @@ without-new who new (c ∷ cs) h n =
     (λ _ h. ap (λ xs. c ∷ xs) (without-new who new cs h n))
     h
 
-pub came-not : (who : ℕ) (bs : List (Option Buffer)) (cs added left : List Client) (r : Rest) (w : Kept) (n : ℕ) (b to : Buffer) → parts bs cs r ≡ w → is_here who w.flat.clients ≡ false → get_or bs n None ≡ Some b → to ≡ b
-    → added ≡ cs ++ newcomer who (least_free (numbers_of cs)) n ∷ [] → left ≡ filter (λ c. not (is_of who c)) added → (parts (set bs n (Some to)) left r).flat ≡ w.flat
-came-not who bs cs added left r w n b to e away g t a l =
-    ap (λ x. (parts (set bs n (Some x)) left r).flat) t
-    ∙ ap (λ x. (parts x left r).flat) (set-same n b bs g)
+pub came-not : (who : ℕ) (bs now : List (Option Buffer)) (cs added left : List Client) (r : Rest) (w : Kept) (n : ℕ) → parts bs cs r ≡ w → is_here who w.flat.clients ≡ false → now ≡ bs
+    → added ≡ cs ++ newcomer who (least_free (numbers_of cs)) n ∷ [] → left ≡ filter (λ c. not (is_of who c)) added → (parts now left r).flat ≡ w.flat
+came-not who bs now cs added left r w n e away g a l =
+    ap (λ x. (parts x left r).flat) g
     ∙ ap (λ x. (parts bs x r).flat) (l ∙ ap (filter (λ c. not (is_of who c))) a ∙ without-new who (newcomer who (least_free (numbers_of cs)) n) cs (ap (λ (k : Kept). is_here who k.flat.clients) e ∙ away) (eq-eqb who who refl))
     ∙ ap (λ (k : Kept). k.flat) e
 
@@ -238,3 +233,8 @@ pub same-of : (who : ℕ) (bs : List (Option Buffer)) (cs : List Client) (r : Re
     → to ≡ b → (parts (set bs c.shown (Some to)) cs r).flat ≡ w.flat
 same-of who bs cs r w c slot b to e g j l s t =
     ap (λ x. (parts (set bs c.shown (Some x)) cs r).flat) t ∙ ap (λ x. (parts x cs r).flat) (set-same c.shown b bs (slot-at who bs cs r w c slot b e g j l s)) ∙ ap (λ (k : Kept). k.flat) e
+
+-- a step of a client begins
+pub entered-flat : (who : ℕ) (bs now : List (Option Buffer)) (cs : List Client) (r : Rest) (w : Kept) → parts bs cs r ≡ w → now ≡ bs → (parts now cs (record r { step = record r.step { turn = Some who } })).flat ≡ takes_turn who w.flat
+unfolding with_rest
+entered-flat who bs now cs r w e b = ap (λ x. (parts x cs (record r { step = record r.step { turn = Some who } })).flat) b ∙ ap (λ (k : Kept). takes_turn who k.flat) e

@@ -1,19 +1,15 @@
 -- How a buffer changes: each single change of its text moves every selection list on it.
-use Rattle.std.specs.Prelude.{◌≡◌, ℕ, List, length, map, option_map, take}
+use Rattle.std.specs.Prelude.{◌≡◌, ◌⊎◌, ℕ, List, [], ◌∷◌, length, map, option_map, take}
 use Rattle.text_model.specs.Changes.{Change, all_changed}
-use Rattle.selection_map.specs.Catching.{eager_by}
 use Rattle.undo_model.specs.declared.travel.Travel.{Travel}
-use Rattle.undo_model.specs.Stories.{Story, edited}
-use Rattle.undo_model.specs.Moves.{moved_by, move_changes}
+use Rattle.undo_model.specs.Stories.{Story, edited, committed}
+use Rattle.undo_model.specs.Moves.{moved_by, move_changes, forgotten}
 use Rattle.undo_model.specs.Edits.{Splice, edit_changes}
 use Rattle.undo_model.specs.Marks.{left_by}
-use Rattle.kak_world.specs.declared.holder.Holder.{Holder}
-use Rattle.kak_world.specs.declared.holder.Holder.TheVariants.{Of}
-use Rattle.kak_world.specs.Flat.{Held, Buffer, Flat, changed_at, with_list, committed_for, shown_of, text_of}
-
--- a list of a text after single changes of it: it is carried through each, and settled there
-abbrev pub list_moved : List ℕ → List Change → Held → Held
-list_moved text cs held = record held { sels = eager_by text cs held.sels }
+use Rattle.list_shelf.specs.declared.holder.Holder.{Holder}
+use Rattle.list_shelf.specs.declared.holder.Holder.TheVariants.{Of}
+use Rattle.list_shelf.specs.Shelves.{list_moved}
+use Rattle.kak_world.specs.Flat.{Buffer, Flat, changed_at, with_list, committed_for, shown_of, text_of, story_of, with_buffers}
 
 -- a buffer with another story, to whose text single changes lead: they move every list on it, whoever holds it
 abbrev pub buffer_changed : List Change → Story → Buffer → Buffer
@@ -36,17 +32,29 @@ pub record IsSomeEdited (who : ℕ) (cs : List Change) (old new : Buffer) : Type
   pub made : ℕ
   pub is : new ≡ buffer_edited who (take made cs) old
 
--- a buffer after some of the changes that lead to another story, from the first on: nothing is said of the undo tree, whose
--- history may be lost
+-- a story that was left within a move, behind some of its changes: before the first one what was pending is committed, and
+-- behind it the history is lost, and the text counts as modified
+abbrev pub broken_off : List Change → Story → Story
+broken_off [] s = committed s
+broken_off (c ∷ cs) s = forgotten (all_changed s.text (c ∷ cs))
+
+-- a buffer that was left so
+abbrev pub buffer_broken_off : List Change → Buffer → Buffer
+buffer_broken_off cs b = buffer_changed cs (broken_off cs b.story) b
+
+-- a buffer after some of the changes of a move, from the first on
 pub record IsSomeMoved (cs : List Change) (old new : Buffer) : Type 0 where
   pub made : ℕ
-  pub story : Story
-  pub text : story.text ≡ all_changed old.story.text (take made cs)
-  pub is : new ≡ buffer_changed (take made cs) story old
+  pub is : new ≡ buffer_broken_off (take made cs) old
+
+-- a buffer after a move of a holder in which memory was wanting: some of its changes were made, from the first on, or the whole move was
+abbrev pub IsCutMove : Holder → Travel → Buffer → Buffer → Type 0
+IsCutMove holder travel old new = IsSomeMoved (move_changes travel old.story) old new ⊎ (new ≡ buffer_traveled holder travel old)
 
 -- the world with the buffer of a number changed
 unfoldable pub changed_in : ℕ → (Buffer → Buffer) → Flat → Flat
-changed_in n f flat = record flat { buffers = changed_at n f flat.buffers }
+unfolding with_buffers
+changed_in n f flat = with_buffers (changed_at n f flat.buffers) flat
 
 -- the single changes of a client's replacements in the text that it sees
 abbrev pub splice_changes_of : List Splice → ℕ → Flat → List Change
@@ -62,17 +70,19 @@ traveled_by travel who flat = changed_in (shown_of who flat) (buffer_traveled (O
 
 -- the world in which all pending groups of a client are committed
 unfoldable pub commits : ℕ → Flat → Flat
-commits who flat = record flat { buffers = map (option_map (committed_for who)) flat.buffers }
+unfolding with_buffers
+commits who flat = with_buffers (map (option_map (committed_for who)) flat.buffers) flat
 
 -- the world after some of a client's changes of the buffer that it sees, from the first on
 pub record IsAfterSomeChanges (who : ℕ) (cs : List Change) (old new : Flat) : Type 0 where
   pub made : ℕ
   pub is : new ≡ changed_in (shown_of who old) (buffer_edited who (take made cs)) old
 
--- the world after some of the changes that lead to another story of the buffer that a client sees, from the first on: nothing is
--- said of the undo tree, whose history may be lost
-pub record IsCutOff (who : ℕ) (cs : List Change) (old new : Flat) : Type 0 where
+-- the world after some of the changes of a move in the buffer that a client sees, from the first on
+pub record IsMovedPartWay (who : ℕ) (cs : List Change) (old new : Flat) : Type 0 where
   pub made : ℕ
-  pub story : Story
-  pub text : story.text ≡ all_changed (text_of who old) (take made cs)
-  pub is : new ≡ changed_in (shown_of who old) (buffer_changed (take made cs) story) old
+  pub is : new ≡ changed_in (shown_of who old) (buffer_broken_off (take made cs)) old
+
+-- the world after a move of a client in which memory was wanting: some of its changes were made, from the first on, or the whole move was
+abbrev pub IsMoveCutIn : ℕ → Travel → Flat → Flat → Type 0
+IsMoveCutIn who travel old new = IsMovedPartWay who (move_changes travel (story_of who old)) old new ⊎ (new ≡ traveled_by travel who old)

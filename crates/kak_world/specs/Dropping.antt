@@ -4,9 +4,9 @@ use Rattle.std.specs.List.{list_any}
 use Rattle.std.specs.declared.option.Option.{Option}
 use Rattle.std.specs.Prelude.{None}
 use Rattle.scope_options.specs.Settings.{without_buffer}
-use Rattle.kak_world.specs.declared.holder.Holder.TheVariants.{Of}
+use Rattle.list_shelf.specs.declared.holder.Holder.TheVariants.{Of}
 use Rattle.kak_world.specs.declared.clients.Client.{Client}
-use Rattle.kak_world.specs.Flat.{Buffer, Flat, scratch, listed_for, changed_at, lowest, is_joined}
+use Rattle.kak_world.specs.Flat.{Buffer, Flat, scratch, listed_for, changed_at, lowest, is_joined, turn_of}
 use Rattle.kak_world.specs.Keeping.{whos_of}
 use Rattle.kak_world.specs.Showing.{seeing_buffer, buffer_placed}
 
@@ -49,7 +49,8 @@ dropped n flat = record flat {
   rest = record flat.rest { options = without_buffer n flat.rest.options };
 }
 
--- the same clients are there as before, and each that had joined has joined still
+-- the same clients are there as before, each that had joined has joined still, and it is the same one's turn
 pub record KeepsJoined (old new : Flat) : Type 0 where
   pub whos : whos_of new.clients ≡ whos_of old.clients
   pub joined : (k : ℕ) → is_joined k old ≡ true → is_joined k new ≡ true
+  pub turn : turn_of new ≡ turn_of old

@@ -1,6 +1,6 @@
 -- Worked examples of buffers that are dropped, which hold by computation.
 use Rattle.std.specs.Prelude.{◌≡◌, true, false, [], ◌∷◌, codes, map, is_some}
-use Rattle.kak_world.specs.declared.holder.Holder.TheVariants.{Of}
+use Rattle.list_shelf.specs.declared.holder.Holder.TheVariants.{Of}
 use Rattle.kak_world.specs.Flat.{name_of, sels_of, with_sels}
 use Rattle.kak_world.specs.Examples.{only_sel_at}
 use Rattle.kak_world.specs.Showing.{shows, first_gap}

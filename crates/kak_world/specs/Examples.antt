@@ -4,9 +4,9 @@ use Rattle.list_model.specs.Ranges.{Range, Selected, only, cursor}
 use Rattle.text_model.specs.Changes.{Erasure}
 use Rattle.undo_model.specs.declared.travel.Travel.TheVariants.{Undo, Redo, Node}
 use Rattle.undo_model.specs.Stories.{opened}
-use Rattle.kak_world.specs.declared.holder.Holder.TheVariants.{Of}
-use Rattle.scope_options.specs.Settings.{given}
-use Rattle.kak_world.specs.Flat.{Held, Flat, opening, is_joined, name_of, text_of, sels_of, tabstop_of, story_of, node_number_of, joined_by, left_by_client, buffer_at, numbers_of, fresh_list, newcomer}
+use Rattle.list_shelf.specs.declared.holder.Holder.TheVariants.{Of}
+use Rattle.list_shelf.specs.Shelves.{Held}
+use Rattle.kak_world.specs.Flat.{Flat, opening, first_rest, is_joined, acts, takes_turn, step_ended, name_of, text_of, sels_of, tabstop_of, story_of, node_number_of, joined_by, left_by_client, buffer_at, numbers_of, fresh_list, newcomer}
 use Rattle.kak_world.specs.declared.ask.EditError.TheVariants.{NothingToUndo, NothingToRedo, NoSuchNode}
 use Rattle.kak_world.specs.Changing.{changed_in, buffer_edited, edited_by, traveled_by, commits}
 use Rattle.kak_world.specs.Rows.{Fails, error_text}
@@ -38,7 +38,7 @@ abbrev pub on_text : List ℕ → Selected → Selected → Flat
 on_text text first second = record {
   buffers = Some (record { name = codes "n"; is_file = true; story = opened text; lists = list_for 7 first ∷ list_for 9 second ∷ [] }) ∷ [];
   clients = newcomer 7 0 0 ∷ newcomer 9 1 0 ∷ [];
-  rest = record { units = 0; registers = []; options = given };
+  rest = first_rest;
 }
 
 abbrev pub only_sel_at : ℕ → Selected
@@ -67,6 +67,12 @@ pub record ComingExamples : Type 0 where
   pub second_stays : is_joined 9 (left_by_client 7 two_joined) ≡ true
   pub first_is_gone : is_joined 7 (left_by_client 7 two_joined) ≡ false
   pub its_list_is_gone : map (λ held. held.holder) (buffer_at 0 (left_by_client 7 two_joined).buffers).lists ≡ Of 9 ∷ []
+  pub who_comes_acts_not : acts 7 one_client ≡ false
+  pub whose_turn_it_is_acts : acts 9 (takes_turn 9 two_joined) ≡ true
+  pub the_other_acts_not : acts 7 (takes_turn 9 two_joined) ≡ false
+  pub one_turn_at_once : acts 9 (takes_turn 7 (takes_turn 9 two_joined)) ≡ false
+  pub who_is_not_there_acts_not : acts 11 (takes_turn 11 two_joined) ≡ false
+  pub step_ends : acts 9 (step_ended (takes_turn 9 two_joined)) ≡ false
   pub freed_name_is_taken_again : numbers_of (joined_by 11 (left_by_client 7 two_joined)).clients ≡ 1 ∷ 0 ∷ []
 
 pub record ChangeExamples : Type 0 where

@@ -6,7 +6,9 @@ use Rattle.std.specs.Prelude.{Some, None}
 use Rattle.tables.specs.Tables.{first_where, changed_where, with_row}
 use Rattle.key_names.specs.declared.key.Key.{Key}
 use Rattle.list_model.specs.Ranges.{Selected, only}
+use Rattle.window_view.specs.declared.corner.Corner.{Corner}
 use Rattle.window_view.specs.View.{View}
+use Rattle.window_view.specs.Sizes.{first_corner, first_size, view_at}
 use Rattle.edit_line.specs.Halves.{Halves, empty}
 use Rattle.undo_model.specs.Stories.{Story, opened, committed, committed_by}
 use Rattle.kak_registers.specs.declared.row.Register.{Register}
@@ -16,8 +18,9 @@ use Rattle.scope_options.specs.declared.value.OptionValue.{OptionValue}
 use Rattle.scope_options.specs.declared.setting.Setting.{Setting}
 use Rattle.scope_options.specs.Settings.{given, seen_from, without_client}
 use Rattle.scope_options.specs.Numbers.{number_within}
-use Rattle.kak_world.specs.declared.holder.Holder.{Holder}
-use Rattle.kak_world.specs.declared.holder.Holder.TheVariants.{Of}
+use Rattle.list_shelf.specs.declared.holder.Holder.{Holder}
+use Rattle.list_shelf.specs.declared.holder.Holder.TheVariants.{Of}
+use Rattle.list_shelf.specs.Shelves.{Held, is_held_by}
 use Rattle.kak_world.specs.declared.own.Mode.{Mode}
 use Rattle.kak_world.specs.declared.own.Mode.TheVariants.{Normal}
 use Rattle.kak_world.specs.declared.own.StatusText.{StatusText}
@@ -26,14 +29,9 @@ use Rattle.kak_world.specs.declared.own.Own.{Own}
 use Rattle.kak_world.specs.declared.purpose.Purpose.{Purpose}
 use Rattle.kak_world.specs.declared.purpose.Purpose.TheVariants.{Commands}
 use Rattle.kak_world.specs.declared.clients.Client.{Client}
+use Rattle.kak_world.specs.declared.world.Stepping.{Stepping}
 use Rattle.kak_world.specs.declared.world.Rest.{Rest}
 use Rattle.kak_world.specs.declared.options.TheConstants.{MAX_INDENT}
-
--- a selection list on a buffer: whose it is, and the window through which its holder sees the buffer
-pub record Held : Type 0 where
-  pub holder : Holder
-  pub sels : Selected
-  pub view : View
 
 -- a buffer: its name, whether that is a file's, its story, which is its text with the undo tree, and the selection lists on it
 pub record Buffer : Type 0 where
@@ -55,13 +53,9 @@ pub record Flat : Type 0 where
 abbrev pub only_at : ℕ → Selected
 only_at o = record { list = only o ∷ []; main = 0 }
 
--- a window of 24 rows and 80 columns at the start of a text
-abbrev pub first_view : View
-first_view = record { top = 0; left = 0; rows = 24; columns = 80 }
-
--- the list that a holder begins with on a buffer
+-- the list that a holder begins with on a buffer: one selection, of the first character, and a window at the text's start
 abbrev pub fresh_list : Holder → Held
-fresh_list holder = record { holder = holder; sels = only_at 0; view = first_view }
+fresh_list holder = record { holder = holder; sels = only_at 0; corner = first_corner }
 
 -- a buffer that was just opened with a text, with nobody's list on it
 abbrev pub made_buffer : List ℕ → Bool → List ℕ → Buffer
@@ -73,15 +67,23 @@ scratch = made_buffer (codes "*scratch*") false (10 ∷ [])
 
 -- what a client that has just come has of its own
 abbrev pub first_own : Own
-first_own = record { mode = Normal; count = 0; register = None; pending = None; status = Quiet; appending = false; purpose = Commands; prompt = empty; leaving = false; drawn = false }
+first_own = record { mode = Normal; count = 0; register = None; pending = None; status = Quiet; appending = false; purpose = Commands; prompt = empty; leaving = false; drawn = false; size = first_size }
 
 -- a client that has just come: its number in the history, the number in its name, and that of the buffer that it sees
 abbrev pub newcomer : ℕ → ℕ → ℕ → Client
 newcomer who number shown = record { who = who; number = number; shown = shown; own = first_own }
 
--- the world before anything happened: the one buffer, no client, no register that was set, and the options that are given
+-- no step is under way: it is nobody's turn, and no unit is left
+abbrev pub between_steps : Stepping
+between_steps = record { units = 0; turn = None }
+
+-- what is no buffer's and no client's before anything happened: no register was set, and the options are those that are given
+abbrev pub first_rest : Rest
+first_rest = record { step = between_steps; registers = []; options = given }
+
+-- the world before anything happened: the one buffer, and no client
 abbrev pub opening : Flat
-opening = record { buffers = Some scratch ∷ []; clients = []; rest = record { units = 0; registers = []; options = given } }
+opening = record { buffers = Some scratch ∷ []; clients = []; rest = first_rest }
 
 -- whether a client has that number in the history
 abbrev pub is_of : ℕ → Client → Bool
@@ -90,14 +92,6 @@ is_of who c = c.who == who
 -- whether a client of that number is there
 abbrev pub is_here : ℕ → List Client → Bool
 is_here who clients = list_any (is_of who) clients
-
--- whether two holders are one
-abbrev pub same_holder : Holder → Holder → Bool
-same_holder (Of who) (Of number) = number == who
-
--- whether a list is a holder's
-abbrev pub is_held_by : Holder → Held → Bool
-is_held_by holder held = same_holder holder held.holder
 
 -- whether a holder has a list on a buffer
 abbrev pub has_list : Holder → Buffer → Bool
@@ -185,6 +179,23 @@ list_of who flat = list_on (Of who) (buffer_of who flat)
 unfoldable pub is_joined : ℕ → Flat → Bool
 is_joined who flat = is_here who flat.clients && (is_there (shown_of who flat) flat.buffers && has_list (Of who) (buffer_of who flat))
 
+-- what is no buffer's and no client's; each thing that is seen of it is a field of it
+unfoldable pub rest_of : Flat → Rest
+rest_of flat = flat.rest
+
+-- whose turn it is: the client's whose step is under way
+abbrev pub turn_of : Flat → Option ℕ
+turn_of flat = (rest_of flat).step.turn
+
+-- whether a turn is a client's
+abbrev pub is_turn_of : ℕ → Option ℕ → Bool
+is_turn_of who None = false
+is_turn_of who (Some number) = number == who
+
+-- whether a client acts: it has joined, and it is its turn
+unfoldable pub acts : ℕ → Flat → Bool
+acts who flat = is_joined who flat && is_turn_of who (turn_of flat)
+
 -- what is the client's own
 unfoldable pub own_of : ℕ → Flat → Own
 own_of who flat = (client_of who flat).own
@@ -211,13 +222,13 @@ story_of who flat = (buffer_of who flat).story
 unfoldable pub node_number_of : ℕ → Flat → ℕ
 node_number_of who flat = (committed (story_of who flat)).current
 
--- the window through which it sees the buffer
+-- the window through which it sees the buffer: it stands where the client left it on this buffer, and has the client's size
 unfoldable pub view_of : ℕ → Flat → View
-view_of who flat = (list_of who flat).view
+view_of who flat = view_at (list_of who flat).corner (own_of who flat).size
 
 -- what options are set to
-unfoldable pub options_of : Flat → List Setting
-options_of flat = flat.rest.options
+abbrev pub options_of : Flat → List Setting
+options_of flat = (rest_of flat).options
 
 -- the value of an option that counts for a client where it looks
 abbrev pub option_of : List ℕ → ℕ → Flat → Option OptionValue
@@ -231,12 +242,12 @@ unfoldable pub indentwidth_of : ℕ → Flat → ℕ
 indentwidth_of who flat = number_within 0 MAX_INDENT 4 (option_of (codes "indentwidth") who flat)
 
 -- how many keys and commands the step may still run
-unfoldable pub units_of : Flat → ℕ
-units_of flat = flat.rest.units
+abbrev pub units_of : Flat → ℕ
+units_of flat = (rest_of flat).step.units
 
 -- what the registers hold
-unfoldable pub registers_of : Flat → List Register
-registers_of flat = flat.rest.registers
+abbrev pub registers_of : Flat → List Register
+registers_of flat = (rest_of flat).registers
 
 abbrev pub mode_of : ℕ → Flat → Mode
 mode_of who flat = (own_of who flat).mode
@@ -274,28 +285,46 @@ is_drawn who flat = (own_of who flat).drawn
 unfoldable pub with_own : ℕ → (Own → Own) → Flat → Flat
 with_own who f flat = record flat { clients = changed_where (is_of who) (λ c. record c { own = f c.own }) flat.clients }
 
+-- the world with other buffers, and with what is no buffer's and no client's changed: each change of the world writes one of its
+-- three parts by these two and `with_own`, but where clients come, go or are shown another buffer
+unfoldable pub with_buffers : List (Option Buffer) → Flat → Flat
+with_buffers buffers flat = record flat { buffers = buffers }
+
+unfoldable pub with_rest : (Rest → Rest) → Flat → Flat
+with_rest f flat = record flat { rest = f flat.rest }
+
 -- the world with a client's list on the buffer that it sees changed
 unfoldable pub with_list_of : ℕ → (Held → Held) → Flat → Flat
-with_list_of who f flat = record flat { buffers = changed_at (shown_of who flat) (with_list (Of who) f) flat.buffers }
+unfolding with_buffers
+with_list_of who f flat = with_buffers (changed_at (shown_of who flat) (with_list (Of who) f) flat.buffers) flat
 
 -- the world with other selections of a client
 unfoldable pub with_sels : ℕ → Selected → Flat → Flat
 with_sels who sels flat = with_list_of who (λ held. record held { sels = sels }) flat
 
--- the world with another window of a client
-unfoldable pub with_view : ℕ → View → Flat → Flat
-with_view who view flat = with_list_of who (λ held. record held { view = view }) flat
+-- the world in which a client's window on the buffer that it sees stands elsewhere
+unfoldable pub with_corner : ℕ → Corner → Flat → Flat
+with_corner who corner flat = with_list_of who (λ held. record held { corner = corner }) flat
 
-unfoldable pub with_units : ℕ → Flat → Flat
-with_units units flat = record flat { rest = record flat.rest { units = units } }
+-- the world with other units
+abbrev pub with_units : ℕ → Flat → Flat
+with_units units flat = with_rest (λ r. record r { step = record r.step { units = units } }) flat
+
+-- the world in which it is a client's turn
+abbrev pub takes_turn : ℕ → Flat → Flat
+takes_turn who flat = with_rest (λ r. record r { step = record r.step { turn = Some who } }) flat
+
+-- the world when a step is over: it is nobody's turn, and no unit is left
+abbrev pub step_ended : Flat → Flat
+step_ended flat = with_rest (λ r. record r { step = between_steps }) flat
 
 -- the world with other contents of the registers
-unfoldable pub with_registers : List Register → Flat → Flat
-with_registers rows flat = record flat { rest = record flat.rest { registers = rows } }
+abbrev pub with_registers : List Register → Flat → Flat
+with_registers rows flat = with_rest (λ r. record r { registers = rows }) flat
 
 -- the world with options set otherwise
-unfoldable pub with_options : List Setting → Flat → Flat
-with_options rows flat = record flat { rest = record flat.rest { options = rows } }
+abbrev pub with_options : List Setting → Flat → Flat
+with_options rows flat = with_rest (λ r. record r { options = rows }) flat
 
 -- the world with one more client, named by the least number that no other has; it sees the buffer with the least number
 unfoldable pub joined_by : ℕ → Flat → Flat

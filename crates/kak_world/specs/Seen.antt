@@ -1,52 +1,76 @@
 -- How the flat world is seen in the state that the code keeps.
-use Rattle.std.specs.Prelude.{◌≡◌, ℕ, ◌≤◌, Bool, true, false, List, [], ◌∷◌, length, map, None, IfSome}
+use Rattle.std.specs.Prelude.{◌≡◌, ℕ, ◌≤◌, Bool, true, false, List, ◌++◌, length, map, option_map, slice_index_or, Some, None, IfSome}
 use Rattle.std.specs.List.{AllByRecursion}
-use Rattle.text_model.specs.declared.coords.Shift.{Shift}
-use Rattle.text_model.specs.Texts.{IsStored}
-use Rattle.text_model.specs.Changes.{Change, all_changed}
-use Rattle.selection_map.specs.Catching.{AreShiftsOf}
-use Rattle.undo_model.specs.Stories.{Story}
-use Rattle.window_view.specs.Views.{window_seen}
-use Rattle.selection_set.specs.Held.{selected, IsHeld}
-use Rattle.kak_world.specs.declared.lists.HeldList.{HeldList}
-use Rattle.kak_world.specs.declared.holder.Holder.{Holder}
 use Rattle.std.specs.declared.option.Option.{Option}
 use Rattle.std.specs.declared.result.Result.{Result}
 use Rattle.std.specs.Prelude.{Ok, Err}
-use Rattle.kak_world.specs.Flat.{Held, Buffer, Flat, same_holder, lowest, is_there}
-use Rattle.kak_world.specs.Changing.{list_moved}
+use Rattle.tables.specs.Tables.{first_where}
+use Rattle.undo_model.specs.Stories.{Story}
+use Rattle.change_list.specs.declared.log.TheConstants.{MAX_STAMP}
+use Rattle.list_shelf.specs.declared.holder.Holder.{Holder}
+use Rattle.list_shelf.specs.declared.holder.Holder.TheVariants.{Of}
+use Rattle.list_shelf.specs.declared.rows.ShelfRow.{ShelfRow}
+use Rattle.list_shelf.specs.Shelves.{Shelved, empty_shelf, lists_in, Stands, IsUp, KeepsUp, IsTrimmed}
+use Rattle.kak_world.specs.declared.clients.Client.{Client}
+use Rattle.kak_world.specs.Settled.{SlotIsSettled}
+use Rattle.kak_world.specs.Flat.{Buffer, Flat, made_buffer, is_of, is_here, newcomer, lowest, is_there}
 
--- a list, over the text of its buffer
-abbrev pub held_seen : List ℕ → HeldList → Held
-held_seen text h = record { holder = h.holder; sels = selected text h.sels; view = window_seen h.window }
+-- a buffer, by its name, whether that is a file's, its story, and the shelf of the lists on it: each list is seen as if it had been moved
+-- at every change
+abbrev pub buffer_seen : List ℕ → Bool → Story → Shelved → Buffer
+buffer_seen name is_file story shelf = record { name = name; is_file = is_file; story = story; lists = lists_in story.text shelf }
 
--- whether a list is a holder's
-abbrev pub is_list_of : Holder → HeldList → Bool
-is_list_of holder h = same_holder holder h.holder
+-- a buffer as it is kept: as the flat world has it, and its lists as they are stored, with the log of the changes that they missed
+pub record KeptBuffer : Type 0 where
+  pub seen : Buffer
+  pub shelf : Shelved
 
--- a buffer
-abbrev pub buffer_seen : List ℕ → Bool → Story → List HeldList → Buffer
-buffer_seen name is_file story lists = record { name = name; is_file = is_file; story = story; lists = map (held_seen story.text) lists }
+abbrev pub buffer_kept : List ℕ → Bool → Story → Shelved → KeptBuffer
+buffer_kept name is_file story shelf = record { seen = buffer_seen name is_file story shelf; shelf = shelf }
 
--- the lists on a text lie inside it, and are settled
-abbrev pub AreHeld : List ℕ → List HeldList → Type 0
-AreHeld text lists = AllByRecursion (λ h. IsHeld text h.sels) lists
+-- a buffer that was just opened with a text, with nobody's list on it
+abbrev pub buffer_made : List ℕ → Bool → List ℕ → KeptBuffer
+buffer_made name is_file text = record { seen = made_buffer name is_file text; shelf = empty_shelf MAX_STAMP }
 
--- a list has gone through single changes of its text
-pub record HasMoved (text : List ℕ) (cs : List Change) (before now : HeldList) : Type 0 where
-  pub held : IsHeld (all_changed text cs) now.sels
-  pub seen : held_seen (all_changed text cs) now ≡ list_moved text cs (held_seen text before)
+-- a buffer that is seen otherwise, with its lists as they are stored
+abbrev pub with_seen : (Buffer → Buffer) → KeptBuffer → KeptBuffer
+with_seen f b = record { seen = f b.seen; shelf = b.shelf }
 
--- each of some lists has
-abbrev pub HaveMoved : List ℕ → List Change → List HeldList → List HeldList → Type 0
-HaveMoved text cs [] [] = Unit {0}
-HaveMoved text cs (h ∷ hs) (k ∷ ks) = HasMoved text cs h k × HaveMoved text cs hs ks
-HaveMoved text cs [] (k ∷ ks) = ⊥
-HaveMoved text cs (h ∷ hs) [] = ⊥
+-- a shelf is that of a text, and its log holds no shift that no list has yet to go through
+pub record IsShelfOf (text : List ℕ) (shelf : Shelved) : Type 0 where
+  pub stands : Stands text shelf
+  pub trimmed : IsTrimmed shelf
 
--- lists on a text that were changed as a buffer with them is by a function, whatever else is said of the buffer
-abbrev pub AreListedBy : (Buffer → Buffer) → List ℕ → List HeldList → List HeldList → Type 0
-AreListedBy f text old new = (name : List ℕ) (file : Bool) (story : Story) → story.text ≡ text → buffer_seen name file story new ≡ f (buffer_seen name file story old)
+-- lists were added behind those of a shelf, as a function does it with the buffer that they are on, whatever else is said of the buffer
+pub record IsListedBy (f : Buffer → Buffer) (text : List ℕ) (old new : Shelved) : Type 0 where
+  pub added : List ShelfRow
+  pub behind : new ≡ record old { rows = old.rows ++ added }
+  pub seen : (name : List ℕ) (file : Bool) (story : Story) → story.text ≡ text → buffer_seen name file story new ≡ f (buffer_seen name file story old)
+  pub shelf : IsShelfOf text new
+  pub up : KeepsUp old new
+
+-- a buffer as the flat world has it, where there is one, and all buffers
+abbrev pub slot_seen : Option KeptBuffer → Option Buffer
+slot_seen slot = option_map (λ b. b.seen) slot
+
+abbrev pub all_seen : List (Option KeptBuffer) → List (Option Buffer)
+all_seen buffers = map slot_seen buffers
+
+-- a holder's list on a buffer is up to date, where there is a buffer, and the holder has a list on it
+abbrev pub SlotIsUp : Holder → Option KeptBuffer → Type 0
+SlotIsUp holder slot = IfSome slot (λ b. IsUp holder b.shelf)
+
+-- each list on a buffer that was up to date is so still
+abbrev pub SlotKeepsUp : Option KeptBuffer → Option KeptBuffer → Type 0
+SlotKeepsUp old new = (holder : Holder) → SlotIsUp holder old → SlotIsUp holder new
+
+-- and so on each buffer
+abbrev pub AllKeepUp : List (Option KeptBuffer) → List (Option KeptBuffer) → Type 0
+AllKeepUp old new = (n : ℕ) → SlotKeepsUp (slice_index_or old n None) (slice_index_or new n None)
+
+-- the list of whose turn it is is up to date on the buffer that it sees
+abbrev pub TurnIsUp : Option ℕ → List Client → List (Option KeptBuffer) → Type 0
+TurnIsUp turn clients buffers = (who : ℕ) → turn ≡ Some who → is_here who clients ≡ true → SlotIsUp (Of who) (slice_index_or buffers (first_where (is_of who) (newcomer who 0 0) clients).shown None)
 
 -- some buffer is there, and their numbers are below 1,024
 pub record HasBuffer (buffers : List (Option Buffer)) : Type 0 where
@@ -61,18 +85,18 @@ SlotIsQuiet slot = IfSome slot (λ b. b.story.group ≡ None)
 abbrev pub AreQuiet : List (Option Buffer) → Type 0
 AreQuiet buffers = AllByRecursion SlotIsQuiet buffers
 
--- buffers as a world keeps them, which knows where nothing is pending
-pub record BuffersStand (may_pend : Bool) (buffers : List (Option Buffer)) : Type 0 where
-  pub has : HasBuffer buffers
-  pub quiet : may_pend ≡ false → AreQuiet buffers
+-- the same of a buffer as it is kept, and that its lists are settled
+abbrev pub KeptIsQuiet : Option KeptBuffer → Type 0
+KeptIsQuiet slot = SlotIsQuiet (slot_seen slot)
 
--- lists are held in a text, and shifts are those of changes of it
-pub record CanMove (lists : List HeldList) (shifts : List Shift) : Type 0 where
-  pub text : List ℕ
-  pub changes : List Change
-  pub stored : IsStored text
-  pub shifts_are : AreShiftsOf text changes shifts
-  pub held : AreHeld text lists
+abbrev pub KeptIsSettled : Option KeptBuffer → Type 0
+KeptIsSettled slot = SlotIsSettled (slot_seen slot)
+
+-- buffers as a world keeps them, which knows where nothing is pending, and whose turn it is
+pub record BuffersStand (may_pend : Bool) (turn : Option ℕ) (clients : List Client) (buffers : List (Option KeptBuffer)) : Type 0 where
+  pub has : HasBuffer (all_seen buffers)
+  pub quiet : may_pend ≡ false → AreQuiet (all_seen buffers)
+  pub up : TurnIsUp turn clients buffers
 
 -- the world as contracts see it
 pub record Kept : Type 0 where
@@ -82,3 +106,9 @@ pub record Kept : Type 0 where
 abbrev pub CarriesValue : {T E : Type 0} → Result (Unit {0}) E → T → Result T E → Type 0
 CarriesValue (Ok done) x r = r ≡ Ok x
 CarriesValue (Err e) x r = r ≡ Err e
+
+-- an answer of which a second one, for which memory may have been wanting, has a part: the first error counts
+abbrev pub and_then : {E A : Type 0} → E → Result (Unit {0}) E → Result (Unit {0}) A → Result (Unit {0}) E
+and_then wanting (Err e) second = Err e
+and_then wanting (Ok done) (Ok noted) = Ok done
+and_then wanting (Ok done) (Err e) = Err wanting

@@ -5,7 +5,8 @@ use Rattle.std.specs.declared.option.Option.{Option}
 use Rattle.std.specs.Prelude.{Some, None}
 use Rattle.list_model.specs.Ranges.{Range, Selected}
 use Rattle.list_model.specs.Settled.{IsSettledList}
-use Rattle.kak_world.specs.Flat.{Held, Buffer, Flat}
+use Rattle.list_shelf.specs.Shelves.{Held}
+use Rattle.kak_world.specs.Flat.{Buffer, Flat}
 
 -- selections of a text are settled, and lie inside it
 pub record AreSettledInside (text : List ℕ) (s : Selected) : Type 0 where

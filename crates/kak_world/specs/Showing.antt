@@ -3,10 +3,10 @@ use Rattle.std.specs.Prelude.{◌≡◌, ◌≢◌, ℕ, suc, ◌<◌, ◌==◌,
 use Rattle.std.specs.declared.option.Option.{Option}
 use Rattle.std.specs.Prelude.{Some, None}
 use Rattle.tables.specs.Tables.{changed_where}
-use Rattle.kak_world.specs.declared.holder.Holder.TheVariants.{Of}
+use Rattle.list_shelf.specs.declared.holder.Holder.TheVariants.{Of}
 use Rattle.kak_world.specs.declared.clients.Client.{Client}
 use Rattle.kak_world.specs.declared.slots.TheConstants.{MAX_BUFFERS}
-use Rattle.kak_world.specs.Flat.{Buffer, Flat, made_buffer, is_of, listed_for, is_there, changed_at}
+use Rattle.kak_world.specs.Flat.{Buffer, Flat, made_buffer, is_of, listed_for, is_there, changed_at, with_buffers}
 
 -- a client that sees the buffer of a number
 abbrev pub seeing_buffer : ℕ → Client → Client
@@ -33,7 +33,8 @@ buffer_placed b (Some a ∷ bs) = Some a ∷ buffer_placed b bs
 
 -- the world with one more buffer, with nobody's list on it
 unfoldable pub buffer_opened : List ℕ → Bool → List ℕ → Flat → Flat
-buffer_opened name is_file text flat = record flat { buffers = buffer_placed (made_buffer name is_file text) flat.buffers }
+unfolding with_buffers
+buffer_opened name is_file text flat = with_buffers (buffer_placed (made_buffer name is_file text) flat.buffers) flat
 
 -- how many buffers there are
 abbrev pub buffer_count : List (Option Buffer) → ℕ

@@ -1,7 +1,7 @@
 -- Worked examples of buffers that are opened and shown, which hold by computation.
 use Rattle.std.specs.Prelude.{◌≡◌, ℕ, true, [], ◌∷◌, List, codes, map}
-use Rattle.kak_world.specs.declared.holder.Holder.{Holder}
-use Rattle.kak_world.specs.declared.holder.Holder.TheVariants.{Of}
+use Rattle.list_shelf.specs.declared.holder.Holder.{Holder}
+use Rattle.list_shelf.specs.declared.holder.Holder.TheVariants.{Of}
 use Rattle.kak_world.specs.Flat.{Flat, is_joined, name_of, sels_of, with_sels, buffer_at}
 use Rattle.kak_world.specs.Examples.{two_joined, only_sel_at}
 use Rattle.kak_world.specs.Showing.{shows, buffer_opened, first_gap}

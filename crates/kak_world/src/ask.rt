@@ -13,10 +13,9 @@ use kak_text::Chars;
 use std::alloc::{AllocError, Global};
 use thiserror::Error;
 
-/// The status text of a step that had no unit left for what was still due.
-pub const BUDGET_SPENT: &str = "given up: budget spent";
+// The status texts of the refusals, each before what it names, where it names something.
+const BUDGET_SPENT: &str = "given up: budget spent";
 
-// The status texts of the other refusals, each before what it names, where it names something.
 const TEXT_FULL: &str = "text is full";
 
 const UNDO_FULL: &str = "undo tree full";

@@ -1,56 +1,72 @@
 //! A buffer: a text under a name, with the selection lists on it.
 
-ghost use Rattle.std.specs.Prelude.{◌≡◌, ◌<◌, ◌≤◌, ◌+◌, ◌^◌, ◌↔◌, ◌⊎◌, true, false, is_some, length, None, Err, IfOk, IfErr, OnOk, OnErr, IsErrOf};
+ghost use Rattle.std.specs.Prelude.{◌≡◌, ◌<◌, ◌≤◌, ◌+◌, ◌^◌, ◌↔◌, ◌⊎◌, true, false, is_some, length, None, Ok, Err, IfOk, IfErr, OnOk, OnErr, IsErrOf};
 ghost use Rattle.list_model.specs.Ranges.{Selected};
 ghost use Rattle.selection_set.specs.Held.{selected, IsHeld};
-ghost use Rattle.window_view.specs.View.{followed};
-ghost use Rattle.window_view.specs.Views.{window_seen};
 ghost use Rattle.undo_model.specs.Steps.{AreSteps};
 ghost use Rattle.undo_model.specs.declared.TheConstants.{MAX_NODES};
 ghost use Rattle.undo_model.specs.Stories.{committed, is_undo_full, is_modified};
 ghost use Rattle.kak_world.specs.Saving.{marked_as_saved, is_unsaved};
-ghost use Rattle.undo_model.specs.Moves.{target_of, move_changes};
+ghost use Rattle.undo_model.specs.Moves.{target_of};
 ghost use Rattle.undo_model.specs.Edits.{is_too_long};
+ghost use Rattle.list_shelf.specs.declared.holder.Holder.TheVariants.{Of};
+ghost use Rattle.list_shelf.specs.Shelves.{row_of, entered, IsUp, KeepsUp, LeavesOthers};
 ghost use Rattle.buffer_store.specs.declared.errors.BufferError.TheVariants.{UndoFull, TextFull};
+ghost use Rattle.buffer_store.specs.declared.errors.BufferError.TheVariants as edit;
+ghost use Rattle.buffer_store.specs.declared.errors.MoveError.TheVariants as move;
 ghost use Rattle.buffer_store.specs.Stored.{change_shifts};
 ghost use Rattle.buffer_store.specs.Buffers.{AreSplicesOf, flat_splices, changes_of, refusal_of};
 ghost use Rattle.kak_world.specs.Editing.{is_full_for};
-ghost use Rattle.kak_world.specs.Flat.{made_buffer, has_list, list_on, with_list, listed_for, unlisted_for, committed_for};
+ghost use Rattle.kak_world.specs.Flat.{has_list, list_on, with_list, listed_for, unlisted_for, committed_for};
 ghost use Rattle.kak_world.specs.Settled.{ListsAreSettled};
 ghost use Rattle.kak_world.specs.Dropping.{listed_for_viewers};
-ghost use Rattle.kak_world.specs.Seen.{CarriesValue};
-ghost use Rattle.kak_world.specs.Changing.{buffer_edited, buffer_traveled, IsSomeEdited, IsSomeMoved};
+ghost use Rattle.kak_world.specs.Seen.{buffer_made, with_seen, and_then, CarriesValue};
+ghost use Rattle.kak_world.specs.Changing.{buffer_edited, buffer_traveled, IsSomeEdited, IsCutMove};
 
 use crate::clients::Client;
-use crate::holder::Holder;
-use crate::lists::{HeldList, add_for_viewers, move_all, place};
+use crate::lists::{add_first, add_for_viewers};
 use buffer_store::{Buffer as Store, BufferError, MoveError, Splice};
 use kak_text::{Chars, Shift};
 use line_buffer::Lines;
+use list_shelf::{Holder, Shelf, SliceLog};
 use selection_set::Sels;
 use std::alloc::{AllocError, Global};
 use std::marker::Model;
 use undo_model::Travel;
-use window_view::Window;
+use window_view::Corner;
 
-/// A text under a name, with its undo tree and the selection lists on it: each lies inside the text and is settled.
+/// A text under a name, with its undo tree and the selection lists on it. A list goes through the changes of the text that it missed
+/// when it is asked for. Contracts see each as if it had been moved at every change, settled and inside the text, and beside
+/// that the lists as they are stored.
 #[derive(Drop, Debug)]
 pub struct WorldBuffer {
     name: Chars,
     is_file: bool,
     store: Store,
-    lists: Vec<HeldList>,
+    shelf: Shelf,
 }
 
 impl Model for WorldBuffer {
-    ghost use Rattle.kak_world.specs.Flat.{Buffer as BufferSeen};
-    ghost use Rattle.kak_world.specs.Seen.{buffer_seen, AreHeld};
+    ghost use Rattle.kak_world.specs.Seen.{KeptBuffer, buffer_kept, IsShelfOf};
 
-    ghost Value = { BufferSeen };
+    ghost Value = { KeptBuffer };
 
-    ghost view = { λ b. buffer_seen b.name b.is_file b.store.story b.lists.items };
+    ghost view = { λ b. buffer_kept b.name b.is_file b.store b.shelf };
 
-    ghost invariant = { λ b. AreHeld b.store.story.text b.lists.items };
+    ghost invariant = { λ b. IsShelfOf b.store.text b.shelf };
+}
+
+// The first answer, but want of memory where that is well and the second isn't.
+fn both(done: Result<(), BufferError>, noted: Result<(), AllocError>) -> Result<(), BufferError>
+    ensures { result ≡ and_then edit.NoMemory done noted }
+{
+    match done {
+        Ok(()) => match noted {
+            Ok(()) => Ok(()),
+            Err(_) => Err(BufferError::NoMemory),
+        },
+        Err(error) => Err(error),
+    }
 }
 
 // These shifts where the answer is well, or else its error.
@@ -63,6 +79,16 @@ fn carrying(done: Result<(), BufferError>, shifts: Vec<Shift>) -> Result<Vec<Shi
     }
 }
 
+// A move that was made, but want of memory where that isn't well.
+fn moved(noted: Result<(), AllocError>) -> Result<(), MoveError>
+    ensures { result ≡ and_then move.NoMemory (Ok tt) noted }
+{
+    match noted {
+        Ok(()) => Ok(()),
+        Err(_) => Err(MoveError::NoMemory),
+    }
+}
+
 impl WorldBuffer {
     /// A buffer with a text that counts as saved, and nobody's list on it.
     pub fn new(
@@ -71,47 +97,47 @@ impl WorldBuffer {
         is_file: bool,
         lines: Lines,
     ) -> Result<WorldBuffer, AllocError>
-        ensures { IfOk result (λ b. b ≡ made_buffer name is_file lines) }
+        ensures { IfOk result (λ b. b ≡ buffer_made name is_file lines) }
     {
         Ok(WorldBuffer {
             name,
             is_file,
             store: Store::new(alloc, lines)?,
-            lists: Vec::new(alloc),
+            shelf: Shelf::new(alloc),
         })
     }
 
     /// Its name.
     pub fn name(&self) -> &[char]
-        ensures { result.now ≡ self.now.name }
+        ensures { result.now ≡ self.now.seen.name }
     {
         self.name.as_slice()
     }
 
     /// Whether its name is a file's.
     pub fn is_file(&self) -> bool
-        ensures { result ≡ self.now.is_file }
+        ensures { result ≡ self.now.seen.is_file }
     {
         self.is_file
     }
 
     /// Whether its text may differ from what was saved.
     pub fn is_modified(&self) -> bool
-        ensures { result ≡ is_modified self.now.story }
+        ensures { result ≡ is_modified self.now.seen.story }
     {
         self.store.modified()
     }
 
     /// Whether what was changed would be lost: its name is a file's, and its text may differ from what was saved.
     pub fn is_unsaved(&self) -> bool
-        ensures { result ≡ is_unsaved self.now }
+        ensures { result ≡ is_unsaved self.now.seen }
     {
         self.is_file && self.store.modified()
     }
 
     /// Commits what is pending, whoever's it is; its text counts as saved then, and its name is a file's. Takes no memory.
     pub fn mark_saved(&mut self)
-        ensures { self.new ≡ marked_as_saved self.old }
+        ensures { self.new ≡ with_seen marked_as_saved self.old }
     {
         self.store.set_saved();
         self.is_file = true;
@@ -119,89 +145,115 @@ impl WorldBuffer {
 
     /// Its text.
     pub fn lines(&self) -> &Lines
-        ensures { result.now ≡ self.now.story.text }
+        ensures { result.now ≡ self.now.seen.story.text }
     {
         self.store.lines()
     }
 
     /// A law: each list on it is settled, and lies inside its text.
     pub fn lists_are_settled(&self)
-        ensures { ListsAreSettled self.now }
+        ensures { ListsAreSettled self.now.seen }
     {
-        let _lists = &self.lists;
+        let _shelf = &self.shelf;
     }
 
     /// Whether a holder has a list on it.
     pub fn has_list(&self, holder: Holder) -> bool
-        ensures { result ≡ has_list holder self.now }
+        ensures { result ≡ has_list holder self.now.seen }
     {
-        place(self.lists.as_slice(), holder) < self.lists.len()
+        self.shelf.has_list(holder)
     }
 
-    /// A holder's selections: a settled list inside the text.
+    /// The stamp at which a holder's list stands: that of the first change that it has yet to go through.
+    pub fn stamp(&self, holder: Holder) -> u64
+        requires { has_list holder self.now.seen ≡ true }
+        ensures { result ≡ (row_of holder self.now.shelf).lag.stamp }
+    {
+        self.shelf.stamp(holder)
+    }
+
+    /// The shifts of the changes that some list has yet to go through.
+    pub fn log(&self) -> &SliceLog
+        ensures { result.now ≡ self.now.shelf.log }
+    {
+        self.shelf.log()
+    }
+
+    /// A holder's selections, which are up to date: a settled list inside the text.
     pub fn sels(&self, holder: Holder) -> &Sels
-        requires { has_list holder self.now ≡ true }
-        ensures sels { (list_on holder self.now).sels ≡ selected self.now.story.text result.now }
-        ensures held { IsHeld self.now.story.text result.now }
+        requires list { has_list holder self.now.seen ≡ true }
+        requires up { IsUp holder self.now.shelf }
+        ensures sels { (list_on holder self.now.seen).sels ≡ selected self.now.seen.story.text result.now }
+        ensures held { IsHeld self.now.seen.story.text result.now }
     {
-        let list = &self.lists[place(self.lists.as_slice(), holder)];
-        &list.sels
+        self.shelf.sels(holder)
     }
 
-    /// The window through which a holder sees it.
-    pub fn window(&self, holder: Holder) -> Window
-        requires { has_list holder self.now ≡ true }
-        ensures { window_seen result ≡ (list_on holder self.now).view }
+    /// How many selections a holder has. Its list is left as it is stored. An `Err` is want of memory.
+    pub fn sel_count(&self, alloc: Global, holder: Holder) -> Result<usize, AllocError>
+        requires { has_list holder self.now.seen ≡ true }
+        ensures { IfOk result (λ count. count ≡ length (list_on holder self.now.seen).sels.list) }
     {
-        let list = &self.lists[place(self.lists.as_slice(), holder)];
-        list.window
+        let sels = self.shelf.copy_of(alloc, holder)?;
+        Ok(sels.len())
+    }
+
+    /// Where a holder's window on it stands.
+    pub fn corner(&self, holder: Holder) -> Corner
+        requires { has_list holder self.now.seen ≡ true }
+        ensures { result ≡ (list_on holder self.now.seen).corner }
+    {
+        self.shelf.corner(holder)
+    }
+
+    /// Brings a holder's list up to date, where it has one, and drops what no list has yet to go through then. All other lists
+    /// are left as they are stored. Takes no memory.
+    pub fn enter(&mut self, holder: Holder)
+        ensures seen { self.new.seen ≡ self.old.seen }
+        ensures shelf { self.new.shelf ≡ entered holder self.old.shelf }
+        ensures up { IsUp holder self.new.shelf }
+    {
+        self.shelf.enter(holder);
     }
 
     /// Gives a holder other selections: a settled list inside the text.
     pub fn set_sels(&mut self, holder: Holder, sels: Sels)
-        requires list { has_list holder self.old ≡ true }
-        requires held { IsHeld self.old.story.text sels }
-        ensures { self.new ≡ with_list holder (λ held. record held { sels = selected self.old.story.text sels }) self.old }
+        requires list { has_list holder self.old.seen ≡ true }
+        requires held { IsHeld self.old.seen.story.text sels }
+        ensures seen { self.new.seen ≡ with_list holder (λ held. record held { sels = selected self.old.seen.story.text sels }) self.old.seen }
+        ensures up { KeepsUp self.old.shelf self.new.shelf }
     {
-        let at = place(self.lists.as_slice(), holder);
-        let list = &mut self.lists[at];
-        list.sels = sels;
+        self.shelf.set_sels(holder, sels);
+        self.shelf.trim();
     }
 
-    /// Makes the n-th selection of a holder its main one.
+    /// Makes the n-th selection of a holder, whose list is up to date, its main one.
     pub fn set_main(&mut self, holder: Holder, n: usize)
-        requires list { has_list holder self.old ≡ true }
-        requires there { n < length (list_on holder self.old).sels.list }
-        ensures { self.new ≡ with_list holder (λ held. record held { sels = record { list = (list_on holder self.old).sels.list; main = n } }) self.old }
+        requires list { has_list holder self.old.seen ≡ true }
+        requires up { IsUp holder self.old.shelf }
+        requires there { n < length (list_on holder self.old.seen).sels.list }
+        ensures seen { self.new.seen ≡ with_list holder (λ held. record held { sels = record { list = (list_on holder self.old.seen).sels.list; main = n } }) self.old.seen }
+        ensures up { KeepsUp self.old.shelf self.new.shelf }
     {
-        let at = place(self.lists.as_slice(), holder);
-        let list = &mut self.lists[at];
-        list.sels.set_main(n);
+        self.shelf.set_main(holder, n);
     }
 
-    /// Lets a holder's window follow a cursor: its line, the display column of its first cell, the number of its cells,
-    /// and the number of cells that stand before the text.
-    pub fn follow(&mut self, holder: Holder, line: u32, column: u32, width: u32, gutter: u32)
-        requires list { has_list holder self.old ≡ true }
-        requires fits { column + width < 2 ^ 32 }
-        ensures { self.new ≡ with_list holder (λ held. record held { view = followed (list_on holder self.old).view line column width gutter }) self.old }
+    /// Lets a holder's window on it stand elsewhere.
+    pub fn set_corner(&mut self, holder: Holder, corner: Corner)
+        requires { has_list holder self.old.seen ≡ true }
+        ensures seen { self.new.seen ≡ with_list holder (λ held. record held { corner = corner }) self.old.seen }
+        ensures up { KeepsUp self.old.shelf self.new.shelf }
     {
-        let at = place(self.lists.as_slice(), holder);
-        let list = &mut self.lists[at];
-        list.window.follow(line, column, width, gutter);
+        self.shelf.set_corner(holder, corner);
     }
 
     /// Gives a holder that has no list on it the one to begin with. An `Err` leaves the buffer.
     pub fn add_list(&mut self, alloc: Global, holder: Holder) -> Result<(), AllocError>
-        ensures ok { OnOk result (self.new ≡ listed_for holder self.old) }
+        ensures ok { OnOk result (self.new.seen ≡ listed_for holder self.old.seen) }
+        ensures up { OnOk result (KeepsUp self.old.shelf self.new.shelf) }
         ensures err { OnErr result (self.new ≡ self.old) }
     {
-        if place(self.lists.as_slice(), holder) < self.lists.len() {
-            return Ok(());
-        }
-        let list = HeldList::new(alloc, holder, self.store.lines());
-        self.lists.push(list)?;
-        Ok(())
+        add_first(&mut self.shelf, alloc, self.store.lines(), holder)
     }
 
     /// Gives each client that sees the buffer of a number, and has no list on this one, the one to begin with. An `Err`
@@ -212,43 +264,46 @@ impl WorldBuffer {
         n: u32,
         clients: &[Client],
     ) -> Result<(), AllocError>
-        ensures ok { OnOk result (self.new ≡ listed_for_viewers n clients.now self.old) }
+        ensures ok { OnOk result (self.new.seen ≡ listed_for_viewers n clients.now self.old.seen) }
+        ensures up { OnOk result (KeepsUp self.old.shelf self.new.shelf) }
         ensures err { OnErr result (self.new ≡ self.old) }
     {
-        add_for_viewers(&mut self.lists, alloc, self.store.lines(), n, clients)
+        add_for_viewers(&mut self.shelf, alloc, self.store.lines(), n, clients)
     }
 
     /// Takes a holder's lists off it. Takes no memory.
     pub fn drop_lists(&mut self, holder: Holder)
-        ensures { self.new ≡ unlisted_for holder self.old }
+        ensures seen { self.new.seen ≡ unlisted_for holder self.old.seen }
+        ensures up { KeepsUp self.old.shelf self.new.shelf }
     {
-        self.lists.retain(|list| !holder.is(list.holder));
+        self.shelf.drop_lists(holder);
+        self.shelf.trim();
     }
 
     /// Commits a client's pending group, if there is one. Takes no memory.
     pub fn commit(&mut self, who: u32)
-        ensures { self.new ≡ committed_for who self.old }
+        ensures { self.new ≡ with_seen (committed_for who) self.old }
     {
         self.store.commit(who);
     }
 
     /// Whether a client's changes are pending.
     pub fn is_pending(&self) -> bool
-        ensures { result ≡ is_some self.now.story.group }
+        ensures { result ≡ is_some self.now.seen.story.group }
     {
         self.store.owner().is_some()
     }
 
     /// Whether the undo tree has no place for a group that a client would begin.
     pub fn is_full_for(&self, who: u32) -> bool
-        ensures { result ≡ is_full_for who self.now.story }
+        ensures { result ≡ is_full_for who self.now.seen.story }
     {
         self.store.is_full_for(who)
     }
 
     /// The number of the node that the text is at, or will be at when what is pending is committed.
     pub fn node(&self) -> u32
-        ensures value { result ≡ (committed self.now.story).current }
+        ensures value { result ≡ (committed self.now.seen.story).current }
         ensures few { result ≤ MAX_NODES }
     {
         self.store.is_story();
@@ -259,7 +314,8 @@ impl WorldBuffer {
     }
 
     /// Makes a client's replacements, from the first to the last, and gives the shifts of the single changes, each of
-    /// which moves every list. `UndoFull` and `TextFull` leave the buffer; after want of memory it is as it is behind
+    /// which moves every list. The client's own is up to date then; others are left as they are stored, while the log has room.
+    /// `UndoFull` and `TextFull` leave the text and what each list is; after want of memory it is as it is behind
     /// some of the single changes, from the first on.
     pub fn edit(
         &mut self,
@@ -267,44 +323,49 @@ impl WorldBuffer {
         who: u32,
         splices: &[Splice],
     ) -> Result<Vec<Shift>, BufferError>
-        requires { AreSplicesOf self.old.story.text splices.now }
-        ensures ok { OnOk result (self.new ≡ buffer_edited who (changes_of self.old.story.text splices.now) self.old) }
-        ensures shifts { IfOk result (λ shifts. shifts.items ≡ change_shifts self.old.story.text (changes_of self.old.story.text splices.now)) }
-        ensures steps { OnOk result (AreSteps self.old.story.text (changes_of self.old.story.text splices.now)) }
-        ensures undo_full { IsErrOf result UndoFull ↔ (is_undo_full who (changes_of self.old.story.text splices.now) self.old.story ≡ true) }
-        ensures text_full { IsErrOf result TextFull ↔ ((is_undo_full who (changes_of self.old.story.text splices.now) self.old.story ≡ false)
-            × (is_too_long (length self.old.story.text) self.old.story.text (flat_splices self.old.story.text splices.now) ≡ true)) }
-        ensures undo_left { IsErrOf result UndoFull → self.new ≡ self.old }
-        ensures text_left { IsErrOf result TextFull → self.new ≡ self.old }
-        ensures err { OnErr result (IsSomeEdited who (changes_of self.old.story.text splices.now) self.old self.new) }
+        requires { AreSplicesOf self.old.seen.story.text splices.now }
+        ensures ok { OnOk result (self.new.seen ≡ buffer_edited who (changes_of self.old.seen.story.text splices.now) self.old.seen) }
+        ensures shifts { IfOk result (λ shifts. shifts.items ≡ change_shifts self.old.seen.story.text (changes_of self.old.seen.story.text splices.now)) }
+        ensures steps { OnOk result (AreSteps self.old.seen.story.text (changes_of self.old.seen.story.text splices.now)) }
+        ensures undo_full { IsErrOf result UndoFull ↔ (is_undo_full who (changes_of self.old.seen.story.text splices.now) self.old.seen.story ≡ true) }
+        ensures text_full { IsErrOf result TextFull ↔ ((is_undo_full who (changes_of self.old.seen.story.text splices.now) self.old.seen.story ≡ false)
+            × (is_too_long (length self.old.seen.story.text) self.old.seen.story.text (flat_splices self.old.seen.story.text splices.now) ≡ true)) }
+        ensures undo_left { IsErrOf result UndoFull → self.new.seen ≡ self.old.seen }
+        ensures text_left { IsErrOf result TextFull → self.new.seen ≡ self.old.seen }
+        ensures err { OnErr result (IsSomeEdited who (changes_of self.old.seen.story.text splices.now) self.old.seen self.new.seen) }
+        ensures up { IsUp (Of who) self.new.shelf }
+        ensures others { IfOk result (λ shifts. LeavesOthers (Of who) (length shifts.items) self.old.shelf self.new.shelf) }
     {
         self.store.is_story();
         let mut shifts = Vec::new(alloc);
         let done = self.store.edit(alloc, who, splices, &mut shifts);
-        move_all(&mut self.lists, shifts.as_slice());
-        carrying(done, shifts)
+        let noted = self.shelf.note_for(Holder::Of(who), shifts.as_slice());
+        carrying(both(done, noted), shifts)
     }
 
     /// Commits what is pending, and goes to another node of the undo tree: each single change moves every list, and the
     /// holder's list is then the one that the changes leave. Where there is no such node it is refused, by the name for
-    /// that. After want of memory the text is as it is behind some of the single changes, from the first on.
+    /// that. After want of memory the text is as it is behind some of the single changes, from the first on: it counts as
+    /// modified then, and its history is lost; where none was made, what was pending is committed. Or the whole move was made,
+    /// and memory was wanting to note it.
     pub fn travel(&mut self, alloc: Global, holder: Holder, travel: Travel) -> Result<(), MoveError>
-        requires { has_list holder self.old ≡ true }
-        ensures ok { OnOk result (self.new ≡ buffer_traveled holder travel self.old) }
-        ensures nowhere { target_of travel self.old.story ≡ None → (result ≡ Err (refusal_of travel)) × (self.new ≡ buffer_traveled holder travel self.old) }
-        ensures refused { IfErr result (λ e. (e ≡ MoveError.NoMemory) ⊎ (target_of travel self.old.story ≡ None)) }
-        ensures err { OnErr result (IsSomeMoved (move_changes travel self.old.story) self.old self.new) }
+        requires { has_list holder self.old.seen ≡ true }
+        ensures ok { OnOk result (self.new.seen ≡ buffer_traveled holder travel self.old.seen) }
+        ensures nowhere { target_of travel self.old.seen.story ≡ None → (result ≡ Err (refusal_of travel)) × (self.new.seen ≡ buffer_traveled holder travel self.old.seen) }
+        ensures refused { IfErr result (λ e. (e ≡ move.NoMemory) ⊎ (target_of travel self.old.seen.story ≡ None)) }
+        ensures err { OnErr result (IsCutMove holder travel self.old.seen self.new.seen) }
+        ensures up { IsUp holder self.new.shelf }
     {
         self.store.is_story();
         let mut shifts = Vec::new(alloc);
         let left = self.store.travel(alloc, travel, &mut shifts);
-        move_all(&mut self.lists, shifts.as_slice());
+        let noted = self.shelf.note_for(holder, shifts.as_slice());
         match left {
             Ok(Some(sels)) => {
                 self.set_sels(holder, sels);
-                Ok(())
+                moved(noted)
             }
-            Ok(None) => Ok(()),
+            Ok(None) => moved(noted),
             Err(error) => Err(error),
         }
     }

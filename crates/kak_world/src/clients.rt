@@ -14,6 +14,7 @@ use crate::purpose::Purpose;
 use edit_line::EditLine;
 use std::alloc::{AllocError, Global};
 use std::marker::Model;
+use window_view::Size;
 
 /// A client: its number in the history, the number in its name, that of the buffer that it sees, and what is its own.
 #[derive(Drop, Debug)]
@@ -172,6 +173,7 @@ impl Clients {
                 prompt: EditLine::new(alloc),
                 leaving: false,
                 drawn: false,
+                size: Size::first(),
             },
         };
         self.rows.push(client)?;

@@ -2,16 +2,19 @@
 
 ghost use Rattle.std.specs.Prelude.{◌≡◌, ◌<◌, true, false, length, map, option_map, OnOk, OnErr};
 ghost use Rattle.kak_world.specs.Flat.{is_here, is_joined, joined_by, left_by_client, left_behind, lowest};
+ghost use Rattle.kak_world.specs.Seen.{slot_seen, all_seen};
 ghost use Rattle.kak_world.specs.declared.world.TheConstants.{MAX_CLIENTS};
 
 use crate::buffer::WorldBuffer;
-use crate::holder::Holder;
+use crate::showing::add_list_in;
+use crate::turning::bring_turn_up;
 use crate::world::{MAX_CLIENTS, World};
+use list_shelf::Holder;
 use std::alloc::{AllocError, Global};
 
 // The least number of a buffer, or how many numbers there are where none is a buffer's.
 fn lowest(buffers: &[Option<WorldBuffer>]) -> usize
-    ensures { result ≡ lowest buffers.now }
+    ensures { result ≡ lowest (all_seen buffers.now) }
 {
     for (i, buffer) in buffers.iter().enumerate() {
         if buffer.is_some() {
@@ -23,7 +26,7 @@ fn lowest(buffers: &[Option<WorldBuffer>]) -> usize
 
 // Commits a client's pending group in a buffer, and takes its lists off it, where there is one.
 fn leave_buffer(slot: &mut Option<WorldBuffer>, who: u32)
-    ensures { slot.new ≡ option_map (left_behind who) slot.old }
+    ensures { slot_seen slot.new ≡ option_map (left_behind who) (slot_seen slot.old) }
 {
     match slot {
         None => {}
@@ -36,7 +39,7 @@ fn leave_buffer(slot: &mut Option<WorldBuffer>, who: u32)
 
 // So in each buffer.
 fn leave_buffers(buffers: &mut Vec<Option<WorldBuffer>>, who: u32)
-    ensures { buffers.new.items ≡ map (option_map (left_behind who)) buffers.old.items }
+    ensures { all_seen buffers.new.items ≡ map (option_map (left_behind who)) (all_seen buffers.old.items) }
 {
     for n in 0..buffers.len() {
         leave_buffer(&mut buffers[n], who);
@@ -56,15 +59,15 @@ impl World {
         self.may_pend = true;
         let n = lowest(self.buffers.as_slice());
         self.clients.add(alloc, who, n as u32)?;
-        match &mut self.buffers[n] {
-            None => unreachable!(),
-            Some(buffer) => match buffer.add_list(alloc, Holder::Of(who)) {
-                Ok(()) => Ok(()),
-                Err(error) => {
-                    self.clients.remove(who);
-                    Err(error)
-                }
-            },
+        match add_list_in(&mut self.buffers[n], alloc, Holder::Of(who)) {
+            Ok(()) => {
+                bring_turn_up(&mut self.buffers, &self.clients, self.rest.step.turn);
+                Ok(())
+            }
+            Err(error) => {
+                self.clients.remove(who);
+                Err(error)
+            }
         }
     }
 
@@ -75,6 +78,7 @@ impl World {
         self.may_pend = true;
         self.clients.remove(who);
         leave_buffers(&mut self.buffers, who);
+        bring_turn_up(&mut self.buffers, &self.clients, self.rest.step.turn);
         self.rest.options.clear_client(who);
     }
 }

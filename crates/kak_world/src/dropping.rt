@@ -2,16 +2,18 @@
 
 ghost use Rattle.std.specs.Prelude.{◌≡◌, ◌≤◌, true, length, option_map, IfOk, OnOk, OnErr};
 ghost use Rattle.kak_world.specs.Flat.{is_there, lowest, scratch};
+ghost use Rattle.kak_world.specs.Seen.{slot_seen, all_seen};
 ghost use Rattle.kak_world.specs.Dropping.{emptied, left_without, listed_for_viewers, buffers_dropped, dropped, KeepsJoined};
 
 use crate::buffer::WorldBuffer;
 use crate::clients::Client;
+use crate::turning::bring_turn_up;
 use crate::world::{World, scratch_buffer};
 use std::alloc::{AllocError, Global};
 
 // The least number of a buffer that isn't that of a number, or how many numbers there are where none is another's.
 fn lowest_other(buffers: &[Option<WorldBuffer>], n: usize) -> usize
-    ensures { result ≡ lowest (emptied n buffers.now) }
+    ensures { result ≡ lowest (emptied n (all_seen buffers.now)) }
 {
     for (i, buffer) in buffers.iter().enumerate() {
         if i == n {
@@ -31,7 +33,7 @@ fn list_viewers_in(
     n: u32,
     clients: &[Client],
 ) -> Result<(), AllocError>
-    ensures ok { OnOk result (slot.new ≡ option_map (listed_for_viewers n clients.now) slot.old) }
+    ensures ok { OnOk result (slot_seen slot.new ≡ option_map (listed_for_viewers n clients.now) (slot_seen slot.old)) }
     ensures err { OnErr result (slot.new ≡ slot.old) }
 {
     match slot {
@@ -42,7 +44,7 @@ fn list_viewers_in(
 
 // The buffer that is there when nothing else is, with a list for each client that sees the buffer of a number.
 fn scratch_for_viewers(alloc: Global, n: u32, clients: &[Client]) -> Result<WorldBuffer, AllocError>
-    ensures { IfOk result (λ b. b ≡ listed_for_viewers n clients.now scratch) }
+    ensures { IfOk result (λ b. b.seen ≡ listed_for_viewers n clients.now scratch) }
 {
     let mut buffer = scratch_buffer(alloc)?;
     buffer.list_viewers(alloc, n, clients)?;
@@ -56,9 +58,9 @@ fn drop_last(
     n: u32,
     clients: &[Client],
 ) -> Result<(), AllocError>
-    requires there { is_there n buffers.old.items ≡ true }
-    requires last { length buffers.old.items ≤ lowest (emptied n buffers.old.items) }
-    ensures ok { OnOk result (buffers.new.items ≡ buffers_dropped n clients.now buffers.old.items) }
+    requires there { is_there n (all_seen buffers.old.items) ≡ true }
+    requires last { length buffers.old.items ≤ lowest (emptied n (all_seen buffers.old.items)) }
+    ensures ok { OnOk result (all_seen buffers.new.items ≡ buffers_dropped n clients.now (all_seen buffers.old.items)) }
     ensures err { OnErr result (buffers.new.items ≡ buffers.old.items) }
 {
     let buffer = scratch_for_viewers(alloc, n, clients)?;
@@ -75,10 +77,10 @@ fn drop_at(
     n: u32,
     clients: &[Client],
 ) -> Result<u32, AllocError>
-    requires there { is_there n buffers.old.items ≡ true }
+    requires there { is_there n (all_seen buffers.old.items) ≡ true }
     requires few { length buffers.old.items ≤ 1024 }
-    ensures ok { OnOk result (buffers.new.items ≡ buffers_dropped n clients.now buffers.old.items) }
-    ensures number { IfOk result (λ to. to ≡ lowest (left_without n buffers.old.items)) }
+    ensures ok { OnOk result (all_seen buffers.new.items ≡ buffers_dropped n clients.now (all_seen buffers.old.items)) }
+    ensures number { IfOk result (λ to. to ≡ lowest (left_without n (all_seen buffers.old.items))) }
     ensures err { OnErr result (buffers.new.items ≡ buffers.old.items) }
 {
     let to = lowest_other(buffers.as_slice(), n as usize);
@@ -104,6 +106,7 @@ impl World {
         self.may_pend = true;
         let to = drop_at(&mut self.buffers, alloc, n, self.clients.as_slice())?;
         self.clients.move_on(n, to);
+        bring_turn_up(&mut self.buffers, &self.clients, self.rest.step.turn);
         self.rest.options.clear_buffer(n);
         Ok(())
     }

@@ -1,30 +1,30 @@
 //! Edits of the text that a client sees, and moves in its history.
 
 ghost use Rattle.std.specs.Prelude.{◌≡◌, ◌≤◌, true, false, map, option_map, IfOk, OnOk, IsErrOf};
+ghost use Rattle.std.specs.List.{AllByRecursion};
 ghost use Rattle.buffer_store.specs.Stored.{change_shifts};
 ghost use Rattle.buffer_store.specs.Buffers.{AreSplicesOf, flat_splices, changes_of};
 ghost use Rattle.undo_model.specs.declared.TheConstants.{MAX_NODES};
 ghost use Rattle.undo_model.specs.Steps.{AreSteps};
-ghost use Rattle.undo_model.specs.Moves.{move_changes};
 ghost use Rattle.kak_world.specs.declared.ask.EditError.TheVariants.{NoMemory};
-ghost use Rattle.kak_world.specs.Flat.{is_joined, text_of, story_of, node_number_of, committed_for};
-ghost use Rattle.kak_world.specs.Changing.{edited_by, commits, IsAfterSomeChanges, IsCutOff};
+ghost use Rattle.kak_world.specs.Flat.{is_joined, acts, text_of, node_number_of, committed_for};
+ghost use Rattle.kak_world.specs.Changing.{edited_by, commits, IsAfterSomeChanges, IsMoveCutIn};
 ghost use Rattle.kak_world.specs.Editing.{edit_row, long_refusal, travel_row};
 ghost use Rattle.kak_world.specs.Rows.{Answers};
-ghost use Rattle.kak_world.specs.Seen.{SlotIsQuiet, AreQuiet};
+ghost use Rattle.kak_world.specs.Seen.{with_seen, KeptIsQuiet};
 
 use crate::ask::EditError;
 use crate::buffer::WorldBuffer;
-use crate::holder::Holder;
 use crate::world::World;
 use buffer_store::Splice;
 use kak_text::Shift;
+use list_shelf::Holder;
 use std::alloc::Global;
 use undo_model::Travel;
 
 // Commits a client's pending group in a buffer, where there is one.
 fn commit_in(slot: &mut Option<WorldBuffer>, who: u32)
-    ensures { slot.new ≡ option_map (committed_for who) slot.old }
+    ensures { slot.new ≡ option_map (with_seen (committed_for who)) slot.old }
 {
     match slot {
         None => {}
@@ -34,7 +34,7 @@ fn commit_in(slot: &mut Option<WorldBuffer>, who: u32)
 
 // Commits a client's pending group in each buffer.
 fn commit_all(buffers: &mut Vec<Option<WorldBuffer>>, who: u32)
-    ensures { buffers.new.items ≡ map (option_map (committed_for who)) buffers.old.items }
+    ensures { buffers.new.items ≡ map (option_map (with_seen (committed_for who))) buffers.old.items }
 {
     for n in 0..buffers.len() {
         commit_in(&mut buffers[n], who);
@@ -43,7 +43,7 @@ fn commit_all(buffers: &mut Vec<Option<WorldBuffer>>, who: u32)
 
 // Whether a client's changes are pending in a buffer, where there is one.
 fn is_pending(slot: &Option<WorldBuffer>) -> bool
-    ensures { result ≡ false → SlotIsQuiet slot.now }
+    ensures { result ≡ false → KeptIsQuiet slot.now }
 {
     match slot {
         None => false,
@@ -53,7 +53,7 @@ fn is_pending(slot: &Option<WorldBuffer>) -> bool
 
 // Whether a client's changes are pending in a buffer.
 fn any_pending(buffers: &[Option<WorldBuffer>]) -> bool
-    ensures { result ≡ false → AreQuiet buffers.now }
+    ensures { result ≡ false → AllByRecursion KeptIsQuiet buffers.now }
 {
     for slot in buffers {
         if is_pending(slot) {
@@ -64,8 +64,8 @@ fn any_pending(buffers: &[Option<WorldBuffer>]) -> bool
 }
 
 impl World {
-    /// Makes a client's replacements in the text that it sees, from the first to the last, and gives the shifts of the single
-    /// changes. Each single change moves every list on that text, whoever holds it. `UndoFull` and `TextFull` leave the world;
+    /// Makes the replacements of a client whose turn it is in the text that it sees, from the first to the last, and gives the
+    /// shifts of the single changes. Each single change moves every list on that text, whoever holds it. `UndoFull` and `TextFull` leave the world;
     /// after want of memory it is as it is behind some of the single changes, from the first on.
     pub fn edit(
         &mut self,
@@ -73,7 +73,7 @@ impl World {
         who: u32,
         splices: &[Splice],
     ) -> Result<Vec<Shift>, EditError>
-        requires joined { is_joined who self.old.flat ≡ true }
+        requires acts { acts who self.old.flat ≡ true }
         requires splices { AreSplicesOf (text_of who self.old.flat) splices.now }
         ensures row { Answers result self.new.flat (edit_row (flat_splices (text_of who self.old.flat) splices.now) who self.old.flat) }
         ensures edits { OnOk result (self.new.flat ≡ edited_by (flat_splices (text_of who self.old.flat) splices.now) who self.old.flat) }
@@ -105,13 +105,15 @@ impl World {
         }
     }
 
-    /// Commits what is pending in the text that a client sees, and goes to another node of its undo tree. Each single change
+    /// Commits what is pending in the text that a client sees whose turn it is, and goes to another node of its undo tree. Each single change
     /// moves every list on that text, and the client's list is then the one that the changes leave. It is refused where there is no
-    /// such node, by the name for that. After want of memory the text is as it is behind some of the single changes, from the first on.
+    /// such node, by the name for that. After want of memory the text is as it is behind some of the single changes, from the first
+    /// on: it counts as modified then, and its history is lost; where none was made, what was pending is committed. Or the whole
+    /// move was made.
     pub fn travel(&mut self, alloc: Global, who: u32, travel: Travel) -> Result<(), EditError>
-        requires { is_joined who self.old.flat ≡ true }
+        requires { acts who self.old.flat ≡ true }
         ensures row { Answers result self.new.flat (travel_row travel who self.old.flat) }
-        ensures wanting { IsErrOf result NoMemory → IsCutOff who (move_changes travel (story_of who self.old.flat)) self.old.flat self.new.flat }
+        ensures wanting { IsErrOf result NoMemory → IsMoveCutIn who travel self.old.flat self.new.flat }
     {
         self.may_pend = true;
         let n = self.clients.client(who).shown as usize;

@@ -5,6 +5,7 @@ ghost use Rattle.kak_world.specs.Examples.{Examples};
 ghost use Rattle.kak_world.specs.Names.{NamesAreLeast};
 ghost use Rattle.kak_world.specs.Showing.{GapsAreTaken};
 ghost use Rattle.kak_world.specs.ShowingExamples.{ShowingExamples};
+ghost use Rattle.kak_world.specs.WindowExamples.{WindowExamples};
 ghost use Rattle.std.specs.Prelude.{◌≡◌};
 
 use crate::options::MAX_INDENT;
@@ -30,19 +31,25 @@ pub fn gaps_are_taken()
 {}
 
 /// Worked examples of clients that come and go, and of changes that move everybody's selections.
-#[tactic(auto, unfolding(crate::specs::Flat::client_of, crate::specs::Flat::shown_of, crate::specs::Flat::options_of, crate::specs::Flat::buffer_of, crate::specs::Flat::list_of, crate::specs::Flat::is_joined, crate::specs::Flat::own_of, crate::specs::Flat::name_of, crate::specs::Flat::text_of, crate::specs::Flat::sels_of, crate::specs::Flat::tabstop_of, crate::specs::Flat::joined_by, crate::specs::Flat::left_by_client, crate::specs::Changing::changed_in, crate::specs::Flat::story_of, crate::specs::Flat::node_number_of, crate::specs::Changing::edited_by, crate::specs::Changing::traveled_by, crate::specs::Changing::commits, crate::specs::Editing::travel_row))]
+#[tactic(auto, unfolding(crate::specs::Flat::client_of, crate::specs::Flat::shown_of, crate::specs::Flat::rest_of, crate::specs::Flat::buffer_of, crate::specs::Flat::list_of, crate::specs::Flat::is_joined, crate::specs::Flat::acts, crate::specs::Flat::with_rest, crate::specs::Flat::own_of, crate::specs::Flat::name_of, crate::specs::Flat::text_of, crate::specs::Flat::sels_of, crate::specs::Flat::tabstop_of, crate::specs::Flat::joined_by, crate::specs::Flat::left_by_client, crate::specs::Changing::changed_in, crate::specs::Flat::story_of, crate::specs::Flat::node_number_of, crate::specs::Changing::edited_by, crate::specs::Changing::traveled_by, crate::specs::Changing::commits, crate::specs::Editing::travel_row))]
 pub fn worked_examples()
     ensures { Examples }
 {}
 
 /// Worked examples of buffers that are opened, and of clients that are shown one.
-#[tactic(auto, unfolding(crate::specs::Flat::client_of, crate::specs::Flat::shown_of, crate::specs::Flat::options_of, crate::specs::Flat::buffer_of, crate::specs::Flat::list_of, crate::specs::Flat::is_joined, crate::specs::Flat::name_of, crate::specs::Flat::sels_of, crate::specs::Flat::with_list_of, crate::specs::Flat::with_sels, crate::specs::Flat::joined_by, crate::specs::Showing::shows, crate::specs::Showing::buffer_opened))]
+#[tactic(auto, unfolding(crate::specs::Flat::client_of, crate::specs::Flat::shown_of, crate::specs::Flat::rest_of, crate::specs::Flat::buffer_of, crate::specs::Flat::list_of, crate::specs::Flat::is_joined, crate::specs::Flat::name_of, crate::specs::Flat::sels_of, crate::specs::Flat::with_list_of, crate::specs::Flat::with_sels, crate::specs::Flat::joined_by, crate::specs::Showing::shows, crate::specs::Showing::buffer_opened))]
 pub fn showing_examples()
     ensures { ShowingExamples }
 {}
 
+/// Worked examples of windows: how large they are belongs to their client, and where each stands to its buffer too.
+#[tactic(auto, unfolding(crate::specs::Flat::client_of, crate::specs::Flat::shown_of, crate::specs::Flat::buffer_of, crate::specs::Flat::list_of, crate::specs::Flat::own_of, crate::specs::Flat::view_of, crate::specs::Flat::with_own, crate::specs::Flat::with_list_of, crate::specs::Flat::with_corner, crate::specs::Flat::joined_by, crate::specs::Showing::shows, crate::specs::Showing::buffer_opened))]
+pub fn window_examples()
+    ensures { WindowExamples }
+{}
+
 /// Worked examples of buffers that are dropped.
-#[tactic(auto, unfolding(crate::specs::Flat::client_of, crate::specs::Flat::shown_of, crate::specs::Flat::options_of, crate::specs::Flat::buffer_of, crate::specs::Flat::list_of, crate::specs::Flat::is_joined, crate::specs::Flat::name_of, crate::specs::Flat::sels_of, crate::specs::Flat::with_list_of, crate::specs::Flat::with_sels, crate::specs::Flat::joined_by, crate::specs::Showing::shows, crate::specs::Showing::buffer_opened, crate::specs::Dropping::dropped))]
+#[tactic(auto, unfolding(crate::specs::Flat::client_of, crate::specs::Flat::shown_of, crate::specs::Flat::rest_of, crate::specs::Flat::buffer_of, crate::specs::Flat::list_of, crate::specs::Flat::is_joined, crate::specs::Flat::name_of, crate::specs::Flat::sels_of, crate::specs::Flat::with_list_of, crate::specs::Flat::with_sels, crate::specs::Flat::joined_by, crate::specs::Showing::shows, crate::specs::Showing::buffer_opened, crate::specs::Dropping::dropped))]
 pub fn dropping_examples()
     ensures { DroppingExamples }
 {}

@@ -1,5 +1,5 @@
 //! What options are set to, and what counts for a client.
-#![tactic(auto, unfolding(crate::specs::Flat::options_of, crate::specs::Flat::with_options))]
+#![tactic(auto, unfolding(crate::specs::Flat::rest_of, crate::specs::Flat::with_rest))]
 
 ghost use Rattle.std.specs.Prelude.{◌≡◌, ◌≤◌, Ok, Err, true, IfErr, OnOk, OnErr};
 ghost use Rattle.scope_options.specs.Changes.{declare_in, option_set_in, option_unset_in, IsOptionErrorDue};
@@ -11,6 +11,7 @@ use byte_texts::Words;
 use kak_text::MAX_TABSTOP;
 use scope_options::{OptionError, OptionType, Options, Scope};
 use std::alloc::Global;
+use window_view::Tabstop;
 
 /// The most columns that a line is indented by at once.
 pub const MAX_INDENT: u32 = 64;
@@ -23,21 +24,21 @@ impl World {
         &self.rest.options
     }
 
-    /// How many cells lie between tab stops where a client looks: its option `tabstop`.
-    #[tactic(auto, unfolding(crate::specs::Flat::options_of, crate::specs::Flat::tabstop_of), using(crate::proofs::WorldLaws::world_laws))]
-    pub fn tabstop(&self, who: u32) -> u32
+    /// The tab stops where a client looks: its option `tabstop`.
+    #[tactic(auto, unfolding(crate::specs::Flat::tabstop_of), using(crate::proofs::WorldLaws::world_laws))]
+    pub fn tabstop(&self, who: u32) -> Tabstop
         requires { is_joined who self.now.flat ≡ true }
-        ensures value { result ≡ tabstop_of who self.now.flat }
-        ensures some { 1 ≤ result }
-        ensures few { result ≤ MAX_TABSTOP }
+        ensures value { result.columns ≡ tabstop_of who self.now.flat }
     {
         let window = Scope::Window(who, self.shown_number(who));
-        self.options()
-            .number_seen(window, "tabstop", 1, MAX_TABSTOP, 8)
+        let columns = self
+            .options()
+            .number_seen(window, "tabstop", 1, MAX_TABSTOP, 8);
+        Tabstop { columns }
     }
 
     /// By how many columns a line is indented where a client looks: its option `indentwidth`.
-    #[tactic(auto, unfolding(crate::specs::Flat::options_of, crate::specs::Flat::indentwidth_of), using(crate::proofs::WorldLaws::world_laws))]
+    #[tactic(auto, unfolding(crate::specs::Flat::indentwidth_of), using(crate::proofs::WorldLaws::world_laws))]
     pub fn indentwidth(&self, who: u32) -> u32
         requires { is_joined who self.now.flat ≡ true }
         ensures value { result ≡ indentwidth_of who self.now.flat }

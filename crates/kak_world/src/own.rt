@@ -4,6 +4,7 @@ use crate::purpose::Purpose;
 use edit_line::EditLine;
 use kak_text::Chars;
 use key_names::Key;
+use window_view::Size;
 
 /// The mode of a client, by which its keys are read.
 #[derive(Clone, Copy, PartialEq, Eq, Debug)]
@@ -45,4 +46,6 @@ pub struct Own {
     pub leaving: bool,
     /// Whether the client was drawn before.
     pub drawn: bool,
+    /// How many rows and columns each of its windows has, also one on a buffer that it sees later.
+    pub size: Size,
 }

@@ -1,15 +1,7 @@
 //! What patterns and prompts are for.
 
+use directions::Direction;
 use kak_text::Chars;
-
-/// Which match of a pattern is looked for, from a selection.
-#[derive(Clone, Copy, PartialEq, Eq, Debug)]
-pub enum Toward {
-    /// The next one, round the end of the text.
-    Next,
-    /// The former one, round its start.
-    Former,
-}
 
 /// What is done with the matches of a pattern.
 #[derive(Clone, Copy, PartialEq, Eq, Debug)]
@@ -22,14 +14,14 @@ pub enum Use {
     Keep,
     /// The selections that have none stay.
     Drop,
-    /// Each selection becomes a match.
-    Search(Toward),
-    /// Each selection reaches to a match.
-    Reach(Toward),
-    /// The main selection becomes a match, and that so many more times.
-    Step(Toward, u32),
-    /// A match is added as the new main selection, and that so many more times.
-    Add(Toward, u32),
+    /// Each selection becomes the next match, round the end of the text, or, backward, the former one, round its start.
+    Search(Direction),
+    /// Each selection reaches to that match.
+    Reach(Direction),
+    /// The main selection becomes that match, and that so many more times.
+    Step(Direction, u32),
+    /// That match is added as the new main selection, and that so many more times.
+    Add(Direction, u32),
 }
 
 /// A pattern that is to be made of a text, and what is done with its matches.

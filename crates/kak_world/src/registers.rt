@@ -13,7 +13,7 @@ use kak_registers::Registers;
 
 impl World {
     /// What the registers hold.
-    #[tactic(auto, unfolding(crate::specs::Flat::registers_of))]
+    #[tactic(auto, unfolding(crate::specs::Flat::rest_of))]
     pub fn registers(&self) -> &Registers
         ensures { result.now ≡ registers_of self.now.flat }
     {
@@ -22,7 +22,7 @@ impl World {
 
     /// Has a register hold these strings, which are taken over. `NoSuchRegister`, `ReadOnlyRegister` and `RegisterFull`
     /// come where the register can't hold them, the first of these that holds; an error leaves the world.
-    #[tactic(auto, unfolding(crate::specs::Flat::registers_of, crate::specs::Flat::with_registers, crate::specs::Registers::set_row))]
+    #[tactic(auto, unfolding(crate::specs::Flat::rest_of, crate::specs::Flat::with_rest, crate::specs::Registers::set_row))]
     pub fn set_register(&mut self, name: char, strings: Words) -> Result<(), EditError>
         ensures row { Answers result self.new.flat (set_row name strings self.old.flat) }
         ensures sets { OnOk result (self.new.flat ≡ with_register name strings self.old.flat) }

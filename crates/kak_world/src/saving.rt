@@ -2,6 +2,7 @@
 
 ghost use Rattle.std.specs.Prelude.{◌≡◌, ◌+◌, ◌∷◌, ◌++◌, [], true, IfOk, IfSome, option_map};
 ghost use Rattle.kak_world.specs.Flat.{is_there};
+ghost use Rattle.kak_world.specs.Seen.{with_seen, slot_seen};
 ghost use Rattle.kak_world.specs.Saving.{is_named, number_named, buffer_number_from, marked_as_saved, saved_in, is_unsaved, with_name, unsaved_behind, unsaved_names, others_leave};
 
 use crate::buffer::WorldBuffer;
@@ -11,7 +12,7 @@ use std::alloc::{AllocError, Global};
 
 // Whether there is a buffer, of that name.
 fn is_named(slot: &Option<WorldBuffer>, name: &[char]) -> bool
-    ensures { result ≡ is_named name.now slot.now }
+    ensures { result ≡ is_named name.now (slot_seen slot.now) }
 {
     match slot {
         None => false,
@@ -21,7 +22,7 @@ fn is_named(slot: &Option<WorldBuffer>, name: &[char]) -> bool
 
 // Marks a buffer as saved, where there is one.
 fn mark_saved_in(slot: &mut Option<WorldBuffer>)
-    ensures { slot.new ≡ option_map marked_as_saved slot.old }
+    ensures { slot.new ≡ option_map (with_seen marked_as_saved) slot.old }
 {
     match slot {
         None => {}
@@ -49,7 +50,7 @@ fn with_unsaved(
     names: Option<Chars>,
     slot: &Option<WorldBuffer>,
 ) -> Result<Option<Chars>, AllocError>
-    ensures { IfOk result (λ all. all ≡ unsaved_behind names (slot.now ∷ [])) }
+    ensures { IfOk result (λ all. all ≡ unsaved_behind names (slot_seen slot.now ∷ [])) }
 {
     let Some(buffer) = slot else {
         return Ok(names);

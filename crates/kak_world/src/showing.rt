@@ -3,20 +3,22 @@
 ghost use Rattle.std.specs.Prelude.{◌≡◌, true, option_map, OnOk, OnErr};
 ghost use Rattle.kak_world.specs.Flat.{is_there, is_joined, listed_for};
 ghost use Rattle.kak_world.specs.Keeping.{KeepsClients};
+ghost use Rattle.kak_world.specs.Seen.{slot_seen};
 ghost use Rattle.kak_world.specs.Showing.{shows};
 
 use crate::buffer::WorldBuffer;
-use crate::holder::Holder;
+use crate::turning::bring_turn_up;
 use crate::world::World;
+use list_shelf::Holder;
 use std::alloc::{AllocError, Global};
 
-// Gives a holder that has no list on a buffer the one to begin with, where there is a buffer.
-fn add_list_in(
+/// Gives a holder that has no list on a buffer the one to begin with, where there is a buffer. An `Err` leaves the buffer.
+pub(crate) fn add_list_in(
     slot: &mut Option<WorldBuffer>,
     alloc: Global,
     holder: Holder,
 ) -> Result<(), AllocError>
-    ensures ok { OnOk result (slot.new ≡ option_map (listed_for holder) slot.old) }
+    ensures ok { OnOk result (slot_seen slot.new ≡ option_map (listed_for holder) (slot_seen slot.old)) }
     ensures err { OnErr result (slot.new ≡ slot.old) }
 {
     match slot {
@@ -38,6 +40,7 @@ impl World {
         self.may_pend = true;
         add_list_in(&mut self.buffers[n as usize], alloc, Holder::Of(who))?;
         self.clients.set_shown(who, n);
+        bring_turn_up(&mut self.buffers, &self.clients, self.rest.step.turn);
         Ok(())
     }
 }

@@ -1,7 +1,8 @@
 //! Buffers that are opened, each under the least number that no other has.
 
-ghost use Rattle.std.specs.Prelude.{◌≡◌, ◌≤◌, IfOk, OnOk, OnErr, Err, length};
+ghost use Rattle.std.specs.Prelude.{◌≡◌, ◌≤◌, [], IfOk, OnOk, OnErr, Err, length};
 ghost use Rattle.kak_world.specs.Keeping.{KeepsClients};
+ghost use Rattle.kak_world.specs.Seen.{all_seen, AllKeepUp};
 ghost use Rattle.kak_world.specs.Showing.{first_gap, buffer_placed, buffer_opened, buffer_count, has_all_buffers};
 ghost use Rattle.kak_world.specs.declared.slots.TheConstants.{MAX_BUFFERS};
 ghost use Rattle.kak_world.specs.declared.slots.WorldError.TheVariants.{TooManyBuffers, NoMemory};
@@ -38,7 +39,7 @@ impl From<AllocError> for WorldError {
 
 // The least number that no buffer has.
 fn first_gap(buffers: &[Option<WorldBuffer>]) -> usize
-    ensures { result ≡ first_gap buffers.now }
+    ensures { result ≡ first_gap (all_seen buffers.now) }
 {
     for (i, buffer) in buffers.iter().enumerate() {
         if buffer.is_none() {
@@ -48,14 +49,16 @@ fn first_gap(buffers: &[Option<WorldBuffer>]) -> usize
     buffers.len()
 }
 
-// Puts a buffer at the least number that no other has.
+// Puts a buffer, with nobody's list on it, at the least number that no other has.
 fn put_buffer(
     buffers: &mut Vec<Option<WorldBuffer>>,
     at: usize,
     buffer: WorldBuffer,
 ) -> Result<(), AllocError>
-    requires { at ≡ first_gap buffers.old.items }
-    ensures ok { OnOk result (buffers.new.items ≡ buffer_placed buffer buffers.old.items) }
+    requires gap { at ≡ first_gap (all_seen buffers.old.items) }
+    requires bare { buffer.shelf.rows ≡ [] }
+    ensures ok { OnOk result (all_seen buffers.new.items ≡ buffer_placed buffer.seen (all_seen buffers.old.items)) }
+    ensures up { OnOk result (AllKeepUp buffers.old.items buffers.new.items) }
     ensures err { OnErr result (buffers.new.items ≡ buffers.old.items) }
 {
     if at < buffers.len() {

@@ -1,12 +1,14 @@
 //! The world: its buffers, its clients, and the units of a step.
 
-ghost use Rattle.std.specs.Prelude.{◌≡◌, suc, false, length, IfOk, IsTrue};
+ghost use Rattle.std.specs.Prelude.{◌≡◌, suc, true, false, [], length, IfOk, IsTrue};
 ghost use Rattle.std.specs.List.{AllByRecursion};
-ghost use Rattle.kak_world.specs.Settled.{SlotIsSettled, AllListsSettled};
-ghost use Rattle.kak_world.specs.Flat.{scratch, opening, units_of, with_units};
+ghost use Rattle.kak_world.specs.Seen.{KeptIsSettled};
+ghost use Rattle.kak_world.specs.Settled.{AllListsSettled};
+ghost use Rattle.kak_world.specs.Flat.{scratch, between_steps, opening, is_joined, units_of, with_units, takes_turn, step_ended};
 
 use crate::buffer::WorldBuffer;
 use crate::clients::Clients;
+use crate::turning::bring_turn_up;
 use kak_registers::Registers;
 use kak_text::{Chars, Text};
 use line_buffer::Lines;
@@ -17,11 +19,20 @@ use std::marker::Model;
 /// The most clients that there can be at once.
 pub const MAX_CLIENTS: usize = 64;
 
+/// What is known of the step that is under way.
+#[derive(Drop, Debug)]
+pub struct Stepping {
+    /// How many keys and commands it may still run.
+    pub units: u32,
+    /// Whose step it is: the number of a client in the history.
+    pub turn: Option<u32>,
+}
+
 /// What is no buffer's and no client's.
 #[derive(Drop, Debug)]
 pub struct Rest {
-    /// How many keys and commands the step may still run.
-    pub units: u32,
+    /// The step that is under way.
+    pub step: Stepping,
     /// What all clients' registers hold.
     pub registers: Registers,
     /// What all options are set to.
@@ -40,18 +51,28 @@ pub struct World {
 }
 
 impl Model for World {
-    ghost use Rattle.kak_world.specs.Seen.{Kept, BuffersStand};
+    ghost use Rattle.kak_world.specs.Seen.{Kept, all_seen, BuffersStand};
 
     ghost Value = { Kept };
 
-    ghost view = { λ w. record { flat = record { buffers = w.buffers.items; clients = w.clients; rest = w.rest } } };
+    ghost view = { λ w. record { flat = record { buffers = all_seen w.buffers.items; clients = w.clients; rest = w.rest } } };
 
-    ghost invariant = { λ w. BuffersStand w.may_pend w.buffers.items };
+    ghost invariant = { λ w. BuffersStand w.may_pend w.rest.step.turn w.clients w.buffers.items };
+}
+
+// No step is under way.
+fn between_steps() -> Stepping
+    ensures { result ≡ between_steps }
+{
+    Stepping {
+        units: 0,
+        turn: None,
+    }
 }
 
 /// The buffer that is there when nothing else is.
 pub(crate) fn scratch_buffer(alloc: Global) -> Result<WorldBuffer, AllocError>
-    ensures { IfOk result (λ b. b ≡ scratch) }
+    ensures { IfOk result (λ b. (b.seen ≡ scratch) × (b.shelf.rows ≡ [])) }
 {
     let name = Chars::from_str(alloc, "*scratch*")?;
     let text = Text::newline(alloc)?;
@@ -61,7 +82,7 @@ pub(crate) fn scratch_buffer(alloc: Global) -> Result<WorldBuffer, AllocError>
 
 // Each list on a buffer is settled, where there is one.
 fn slot_is_settled(slot: &Option<WorldBuffer>)
-    ensures { SlotIsSettled slot.now }
+    ensures { KeptIsSettled slot.now }
 {
     match slot {
         None => {}
@@ -71,14 +92,14 @@ fn slot_is_settled(slot: &Option<WorldBuffer>)
 
 // Each list on each buffer is settled.
 fn all_are_settled(buffers: &[Option<WorldBuffer>])
-    ensures { AllByRecursion SlotIsSettled buffers.now }
+    ensures { AllByRecursion KeptIsSettled buffers.now }
 {
     for slot in buffers {
         slot_is_settled(slot);
     }
 }
 
-#[tactic(auto, unfolding(crate::specs::Flat::units_of, crate::specs::Flat::with_units))]
+#[tactic(auto, unfolding(crate::specs::Flat::rest_of, crate::specs::Flat::with_rest))]
 impl World {
     /// The world before anything happened: the buffer `*scratch*` with a text of one newline, no client, and the
     /// options that are given.
@@ -91,7 +112,7 @@ impl World {
             buffers,
             clients: Clients::new(alloc),
             rest: Rest {
-                units: 0,
+                step: between_steps(),
                 registers: Registers::new(alloc),
                 options: Options::new(alloc)?,
             },
@@ -113,18 +134,35 @@ impl World {
         self.clients.len()
     }
 
+    /// A step of a client begins: it is its turn. Its selections can be read then, and no other client's: they go through the changes
+    /// of the text that it sees which they missed, and what no list has yet to go through then is dropped. Takes no memory.
+    pub fn enter(&mut self, who: u32)
+        requires { is_joined who self.old.flat ≡ true }
+        ensures { self.new.flat ≡ takes_turn who self.old.flat }
+    {
+        self.rest.step.turn = Some(who);
+        bring_turn_up(&mut self.buffers, &self.clients, self.rest.step.turn);
+    }
+
+    /// The step is over: it is nobody's turn, and no unit is left.
+    pub fn end_step(&mut self)
+        ensures { self.new.flat ≡ step_ended self.old.flat }
+    {
+        self.rest.step = between_steps();
+    }
+
     /// How many keys and commands the step may still run.
     pub fn units(&self) -> u32
         ensures { result ≡ units_of self.now.flat }
     {
-        self.rest.units
+        self.rest.step.units
     }
 
     /// Sets how many keys and commands the step may run.
     pub fn set_units(&mut self, units: u32)
         ensures { self.new.flat ≡ with_units units self.old.flat }
     {
-        self.rest.units = units;
+        self.rest.step.units = units;
     }
 
     /// Takes one unit, where one is left, and tells whether one was.
@@ -132,10 +170,10 @@ impl World {
         ensures taken { IsTrue result → (units_of self.old.flat ≡ suc (units_of self.new.flat)) × (self.new.flat ≡ with_units (units_of self.new.flat) self.old.flat) }
         ensures none { result ≡ false → (units_of self.old.flat ≡ 0) × (self.new.flat ≡ self.old.flat) }
     {
-        if self.rest.units == 0 {
+        if self.rest.step.units == 0 {
             return false;
         }
-        self.rest.units -= 1;
+        self.rest.step.units -= 1;
         true
     }
 }

@@ -2,12 +2,13 @@ use Rattle.std.proofs.Common.{◌≡◌, ◌<◌, ◌≤◌, ◌+◌, length, ap
 use Rattle.std.specs.Prelude.{option_map}
 use Rattle.std.specs.declared.option.Option.{Option}
 use Rattle.selection_map.proofs.FrontLemmas.{mapped_front, front-length, front-at, front-step, front-all}
-use Rattle.kak_world.specs.Flat.{Buffer, committed_for}
+use Rattle.kak_world.specs.Flat.{committed_for}
+use Rattle.kak_world.specs.Seen.{KeptBuffer, with_seen}
 use Rattle.kak_world.proofs.edits.commit_all.Goals as goal
 
 pub loop-n-preserved : goal.loop-n-preserved
 loop-n-preserved c =
-    let f : Option Buffer → Option Buffer = option_map (committed_for c.args.who) in
+    let f : Option KeptBuffer → Option KeptBuffer = option_map (with_seen (committed_for c.args.who)) in
     let below : c.loop-n.n < length c.args.buffers.now.items = omega (arith, c.loop-n-test.true, c.len-n-end.ensures, c.args.buffers.now.ok.0) in
     let front : set c.loop-n.buffers.items c.loop-n.n c.commit_in.new.slot ≡ mapped_front (c.loop-n.n + 1) f c.args.buffers.now.items =
     ap (λ xs. set xs c.loop-n.n c.commit_in.new.slot) c.loop-n.invariant.front
@@ -18,4 +19,4 @@ loop-n-preserved c =
 pub returns : goal.returns
 returns c =
     let past : length c.args.buffers.now.items ≤ c.loop-n.n = omega (arith, c.loop-n-test.false, c.len-n-end.ensures, c.args.buffers.now.ok.0) in
-    c.loop-n.invariant.front ∙ front-all c.loop-n.n (option_map (committed_for c.args.who)) c.args.buffers.now.items past
+    c.loop-n.invariant.front ∙ front-all c.loop-n.n (option_map (with_seen (committed_for c.args.who))) c.args.buffers.now.items past

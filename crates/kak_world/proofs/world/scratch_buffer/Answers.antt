@@ -1,11 +1,15 @@
-use Rattle.std.proofs.Common.{◌≡◌, false, ap, ◌∙◌}
+use Rattle.std.proofs.Common.{◌≡◌, [], false, ap, ◌∙◌}
 use Rattle.std.specs.Prelude.{codes}
 use Rattle.std.specs.Str.{chars}
 use Rattle.kak_world.specs.Flat.{made_buffer, scratch}
+use Rattle.kak_world.specs.Seen.{KeptBuffer, buffer_made}
 use Rattle.kak_world.proofs.AnswerLemmas.{if-ok}
 use Rattle.kak_world.proofs.world.scratch_buffer.Goals as goal
 
 pub returns : goal.returns
 unfolding chars
-returns c = if-ok (λ b. b ≡ made_buffer c.in_ok-name.name false c.in_ok-lines.lines) (λ b. b ≡ scratch) c.new.result c.new.ensures
-    (λ b e. e ∙ ap (λ n. made_buffer n false c.in_ok-lines.lines) c.in_ok-name.ensures ∙ ap (made_buffer (codes "*scratch*") false) (c.in_ok-lines.ensures ∙ c.in_ok-text.ensures))
+returns c = if-ok (λ b. b ≡ buffer_made c.in_ok-name.name false c.in_ok-lines.lines) (λ (b : KeptBuffer). (b.seen ≡ scratch) × (b.shelf.rows ≡ [])) c.new.result c.new.ensures
+    (λ b e. (
+      ap (λ (x : KeptBuffer). x.seen) e ∙ ap (λ n. made_buffer n false c.in_ok-lines.lines) c.in_ok-name.ensures ∙ ap (made_buffer (codes "*scratch*") false) (c.in_ok-lines.ensures ∙ c.in_ok-text.ensures),
+      ap (λ (x : KeptBuffer). x.shelf.rows) e,
+    ))

@@ -1,4 +1,3 @@
-use Rattle.std.proofs.Common.{refl, ap, ◌∙◌, ◌++◌}
 use Rattle.std.specs.Str.{chars}
 use Rattle.kak_world.proofs.ask.EditError.text.Goals as goal
 

@@ -1,17 +1,21 @@
-use Rattle.std.proofs.Common.{◌≡◌, false, ap, sym, ◌∙◌, arith}
-use Rattle.std.proofs.lemmas.Bool.{lt-ltb, le-ltb}
-use Rattle.tables.specs.Tables.{place_where}
-use Rattle.kak_world.specs.Flat.{Buffer, has_list}
-use Rattle.kak_world.specs.Seen.{is_list_of, held_seen, buffer_seen}
-use Rattle.kak_world.proofs.ListLemmas.{list-test, list-stays, list-added}
+use Rattle.std.proofs.Common.{ap, sym, subst, ◌∙◌}
+use Rattle.kak_world.specs.Flat.{listed_for}
+use Rattle.kak_world.specs.Seen.{buffer_kept, IsShelfOf}
+use Rattle.kak_world.proofs.AnswerLemmas.{on-ok, on-err-of}
+use Rattle.kak_world.proofs.ListLemmas.{up-outside, listed-seen, listed-is}
 use Rattle.kak_world.proofs.buffer.WorldBuffer.add_list.Goals as goal
 
-pub returns-then-place-len-clause-ok : goal.returns-then-place-len-clause-ok
-returns-then-place-len-clause-ok c =
-    list-stays c.args.holder c.args.self.now
-    (sym (list-test c.args.holder _ _ _ c.self.inside.lists.items _ c.place.result c.len.result c.self.view_is (c.place.ensures ∙ ap (place_where (is_list_of c.args.holder)) c.as_slice.ensures.value) (omega (arith, c.len.ensures, c.self.inside.lists.ok.0))) ∙ lt-ltb c.place.result c.len.result c.if-place-len.true)
+pub add_first-requires : goal.add_first-requires
+add_first-requires c = subst (λ t. IsShelfOf t c.self.inside.shelf) (sym c.lines.ensures) c.self.invariant
+
+pub invariant_of-self : goal.invariant_of-self
+invariant_of-self c = listed-is (listed_for c.args.holder) _ _ _ _ c.add_first.result c.lines.ensures c.add_first.ensures.ok c.add_first.ensures.err c.self.invariant
 
 pub returns-clause-ok : goal.returns-clause-ok
-returns-clause-ok c =
-    let none : has_list c.args.holder c.args.self.now ≡ false = sym (list-test c.args.holder _ _ _ c.self.inside.lists.items _ c.place.result c.len.result c.self.view_is (c.place.ensures ∙ ap (place_where (is_list_of c.args.holder)) c.as_slice.ensures.value) (omega (arith, c.len.ensures, c.self.inside.lists.ok.0))) ∙ le-ltb c.place.result c.len.result c.if-place-len.false in
-    ap (λ ls. let x : Buffer = buffer_seen c.self.inside.name c.self.inside.is_file c.self.inside.store.story ls in x) c.in_ok-push.ensures.items ∙ list-added c.args.holder _ _ _ c.self.inside.lists.items _ _ c.self.view_is none (ap (λ t. held_seen t c.new-list.result) (sym c.lines.ensures) ∙ c.new-list.ensures.seen)
+returns-clause-ok c = on-ok c.add_first.result c.add_first.ensures.ok (λ l. listed-seen _ _ _ (listed_for c.args.holder) _ _ _ _ c.self.view_is c.lines.ensures l)
+
+pub returns-clause-up : goal.returns-clause-up
+returns-clause-up c = on-ok c.add_first.result c.add_first.ensures.ok (λ l. up-outside _ _ _ _ c.add_first.new.shelf _ c.self.view_is l.up)
+
+pub returns-clause-err : goal.returns-clause-err
+returns-clause-err c = on-err-of c.add_first.result c.add_first.ensures.err (λ e. ap (buffer_kept c.self.inside.name c.self.inside.is_file c.self.inside.store) e ∙ c.self.view_is)

@@ -1,12 +1,17 @@
-use Rattle.std.proofs.Common.{not, sym, subst, rules}
-use Rattle.std.proofs.lemmas.Fn.{filter_same}
-use Rattle.kak_world.specs.declared.lists.HeldList.{HeldList}
-use Rattle.kak_world.specs.Seen.{is_list_of, AreHeld}
-use Rattle.kak_world.proofs.ListLemmas.{lists-left, left-held}
+use Rattle.std.proofs.Common.{not}
+use Rattle.std.specs.List.{filter}
+use Rattle.list_shelf.specs.Shelves.{is_held_by}
+use Rattle.kak_world.proofs.ListLemmas.{up-outside, now-lists, left-can, left-got, left-up}
 use Rattle.kak_world.proofs.buffer.WorldBuffer.drop_lists.Goals as goal
 
-pub invariant_of-self : goal.invariant_of-self
-invariant_of-self c = subst (AreHeld c.self.inside.store.story.text) (sym (filter_same _ (λ (h : HeldList). not (is_list_of c.args.holder h)) _ (λ x b f' k. search rules) _ _ c.retain.ensures.filtered)) (left-held c.args.holder c.self.inside.store.story.text c.self.inside.lists.items c.self.invariant)
+pub trim-requires : goal.trim-requires
+trim-requires c = left-can c.args.holder _ _ _ c.self.invariant c.drop_lists.ensures
 
-pub returns : goal.returns
-returns c = lists-left c.args.holder _ _ _ c.self.inside.lists.items _ _ c.self.view_is (filter_same _ (λ (h : HeldList). not (is_list_of c.args.holder h)) _ (λ x b f' k. search rules) _ _ c.retain.ensures.filtered)
+pub invariant_of-self : goal.invariant_of-self
+invariant_of-self c = (left-got c.args.holder _ _ _ _ c.self.invariant c.drop_lists.ensures c.trim.ensures).is
+
+pub returns-clause-seen : goal.returns-clause-seen
+returns-clause-seen c = now-lists _ _ _ _ c.trim.new.self _ (λ ls. filter (λ list. not (is_held_by c.args.holder list)) ls) c.self.view_is (left-got c.args.holder _ _ _ _ c.self.invariant c.drop_lists.ensures c.trim.ensures).lists_are
+
+pub returns-clause-up : goal.returns-clause-up
+returns-clause-up c = up-outside _ _ _ _ c.trim.new.self _ c.self.view_is (left-up c.args.holder _ _ _ _ c.self.invariant c.drop_lists.ensures c.trim.ensures)

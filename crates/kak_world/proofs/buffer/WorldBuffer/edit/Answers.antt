@@ -1,57 +1,80 @@
-use Rattle.std.proofs.Common.{ap, subst, ◌∙◌}
+use Rattle.std.proofs.Common.{◌≡◌, [], true, false, length, ap, sym, subst, ◌∙◌}
+use Rattle.undo_model.specs.Stories.{is_undo_full}
+use Rattle.undo_model.specs.Edits.{is_too_long}
 use Rattle.buffer_store.specs.Stored.{change_shifts}
-use Rattle.buffer_store.specs.Buffers.{changes_of}
+use Rattle.buffer_store.specs.Buffers.{changes_of, flat_splices}
 use Rattle.undo_model.specs.Steps.{AreSteps}
-use Rattle.kak_world.specs.Flat.{Buffer}
+use Rattle.list_shelf.specs.declared.holder.Holder.TheVariants.{Of}
 use Rattle.kak_world.specs.Changing.{buffer_edited}
-use Rattle.kak_world.proofs.AnswerLemmas.{on-ok, carried-ok, carried-if, carried-err, carried-from}
-use Rattle.kak_world.proofs.EditingLemmas.{some-of, can-go, have-gone, edited-held, edited-some, edited-all, left-alone}
+use Rattle.kak_world.specs.Seen.{KeptBuffer}
+use Rattle.kak_world.proofs.AnswerLemmas.{carried-ok, carried-if, carried-err, carried-from, carried-to}
+use Rattle.kak_world.proofs.EditingLemmas.{some-of, can-follow, has-followed, both-ok, both-from, both-to, not-undo_full, not-text_full, edited-is, edited-some, edited-all, left-alone, leaves-others}
 use Rattle.kak_world.proofs.buffer.WorldBuffer.edit.Goals as goal
 
-pub move_all-requires : goal.move_all-requires
-move_all-requires c = let e = c.edit-done.ensures.edits in can-go _ _ _ _ _ e.steps e.shifts_are c.as_slice.ensures.value c.is_story.ensures.stored c.self.invariant
+pub note_for-noted-requires : goal.note_for-noted-requires
+note_for-noted-requires c = let e = c.edit-done.ensures.edits in can-follow _ _ _ _ _ e.steps e.shifts_are c.as_slice.ensures.value c.self.invariant
 
 pub invariant_of-self : goal.invariant_of-self
-invariant_of-self c =
-    let e = c.edit-done.ensures.edits in
-    edited-held _ _ _ _ _ _ _ _ e (have-gone _ _ _ _ _ _ c.move_all.ensures e.steps e.shifts_are c.as_slice.ensures.value c.is_story.ensures.stored c.self.invariant)
+invariant_of-self c = let e = c.edit-done.ensures.edits in edited-is (Of c.args.who) _ _ _ _ _ _ _ _ e (has-followed c.note_for-noted.result (Of c.args.who) _ _ _ _ _ _ c.note_for-noted.ensures.ok c.note_for-noted.ensures.err e.steps e.shifts_are c.as_slice.ensures.value c.self.invariant)
 
 pub returns-clause-ok : goal.returns-clause-ok
 returns-clause-ok c =
     let e = c.edit-done.ensures.edits in
-    let text = ap (λ (b : Buffer). b.story.text) c.self.view_is in
-    carried-ok _ c.edit-done.result _ _ c.carrying.ensures (on-ok c.edit-done.result e.all (λ all.
-    edited-all _ _ _ _ _ _ _ _ _ _ _ c.self.view_is e (have-gone _ _ _ _ _ _ c.move_all.ensures e.steps e.shifts_are c.as_slice.ensures.value c.is_story.ensures.stored c.self.invariant) all
-    ∙ ap (λ t. buffer_edited c.args.who (changes_of t c.args.splices.now) c.args.self.now) text))
+    let text = ap (λ (b : KeptBuffer). b.seen.story.text) c.self.view_is in
+    carried-ok _ c.both.result _ _ c.carrying.ensures (both-ok _ c.edit-done.result c.note_for-noted.result c.both.result c.both.ensures e.all c.note_for-noted.ensures.ok (λ all noted.
+    edited-all _ _ (Of c.args.who) _ _ _ _ _ _ _ _ _ c.self.view_is e (has-followed c.note_for-noted.result (Of c.args.who) _ _ _ _ _ _ c.note_for-noted.ensures.ok c.note_for-noted.ensures.err e.steps e.shifts_are c.as_slice.ensures.value c.self.invariant) all
+    ∙ ap (λ t. buffer_edited c.args.who (changes_of t c.args.splices.now) c.args.self.now.seen) text))
 
 pub returns-clause-shifts : goal.returns-clause-shifts
 returns-clause-shifts c =
     let e = c.edit-done.ensures.edits in
-    let text = ap (λ (b : Buffer). b.story.text) c.self.view_is in
-    carried-if _ c.edit-done.result _ _ c.carrying.ensures (on-ok c.edit-done.result e.all (λ all.
+    let text = ap (λ (b : KeptBuffer). b.seen.story.text) c.self.view_is in
+    carried-if _ c.both.result _ _ c.carrying.ensures (both-ok _ c.edit-done.result c.note_for-noted.result c.both.result c.both.ensures e.all c.note_for-noted.ensures.ok (λ all noted.
     e.shifts_are ∙ ap (change_shifts _) all ∙ ap (λ t. change_shifts t (changes_of t c.args.splices.now)) text))
 
 pub returns-clause-steps : goal.returns-clause-steps
 returns-clause-steps c =
     let e = c.edit-done.ensures.edits in
-    let text = ap (λ (b : Buffer). b.story.text) c.self.view_is in
-    carried-ok _ c.edit-done.result _ _ c.carrying.ensures (on-ok c.edit-done.result e.all (λ all.
+    let text = ap (λ (b : KeptBuffer). b.seen.story.text) c.self.view_is in
+    carried-ok _ c.both.result _ _ c.carrying.ensures (both-ok _ c.edit-done.result c.note_for-noted.result c.both.result c.both.ensures e.all c.note_for-noted.ensures.ok (λ all noted.
     subst (λ t. AreSteps t (changes_of t c.args.splices.now)) text (subst (AreSteps _) all e.steps)))
+
+pub returns-clause-undo_full : goal.returns-clause-undo_full
+returns-clause-undo_full c =
+    let P : KeptBuffer → Type 0 = λ b. is_undo_full c.args.who (changes_of b.seen.story.text c.args.splices.now) b.seen.story ≡ true in (
+      λ h. subst P c.self.view_is (c.edit-done.ensures.undo_full.0 (both-from _ c.edit-done.result c.note_for-noted.result _ _ c.both.ensures not-undo_full (carried-from c.both.result _ _ _ c.carrying.ensures h))),
+      λ t. carried-to c.both.result _ _ _ c.carrying.ensures (both-to _ c.edit-done.result c.note_for-noted.result _ _ c.both.ensures (c.edit-done.ensures.undo_full.1 (subst P (sym c.self.view_is) t))),
+    )
+
+pub returns-clause-text_full : goal.returns-clause-text_full
+returns-clause-text_full c =
+    let P : KeptBuffer → Type 0 = λ b. (is_undo_full c.args.who (changes_of b.seen.story.text c.args.splices.now) b.seen.story ≡ false) × (is_too_long (length b.seen.story.text) b.seen.story.text (flat_splices b.seen.story.text c.args.splices.now) ≡ true) in (
+      λ h. subst P c.self.view_is (c.edit-done.ensures.text_full.0 (both-from _ c.edit-done.result c.note_for-noted.result _ _ c.both.ensures not-text_full (carried-from c.both.result _ _ _ c.carrying.ensures h))),
+      λ t. carried-to c.both.result _ _ _ c.carrying.ensures (both-to _ c.edit-done.result c.note_for-noted.result _ _ c.both.ensures (c.edit-done.ensures.text_full.1 (subst P (sym c.self.view_is) t))),
+    )
 
 pub returns-clause-undo_left : goal.returns-clause-undo_left
 returns-clause-undo_left c = λ h.
-    let l = c.edit-done.ensures.undo_left (carried-from c.edit-done.result _ _ _ c.carrying.ensures h) in
-    left-alone _ _ _ _ _ _ _ _ _ c.self.view_is l.0 l.1 c.as_slice.ensures.value c.move_all.ensures c.is_story.ensures.stored c.self.invariant
+    let l = c.edit-done.ensures.undo_left (both-from _ c.edit-done.result c.note_for-noted.result _ _ c.both.ensures not-undo_full (carried-from c.both.result _ _ _ c.carrying.ensures h)) in
+    left-alone _ _ (Of c.args.who) _ _ _ _ _ c.self.view_is l.0 (has-followed c.note_for-noted.result (Of c.args.who) _ [] _ _ _ _ c.note_for-noted.ensures.ok c.note_for-noted.ensures.err tt l.1 c.as_slice.ensures.value c.self.invariant)
 
 pub returns-clause-text_left : goal.returns-clause-text_left
 returns-clause-text_left c = λ h.
-    let l = c.edit-done.ensures.text_left (carried-from c.edit-done.result _ _ _ c.carrying.ensures h) in
-    left-alone _ _ _ _ _ _ _ _ _ c.self.view_is l.0 l.1 c.as_slice.ensures.value c.move_all.ensures c.is_story.ensures.stored c.self.invariant
+    let l = c.edit-done.ensures.text_left (both-from _ c.edit-done.result c.note_for-noted.result _ _ c.both.ensures not-text_full (carried-from c.both.result _ _ _ c.carrying.ensures h)) in
+    left-alone _ _ (Of c.args.who) _ _ _ _ _ c.self.view_is l.0 (has-followed c.note_for-noted.result (Of c.args.who) _ [] _ _ _ _ c.note_for-noted.ensures.ok c.note_for-noted.ensures.err tt l.1 c.as_slice.ensures.value c.self.invariant)
 
 pub returns-clause-err : goal.returns-clause-err
 returns-clause-err c =
     let e = c.edit-done.ensures.edits in
-    let text = ap (λ (b : Buffer). b.story.text) c.self.view_is in
-    carried-err _ c.edit-done.result _ _ c.carrying.ensures
-    (some-of _ _ _ _ _ (ap (λ t. changes_of t c.args.splices.now) text) e.made
-    (edited-some _ _ _ _ _ _ _ _ _ _ _ c.self.view_is e (have-gone _ _ _ _ _ _ c.move_all.ensures e.steps e.shifts_are c.as_slice.ensures.value c.is_story.ensures.stored c.self.invariant)))
+    let text = ap (λ (b : KeptBuffer). b.seen.story.text) c.self.view_is in
+    carried-err _ c.both.result _ _ c.carrying.ensures
+    (some-of _ _ _ _ _ (ap (λ t. changes_of t c.args.splices.now) text) e.made (edited-some _ _ (Of c.args.who) _ _ _ _ _ _ _ _ _ c.self.view_is e (has-followed c.note_for-noted.result (Of c.args.who) _ _ _ _ _ _ c.note_for-noted.ensures.ok c.note_for-noted.ensures.err e.steps e.shifts_are c.as_slice.ensures.value c.self.invariant)))
+
+pub returns-clause-up : goal.returns-clause-up
+returns-clause-up c = let e = c.edit-done.ensures.edits in (has-followed c.note_for-noted.result (Of c.args.who) _ _ _ _ _ _ c.note_for-noted.ensures.ok c.note_for-noted.ensures.err e.steps e.shifts_are c.as_slice.ensures.value c.self.invariant).up
+
+pub returns-clause-others : goal.returns-clause-others
+returns-clause-others c =
+    let e = c.edit-done.ensures.edits in
+    carried-if _ c.both.result _ _ c.carrying.ensures (both-ok _ c.edit-done.result c.note_for-noted.result c.both.result c.both.ensures e.all c.note_for-noted.ensures.ok (λ all noted.
+    leaves-others _ _ _ (Of c.args.who) _ _ _ _ _ c.self.view_is c.as_slice.ensures.value noted))

@@ -1,7 +1,8 @@
 use Rattle.std.proofs.Common.{subst}
 use Rattle.kak_world.specs.Settled.{ListsAreSettled}
-use Rattle.kak_world.proofs.SettledLemmas.{held-settled}
+use Rattle.kak_world.specs.Seen.{KeptBuffer}
+use Rattle.kak_world.proofs.SettledLemmas.{lists-settled}
 use Rattle.kak_world.proofs.buffer.WorldBuffer.lists_are_settled.Goals as goal
 
 pub returns : goal.returns
-returns c = subst ListsAreSettled c.self.view_is (held-settled c.self.inside.name c.self.inside.is_file c.self.inside.store.story c.self.inside.lists.items c.self.invariant)
+returns c = subst (λ (b : KeptBuffer). ListsAreSettled b.seen) c.self.view_is (lists-settled c.self.inside.store.text c.self.inside.shelf.log c.self.inside.shelf.rows c.self.invariant.stands)

@@ -1,4 +1,3 @@
-use Rattle.std.proofs.Common.{refl, ap, ◌∙◌}
 use Rattle.std.specs.Str.{chars}
 use Rattle.kak_world.proofs.command_error.CommandError.text.Goals as goal
 

@@ -1,22 +1,23 @@
-use Rattle.std.proofs.Common.{ap, ◌∙◌, ◌≡◌, true, false}
+use Rattle.std.proofs.Common.{ap, ◌∙◌}
 use Rattle.kak_world.specs.Dropping.{buffers_dropped}
 use Rattle.kak_world.proofs.DroppingLemmas.{has-dropped, now-dropped}
 use Rattle.kak_world.proofs.StayingLemmas.{drop-keeps}
+use Rattle.kak_world.specs.Seen.{all_seen}
+use Rattle.kak_world.proofs.StandingLemmas.{stands-pending}
 use Rattle.kak_world.proofs.world.World.drop_buffer.Goals as goal
 
 pub invariant_of-self-2 : goal.invariant_of-self-2
-invariant_of-self-2 c = record {
-  has = has-dropped c.args.n c.as_slice.result.now c.self.inside.buffers.items _ c.in_ok-to.ensures.ok c.self.invariant.has;
-  quiet = λ e. absurd (let both : true ≡ false = e in cc);
-}
+invariant_of-self-2 c = stands-pending _ _ _
+    (has-dropped c.args.n c.as_slice.result.now (all_seen c.self.inside.buffers.items) _ (c.bring_turn_up.ensures.seen ∙ c.in_ok-to.ensures.ok) c.self.invariant.has)
+    c.bring_turn_up.ensures.up
 
 pub returns-clause-ok : goal.returns-clause-ok
 returns-clause-ok c =
     now-dropped c.args.n c.in_ok-to.to _ _ _ _ _ _ _ c.self.view_is
-    (c.in_ok-to.ensures.ok ∙ ap (λ cs. buffers_dropped c.args.n cs c.self.inside.buffers.items) c.as_slice.ensures) c.in_ok-to.ensures.number c.move_on.ensures c.clear_buffer.ensures
+    (c.bring_turn_up.ensures.seen ∙ c.in_ok-to.ensures.ok ∙ ap (λ cs. buffers_dropped c.args.n cs (all_seen c.self.inside.buffers.items)) c.as_slice.ensures) c.in_ok-to.ensures.number c.move_on.ensures c.clear_buffer.ensures
 
 pub returns-clause-keeps : goal.returns-clause-keeps
 returns-clause-keeps c =
     drop-keeps c.args.n _ _
     (now-dropped c.args.n c.in_ok-to.to _ _ _ _ _ _ _ c.self.view_is
-    (c.in_ok-to.ensures.ok ∙ ap (λ cs. buffers_dropped c.args.n cs c.self.inside.buffers.items) c.as_slice.ensures) c.in_ok-to.ensures.number c.move_on.ensures c.clear_buffer.ensures)
+    (c.bring_turn_up.ensures.seen ∙ c.in_ok-to.ensures.ok ∙ ap (λ cs. buffers_dropped c.args.n cs (all_seen c.self.inside.buffers.items)) c.as_slice.ensures) c.in_ok-to.ensures.number c.move_on.ensures c.clear_buffer.ensures)

@@ -1,31 +1,11 @@
-use Rattle.std.proofs.Common.{◌<◌, length, ap, ◌∙◌, arith}
+use Rattle.std.proofs.Common.{ap, ◌∙◌}
 use Rattle.window_view.specs.View.{followed}
-use Rattle.kak_world.specs.declared.holder.Holder.TheVariants.{Of}
-use Rattle.kak_world.specs.Flat.{Buffer, with_list, view_of, with_sels, with_view}
-use Rattle.kak_world.proofs.WorldLemmas.{here-of, shown-inside, shown-not_none, slot-at, list-of, list-set-of, has-set, view-of}
-use Rattle.kak_world.proofs.QuietLemmas.{still-quiet}
+use Rattle.window_view.specs.Sizes.{corner_of}
+use Rattle.kak_world.specs.Flat.{with_corner}
 use Rattle.kak_world.proofs.world.World.follow.Goals as goal
 
-pub client-requires : goal.client-requires
-client-requires c = here-of c.args.who _ _ _ _ c.self.view_is c.requires.joined
-
-pub index_mut-requires : goal.index_mut-requires
-index_mut-requires c = let inside : c.client.result.now.shown < length c.self.inside.buffers.items = shown-inside c.args.who _ _ _ _ _ c.self.view_is c.client.ensures c.requires.joined in omega (arith, c.self.inside.buffers.ok.0)
-
-pub unreachable-requires : goal.unreachable-requires
-unreachable-requires c = shown-not_none c.args.who _ _ _ _ _ _ c.self.view_is c.client.ensures c.requires.joined c.index_mut.ensures.value c.in-None.is
-
-pub follow-requires-clause-list : goal.follow-requires-clause-list
-follow-requires-clause-list c = list-of c.args.who _ _ _ _ _ _ _ c.self.view_is c.client.ensures c.requires.joined c.index_mut.ensures.value c.in-Some.is
-
-pub invariant_of-self : goal.invariant_of-self
-invariant_of-self c =
-    let there = (slot-at c.args.who _ _ _ _ _ _ _ c.self.view_is c.client.ensures c.requires.joined c.index_mut.ensures.value c.in-Some.is) in
-    record {
-      has = has-set _ _ _ _ there c.self.invariant.has;
-      quiet = λ e. still-quiet _ _ _ _ there (ap (λ (b : Buffer). b.story) c.follow.ensures) (c.self.invariant.quiet e);
-    }
-
 pub returns : goal.returns
-unfolding with_sels with_view
-returns c = list-set-of c.args.who _ _ _ _ _ _ _ _ (λ held. record held { view = followed (view_of c.args.who c.args.self.now.flat) c.args.line c.args.column c.args.width c.args.gutter }) c.self.view_is c.client.ensures c.requires.joined c.index_mut.ensures.value c.in-Some.is (c.follow.ensures ∙ ap (λ v. with_list (Of c.args.who) (λ held. record held { view = followed v c.args.line c.args.column c.args.width c.args.gutter }) c.in-Some.buffer) (view-of c.args.who _ _ _ _ _ _ _ c.self.view_is c.client.ensures c.requires.joined c.index_mut.ensures.value c.in-Some.is))
+returns c =
+    c.set_corner.ensures
+    ∙ ap (λ p. with_corner c.args.who p c.args.self.now.flat)
+    (c.corner.ensures ∙ ap corner_of (c.follow.ensures ∙ ap (λ v. followed v c.args.line c.args.column c.args.width c.args.gutter) c.window-window.ensures))

@@ -2,10 +2,14 @@ use Rattle.std.proofs.Common.{refl, ap, ◌∙◌}
 use Rattle.kak_world.specs.Flat.{with_own, own_of, client_of}
 use Rattle.kak_world.specs.Seen.{Kept}
 use Rattle.kak_world.proofs.WorldLemmas.{here-of}
+use Rattle.kak_world.proofs.StandingLemmas.{stands-own}
 use Rattle.kak_world.proofs.world.World.own_mut.Goals as goal
 
 pub own_mut-requires : goal.own_mut-requires
 own_mut-requires c = here-of c.args.who _ _ _ _ c.self.view_is c.requires
+
+pub invariant_of-self-lent : goal.invariant_of-self-lent
+invariant_of-self-lent c = λ o. stands-own c.self.inside.may_pend c.self.inside.rest.step.turn c.self.inside.clients c.self.inside.buffers.items c.args.who o c.self.invariant
 
 pub returns : goal.returns
 unfolding with_own own_of client_of

@@ -1,34 +1,33 @@
 use Rattle.std.proofs.Common.{◌<◌, length, ap, sym, subst, ◌∙◌, arith}
 use Rattle.selection_set.specs.Held.{selected, IsHeld}
-use Rattle.kak_world.specs.declared.holder.Holder.TheVariants.{Of}
-use Rattle.kak_world.specs.Flat.{Buffer, with_list, text_of, with_sels, with_view}
-use Rattle.kak_world.proofs.WorldLemmas.{here-of, shown-inside, shown-not_none, slot-at, list-of, list-set-of, has-set, text-of}
-use Rattle.kak_world.proofs.QuietLemmas.{still-quiet}
+use Rattle.list_shelf.specs.declared.holder.Holder.TheVariants.{Of}
+use Rattle.kak_world.specs.Flat.{Buffer, with_list, text_of, with_sels}
+use Rattle.kak_world.proofs.WorldLemmas.{here-of, shown-inside, shown-not_none, list-of, list-set-of, text-of}
+use Rattle.kak_world.proofs.StandingLemmas.{stands-set}
+use Rattle.kak_world.specs.Seen.{all_seen}
+use Rattle.kak_world.proofs.KeptLemmas.{seen-length, seen-at, seen-some, seen-none, kept-at, parts-set}
 use Rattle.kak_world.proofs.world.World.set_sels.Goals as goal
 
 pub client-requires : goal.client-requires
 client-requires c = here-of c.args.who _ _ _ _ c.self.view_is c.requires.joined
 
 pub index_mut-requires : goal.index_mut-requires
-index_mut-requires c = let inside : c.client.result.now.shown < length c.self.inside.buffers.items = shown-inside c.args.who _ _ _ _ _ c.self.view_is c.client.ensures c.requires.joined in omega (arith, c.self.inside.buffers.ok.0)
+index_mut-requires c = let inside : c.client.result.now.shown < length (all_seen c.self.inside.buffers.items) = shown-inside c.args.who _ _ _ _ _ c.self.view_is c.client.ensures c.requires.joined in omega (arith, seen-length c.self.inside.buffers.items, c.self.inside.buffers.ok.0)
 
 pub unreachable-requires : goal.unreachable-requires
-unreachable-requires c = shown-not_none c.args.who _ _ _ _ _ _ c.self.view_is c.client.ensures c.requires.joined c.index_mut.ensures.value c.in-None.is
+unreachable-requires c = shown-not_none c.args.who _ _ _ _ _ _ c.self.view_is c.client.ensures c.requires.joined (seen-at c.self.inside.buffers.items c.client.result.now.shown _ c.index_mut.ensures.value) (seen-none _ c.in-None.is)
 
 pub set_sels-requires-clause-list : goal.set_sels-requires-clause-list
-set_sels-requires-clause-list c = list-of c.args.who _ _ _ _ _ _ _ c.self.view_is c.client.ensures c.requires.joined c.index_mut.ensures.value c.in-Some.is
+set_sels-requires-clause-list c = list-of c.args.who _ _ _ _ _ _ _ c.self.view_is c.client.ensures c.requires.joined (seen-at c.self.inside.buffers.items c.client.result.now.shown _ c.index_mut.ensures.value) (seen-some _ _ c.in-Some.is)
 
 pub set_sels-requires-clause-held : goal.set_sels-requires-clause-held
-set_sels-requires-clause-held c = subst (λ t. IsHeld t c.args.sels) (sym (text-of c.args.who _ _ _ _ _ _ _ c.self.view_is c.client.ensures c.requires.joined c.index_mut.ensures.value c.in-Some.is)) c.requires.held
+set_sels-requires-clause-held c = subst (λ t. IsHeld t c.args.sels) (sym (text-of c.args.who _ _ _ _ _ _ _ c.self.view_is c.client.ensures c.requires.joined (seen-at c.self.inside.buffers.items c.client.result.now.shown _ c.index_mut.ensures.value) (seen-some _ _ c.in-Some.is))) c.requires.held
 
 pub invariant_of-self : goal.invariant_of-self
 invariant_of-self c =
-    let there = (slot-at c.args.who _ _ _ _ _ _ _ c.self.view_is c.client.ensures c.requires.joined c.index_mut.ensures.value c.in-Some.is) in
-    record {
-      has = has-set _ _ _ _ there c.self.invariant.has;
-      quiet = λ e. still-quiet _ _ _ _ there (ap (λ (b : Buffer). b.story) c.set_sels.ensures) (c.self.invariant.quiet e);
-    }
+    let inside = shown-inside c.args.who _ _ _ _ _ c.self.view_is c.client.ensures c.requires.joined in
+    stands-set _ _ _ _ _ _ _ (kept-at _ _ _ _ inside c.index_mut.ensures.value c.in-Some.is) (ap (λ (b : Buffer). b.story) c.set_sels.ensures.seen) c.set_sels.ensures.up c.self.invariant
 
 pub returns : goal.returns
-unfolding with_sels with_view
-returns c = list-set-of c.args.who _ _ _ _ _ _ _ _ (λ held. record held { sels = selected (text_of c.args.who c.args.self.now.flat) c.args.sels }) c.self.view_is c.client.ensures c.requires.joined c.index_mut.ensures.value c.in-Some.is (c.set_sels.ensures ∙ ap (λ t. with_list (Of c.args.who) (λ held. record held { sels = selected t c.args.sels }) c.in-Some.buffer) (text-of c.args.who _ _ _ _ _ _ _ c.self.view_is c.client.ensures c.requires.joined c.index_mut.ensures.value c.in-Some.is))
+unfolding with_sels
+returns c = parts-set _ _ _ _ _ ∙ list-set-of c.args.who _ _ _ _ _ _ _ _ (λ held. record held { sels = selected (text_of c.args.who c.args.self.now.flat) c.args.sels }) c.self.view_is c.client.ensures c.requires.joined (seen-at c.self.inside.buffers.items c.client.result.now.shown _ c.index_mut.ensures.value) (seen-some _ _ c.in-Some.is) (c.set_sels.ensures.seen ∙ ap (λ t. with_list (Of c.args.who) (λ held. record held { sels = selected t c.args.sels }) c.in-Some.buffer.seen) (text-of c.args.who _ _ _ _ _ _ _ c.self.view_is c.client.ensures c.requires.joined (seen-at c.self.inside.buffers.items c.client.result.now.shown _ c.index_mut.ensures.value) (seen-some _ _ c.in-Some.is)))

@@ -1,52 +1,55 @@
-use Rattle.std.proofs.Common.{◌≡◌, ◌<◌, None, length, ap, subst, ◌∙◌, arith, true, false}
-use Rattle.kak_world.proofs.WorldLemmas.{here-of, shown-inside, shown-not_none, slot-at, list-of, has-set, buffer-of, changed-of}
-use Rattle.undo_model.specs.Moves.{target_of, move_changes}
+use Rattle.std.proofs.Common.{◌≡◌, ◌<◌, None, length, ap, subst, ◌∙◌, arith}
+use Rattle.kak_world.proofs.WorldLaws.{acts_joined, acts_turned}
+use Rattle.kak_world.proofs.WorldLemmas.{here-of, shown-inside, shown-not_none, list-of, buffer-of, changed-of}
+use Rattle.undo_model.specs.Moves.{target_of}
 use Rattle.kak_world.proofs.RowAnswers.{either-none, travel-done, travel-refused, traveled-of, some-cut}
-use Rattle.kak_world.specs.Flat.{Buffer, text_of, story_of}
+use Rattle.kak_world.specs.Flat.{Buffer, rest_of, turn_of, is_turn_of, story_of}
 use Rattle.kak_world.proofs.AnswerLemmas.{ok-err, error-of}
+use Rattle.kak_world.specs.Seen.{Kept, all_seen}
+use Rattle.kak_world.proofs.KeptLemmas.{seen-length, seen-at, seen-some, seen-none, kept-at, parts-set}
+use Rattle.kak_world.proofs.StandingLemmas.{stands-edited}
 use Rattle.kak_world.proofs.world.World.travel.Goals.{in-Ok, in-Err}
 use Rattle.kak_world.proofs.world.World.travel.Goals as goal
 
 pub client-requires : goal.client-requires
-client-requires c = here-of c.args.who _ _ _ _ c.self.view_is c.requires
+client-requires c = here-of c.args.who _ _ _ _ c.self.view_is (acts_joined c.args.who c.args.self.now.flat c.requires)
 
 pub index_mut-requires : goal.index_mut-requires
-index_mut-requires c = let inside : c.client.result.now.shown < length c.self.inside.buffers.items = shown-inside c.args.who _ _ _ _ _ c.self.view_is c.client.ensures c.requires in omega (arith, c.self.inside.buffers.ok.0)
+index_mut-requires c = let inside : c.client.result.now.shown < length (all_seen c.self.inside.buffers.items) = shown-inside c.args.who _ _ _ _ _ c.self.view_is c.client.ensures (acts_joined c.args.who c.args.self.now.flat c.requires) in omega (arith, seen-length c.self.inside.buffers.items, c.self.inside.buffers.ok.0)
 
 pub unreachable-requires : goal.unreachable-requires
-unreachable-requires c = shown-not_none c.args.who _ _ _ _ _ _ c.self.view_is c.client.ensures c.requires c.index_mut.ensures.value c.in-None.is
+unreachable-requires c = shown-not_none c.args.who _ _ _ _ _ _ c.self.view_is c.client.ensures (acts_joined c.args.who c.args.self.now.flat c.requires) (seen-at c.self.inside.buffers.items c.client.result.now.shown _ c.index_mut.ensures.value) (seen-none _ c.in-None.is)
 
 pub travel-requires : goal.travel-requires
-travel-requires c = list-of c.args.who _ _ _ _ _ _ _ c.self.view_is c.client.ensures c.requires c.index_mut.ensures.value c.in-Some.is
+travel-requires c = list-of c.args.who _ _ _ _ _ _ _ c.self.view_is c.client.ensures (acts_joined c.args.who c.args.self.now.flat c.requires) (seen-at c.self.inside.buffers.items c.client.result.now.shown _ c.index_mut.ensures.value) (seen-some _ _ c.in-Some.is)
 
 pub invariant_of-self : goal.invariant_of-self
-invariant_of-self c = record {
-  has = has-set _ _ _ _ (slot-at c.args.who _ _ _ _ _ _ _ c.self.view_is c.client.ensures c.requires c.index_mut.ensures.value c.in-Some.is) c.self.invariant.has;
-  quiet = λ e. absurd (let both : true ≡ false = e in cc);
-}
+unfolding rest_of
+invariant_of-self c =
+    let inside = shown-inside c.args.who _ _ _ _ _ c.self.view_is c.client.ensures (acts_joined c.args.who c.args.self.now.flat c.requires) in
+    stands-edited _ c.args.who _ _ _ _ _ _ (ap (λ (k : Kept). is_turn_of c.args.who (turn_of k.flat)) c.self.view_is ∙ acts_turned c.args.who c.args.self.now.flat c.requires) c.client.ensures (kept-at _ _ _ _ inside c.index_mut.ensures.value c.in-Some.is) c.travel.ensures.up c.self.invariant
 
 pub returns-clause-row : goal.returns-clause-row
 unfolding story_of
 returns-clause-row c =
-    let b = (buffer-of c.args.who _ _ _ _ _ _ _ c.self.view_is c.client.ensures c.requires c.index_mut.ensures.value c.in-Some.is) in
+    let b = (buffer-of c.args.who _ _ _ _ _ _ _ c.self.view_is c.client.ensures (acts_joined c.args.who c.args.self.now.flat c.requires) (seen-at c.self.inside.buffers.items c.client.result.now.shown _ c.index_mut.ensures.value) (seen-some _ _ c.in-Some.is)) in
     let who = c.args.who in
     elim c.match-travel.branch [
       | in-Ok w ↦
           rw w.result-is (travel-done c.args.travel who c.args.self.now.flat _
-          (traveled-of c.args.travel who c.args.self.now.flat _ _ _ w.in-Ok.ensures.ok (λ f t. changed-of c.args.who _ _ _ _ _ _ _ _ f c.self.view_is c.client.ensures c.requires c.index_mut.ensures.value c.in-Some.is t))
+          (traveled-of c.args.travel who c.args.self.now.flat _ _ _ w.in-Ok.ensures.ok (λ f t. parts-set _ _ _ _ _ ∙ changed-of c.args.who _ _ _ _ _ _ _ _ f c.self.view_is c.client.ensures (acts_joined c.args.who c.args.self.now.flat c.requires) (seen-at c.self.inside.buffers.items c.client.result.now.shown _ c.index_mut.ensures.value) (seen-some _ _ c.in-Some.is) t))
           (subst (λ (x : Buffer). target_of c.args.travel x.story ≡ None → ⊥) b (λ n. ok-err _ _ (w.in-Ok.ensures.nowhere n).0)))
       | in-Err w ↦
           rw w.result-is (rw w.from.ensures (travel-refused w.in-Err.error c.args.travel who c.args.self.now.flat _
           (either-none w.in-Err.error c.args.travel _ _ (ap (λ (x : Buffer). x.story) b) w.in-Err.ensures.refused)
           (λ n. let r = w.in-Err.ensures.nowhere (ap (λ (x : Buffer). target_of c.args.travel x.story) b ∙ n) in
-          (ap (error-of w.in-Err.error) r.0, traveled-of c.args.travel who c.args.self.now.flat _ _ _ r.1 (λ f t. changed-of c.args.who _ _ _ _ _ _ _ _ f c.self.view_is c.client.ensures c.requires c.index_mut.ensures.value c.in-Some.is t)))))
+          (ap (error-of w.in-Err.error) r.0, traveled-of c.args.travel who c.args.self.now.flat _ _ _ r.1 (λ f t. parts-set _ _ _ _ _ ∙ changed-of c.args.who _ _ _ _ _ _ _ _ f c.self.view_is c.client.ensures (acts_joined c.args.who c.args.self.now.flat c.requires) (seen-at c.self.inside.buffers.items c.client.result.now.shown _ c.index_mut.ensures.value) (seen-some _ _ c.in-Some.is) t)))))
     ]
 
 pub returns-clause-wanting : goal.returns-clause-wanting
-unfolding text_of story_of
 returns-clause-wanting c =
-    let b = (buffer-of c.args.who _ _ _ _ _ _ _ c.self.view_is c.client.ensures c.requires c.index_mut.ensures.value c.in-Some.is) in
+    let b = (buffer-of c.args.who _ _ _ _ _ _ _ c.self.view_is c.client.ensures (acts_joined c.args.who c.args.self.now.flat c.requires) (seen-at c.self.inside.buffers.items c.client.result.now.shown _ c.index_mut.ensures.value) (seen-some _ _ c.in-Some.is)) in
     elim c.match-travel.branch [
       | in-Ok w ↦ rw w.result-is (λ h. absurd (ok-err _ _ h))
-      | in-Err w ↦ rw w.result-is (λ h. some-cut c.args.who _ _ c.args.self.now.flat _ _ _ b (ap (λ (x : Buffer). move_changes c.args.travel x.story) b) w.in-Err.ensures.err (λ f t. changed-of c.args.who _ _ _ _ _ _ _ _ f c.self.view_is c.client.ensures c.requires c.index_mut.ensures.value c.in-Some.is t))
+      | in-Err w ↦ rw w.result-is (λ h. some-cut c.args.who c.args.travel c.args.self.now.flat _ _ _ b w.in-Err.ensures.err (λ f t. parts-set _ _ _ _ _ ∙ changed-of c.args.who _ _ _ _ _ _ _ _ f c.self.view_is c.client.ensures (acts_joined c.args.who c.args.self.now.flat c.requires) (seen-at c.self.inside.buffers.items c.client.result.now.shown _ c.index_mut.ensures.value) (seen-some _ _ c.in-Some.is) t))
     ]

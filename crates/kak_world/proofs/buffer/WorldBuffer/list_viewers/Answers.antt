@@ -1,0 +1,21 @@
+use Rattle.std.proofs.Common.{ap, sym, subst, ◌∙◌}
+use Rattle.kak_world.specs.Dropping.{listed_for_viewers}
+use Rattle.kak_world.specs.Seen.{buffer_kept, IsShelfOf}
+use Rattle.kak_world.proofs.AnswerLemmas.{on-ok, on-err-of}
+use Rattle.kak_world.proofs.ListLemmas.{up-outside, listed-seen, listed-is}
+use Rattle.kak_world.proofs.buffer.WorldBuffer.list_viewers.Goals as goal
+
+pub add_for_viewers-requires : goal.add_for_viewers-requires
+add_for_viewers-requires c = subst (λ t. IsShelfOf t c.self.inside.shelf) (sym c.lines.ensures) c.self.invariant
+
+pub invariant_of-self : goal.invariant_of-self
+invariant_of-self c = listed-is (listed_for_viewers c.args.n c.args.clients.now) _ _ _ _ c.add_for_viewers.result c.lines.ensures c.add_for_viewers.ensures.ok c.add_for_viewers.ensures.err c.self.invariant
+
+pub returns-clause-ok : goal.returns-clause-ok
+returns-clause-ok c = on-ok c.add_for_viewers.result c.add_for_viewers.ensures.ok (λ l. listed-seen _ _ _ (listed_for_viewers c.args.n c.args.clients.now) _ _ _ _ c.self.view_is c.lines.ensures l)
+
+pub returns-clause-up : goal.returns-clause-up
+returns-clause-up c = on-ok c.add_for_viewers.result c.add_for_viewers.ensures.ok (λ l. up-outside _ _ _ _ c.add_for_viewers.new.shelf _ c.self.view_is l.up)
+
+pub returns-clause-err : goal.returns-clause-err
+returns-clause-err c = on-err-of c.add_for_viewers.result c.add_for_viewers.ensures.err (λ e. ap (buffer_kept c.self.inside.name c.self.inside.is_file c.self.inside.store) e ∙ c.self.view_is)

@@ -1,0 +1,7 @@
+use Rattle.std.proofs.Common.{ap}
+use Rattle.kak_world.specs.declared.world.Stepping.{Stepping}
+use Rattle.kak_world.proofs.StandingLemmas.{stands-nobody}
+use Rattle.kak_world.proofs.world.World.end_step.Goals as goal
+
+pub invariant_of-self : goal.invariant_of-self
+invariant_of-self c = stands-nobody _ _ _ _ _ (ap (λ (s : Stepping). s.turn) c.between_steps-self-inside.ensures) c.self.invariant
