@@ -14,7 +14,6 @@ use Rattle.command_forms.specs.declared.places.Described.{Described}
 use Rattle.command_forms.specs.Orders.{order_of}
 use Rattle.kak_registers.specs.declared.names.RegisterError.{RegisterError}
 use Rattle.kak_registers.specs.Names.{named}
-use Rattle.kak_registers.specs.Contents.{set_in as set_in_registers}
 use Rattle.kak_registers.specs.Refusals.{register_refusal}
 use Rattle.scope_options.specs.declared.scope.Scope.{Scope}
 use Rattle.scope_options.specs.declared.scope.Scope.TheVariants.{Buffer as InBuffer}
@@ -22,19 +21,19 @@ use Rattle.scope_options.specs.declared.setting.Setting.{Setting}
 use Rattle.scope_options.specs.declared.options.OptionError.{OptionError}
 use Rattle.scope_options.specs.Changes.{declare_in, option_set_in, option_unset_in}
 use Rattle.kak_world.specs.declared.ask.Saving.{Saving}
-use Rattle.kak_world.specs.Flat.{Buffer, Flat, shown_of, name_of, units_of, registers_of, options_of, is_there, with_own, with_sels, with_options}
+use Rattle.kak_world.specs.Flat.{Buffer, Flat, shown_of, name_of, units_of, options_of, is_there, with_own, with_sels, with_options}
 use Rattle.kak_world.specs.Registers.{set_unless, set_row}
 use Rattle.kak_world.specs.Dropping.{KeepsJoined, dropped}
 use Rattle.kak_world.specs.Showing.{first_gap, buffer_placed, has_all_buffers, buffer_opened, shows}
 use Rattle.kak_world.specs.Saving.{is_named, buffer_number_from, number_named, unsaved_names, others_leave, saved_in}
 use Rattle.kak_world.specs.Rows.{Row, RowEnd, Asks, does, stages_of}
-use Rattle.kak_world.proofs.WorldLaws.{units_own, units_sels, units_registers}
-use Rattle.kak_world.proofs.KeepingLaws.{keeps_own, keeps_sels, keeps_set_row}
-use Rattle.kak_world.proofs.ShownLaws.{units_shows, units_opened, units_dropped}
+use Rattle.kak_world.proofs.WorldLaws.{units_in, rest_own, rest_rest, rest_sels}
+use Rattle.kak_world.proofs.KeepingLaws.{keeps_own, keeps_rest, keeps_sels, keeps_set_row}
+use Rattle.kak_world.proofs.ShownLaws.{rest_shows, rest_dropped}
 use Rattle.kak_world.proofs.StayingLemmas.{keeps_dropped}
 use Rattle.kak_world.proofs.GapLemmas.{gaps_are_taken, keeps_opened}
 use Rattle.kak_world.proofs.SavingLemmas.{named-some}
-use Rattle.kak_world.proofs.JoinedLemmas.{joined_kept, joined_same, joined_then, stays_shows, keeps_options, units_options, keeps_saved, units_saved}
+use Rattle.kak_world.proofs.JoinedLemmas.{joined_kept, joined_same, joined_then, stays_shows, keeps_saved}
 use Rattle.command_set.specs.Buffers.{shown_if, show_row, edited_by_number, edit_named_row, dropped_unless, drop_at, drop_if, drop_row, quit_unless, quit_row, write_row, unsaved_in}
 use Rattle.command_set.specs.Options.{scope_named, is_declared, options_row, declare_row, set_scoped, set_option_row, unset_scoped, unset_option_row}
 use Rattle.command_set.specs.Registers.{register_set, register_row, echo_row}
@@ -67,7 +66,7 @@ named-there name flat n e =
     ap (λ k. is_there k flat.buffers) (let same : n ≡ found.0 = omega (arith, found.1) in same) ∙ found.2
 
 tame-shows : (who n : ℕ) (flat : Flat) → is_there n flat.buffers ≡ true → IsTame flat (does (shows who n flat))
-tame-shows who n flat t = record { units = units_shows who n flat; keeps = stays_shows who n flat t }
+tame-shows who n flat t = record { units = ap units_in (rest_shows who n flat); keeps = stays_shows who n flat t }
 
 tame-show : (name : List ℕ) (who : ℕ) (flat : Flat) → IsTame flat (show_row name who flat)
 tame-show name who flat = by (number_named (chars name) flat) refl
@@ -84,7 +83,7 @@ tame-edit name who flat = by (number_named (chars name) flat) refl
     by (Some n) e = tame-shows who n flat (named-there (chars name) flat n e)
 
 tame-dropped : (o : Option (List ℕ)) (n : ℕ) (flat : Flat) → IsTame flat (dropped_unless o n flat)
-tame-dropped None n flat = record { units = units_dropped n flat; keeps = keeps_dropped n flat }
+tame-dropped None n flat = record { units = ap units_in (rest_dropped n flat); keeps = keeps_dropped n flat }
 tame-dropped (Some name) n flat = tame-same flat _
 
 tame-drop_at : (forced : Bool) (n : ℕ) (flat : Flat) → IsTame flat (drop_at forced n flat)
@@ -108,7 +107,7 @@ tame-quit who flat = tame-if flat (others_leave who flat) _ _ (tame-quit_unless 
 
 -- options
 tame-options : (name word : List ℕ) (r : Result (List Setting) OptionError) (flat : Flat) → IsTame flat (options_row name word r flat)
-tame-options name word (Ok rows) flat = record { units = units_options rows flat; keeps = joined_kept flat (with_options rows flat) (keeps_options rows flat) }
+tame-options name word (Ok rows) flat = record { units = ap units_in (rest_rest _ flat); keeps = joined_kept flat (with_options rows flat) (keeps_rest _ flat (λ r. refl)) }
 tame-options name word (Err e) flat = tame-same flat _
 
 tame-set_scoped : (o : Option Scope) (add : Bool) (word name : List ℕ) (values : List (List ℕ)) (flat : Flat) → IsTame flat (set_scoped o add word name values flat)
@@ -121,7 +120,7 @@ tame-unset_scoped (Some scope) word name flat = tame-options name word (option_u
 
 -- registers
 units-set : (o : Option RegisterError) (c : ℕ) (values : List (List ℕ)) (flat : Flat) → units_of (set_unless o c values flat).world ≡ units_of flat
-units-set None c values flat = units_registers (set_in_registers c values (registers_of flat)) flat
+units-set None c values flat = ap units_in (rest_rest _ flat)
 units-set (Some e) c values flat = refl
 
 units-row : (c : ℕ) (values : List (List ℕ)) (flat : Flat) → units_of (set_row c values flat).world ≡ units_of flat
@@ -136,11 +135,11 @@ tame-register (Some c) name values flat = record { units = units-row c values fl
 tame-selected : (columns : Columns) (ds : List Described) (who : ℕ) (flat : Flat) → IsTame flat (described_selected columns ds who flat)
 tame-selected columns [] who flat = tame-same flat _
 tame-selected columns (d ∷ ds) who flat =
-    tame-if flat _ _ _ (tame-same flat _) (record { units = units_sels who _ flat; keeps = joined_kept flat (with_sels who _ flat) (keeps_sels who _ flat) })
+    tame-if flat _ _ _ (tame-same flat _) (record { units = ap units_in (rest_sels who _ flat); keeps = joined_kept flat (with_sels who _ flat) (keeps_sels who _ flat) })
 
 -- what is said
 tame-echo : (words : List (List ℕ)) (who : ℕ) (flat : Flat) → IsTame flat (echo_row words who flat)
-tame-echo words who flat = record { units = units_own who _ flat; keeps = joined_kept flat (with_own who _ flat) (keeps_own who _ flat) }
+tame-echo words who flat = record { units = ap units_in (rest_own who _ flat); keeps = joined_kept flat (with_own who _ flat) (keeps_own who _ flat) }
 
 -- all orders
 tame-order : (o : Order) (who : ℕ) (flat : Flat) → IsTame flat (row_order o who flat)

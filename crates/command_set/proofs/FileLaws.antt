@@ -18,14 +18,16 @@ use Rattle.scope_options.specs.declared.setting.Setting.{Setting}
 use Rattle.scope_options.specs.declared.options.OptionError.{OptionError}
 use Rattle.scope_options.specs.Changes.{option_set_in}
 use Rattle.kak_world.specs.declared.ask.Saving.{Saving}
-use Rattle.kak_world.specs.Flat.{Buffer, Flat, units_of, options_of, is_there, is_joined, with_options}
+use Rattle.kak_world.specs.Flat.{Buffer, Flat, units_of, options_of, is_there, is_joined, with_options, with_rest}
 use Rattle.kak_world.specs.Dropping.{KeepsJoined}
 use Rattle.kak_world.specs.Showing.{first_gap, buffer_placed, has_all_buffers, buffer_opened, shows}
 use Rattle.kak_world.specs.Saving.{is_named, unsaved_names, others_leave, saved_in}
 use Rattle.kak_world.specs.Rows.{Row, RowEnd, does, stages_of}
-use Rattle.kak_world.proofs.ShownLaws.{units_shows, units_opened}
+use Rattle.kak_world.proofs.KeepingLaws.{keeps_rest}
+use Rattle.kak_world.proofs.WorldLaws.{units_in, rest_rest}
+use Rattle.kak_world.proofs.ShownLaws.{rest_shows, rest_opened}
 use Rattle.kak_world.proofs.GapLemmas.{gaps_are_taken, keeps_opened}
-use Rattle.kak_world.proofs.JoinedLemmas.{joined_kept, joined_same, joined_then, stays_shows, keeps_options, units_options, keeps_saved as keeps_marked, units_saved}
+use Rattle.kak_world.proofs.JoinedLemmas.{joined_kept, joined_same, joined_then, stays_shows, keeps_saved as keeps_marked, rest_saved}
 use Rattle.command_set.specs.Buffers.{quit_unless, quit_row}
 use Rattle.command_set.specs.Files.{set_or_same, set_to, formatted, eol_word, bom_word, load_row, empty_row, loaded_row, row_read, marked_if_own, behind_write, row_saved}
 use Rattle.command_set.specs.Laws.{IsTame}
@@ -52,11 +54,11 @@ ends-if flat false a b h g = g
 
 -- an option is set, where it takes the word
 follows-set : (r : Result (List Setting) OptionError) (flat : Flat) → Follows flat (set_or_same r flat)
-follows-set (Ok rows) flat = record { units = units_options rows flat; keeps = joined_kept flat (with_options rows flat) (keeps_options rows flat) }
+follows-set (Ok rows) flat = record { units = ap units_in (rest_rest _ flat); keeps = joined_kept flat (with_options rows flat) (keeps_rest _ flat (λ r. refl)) }
 follows-set (Err e) flat = follows-same flat
 
 buffers-set : (r : Result (List Setting) OptionError) (flat : Flat) → (set_or_same r flat).buffers ≡ flat.buffers
-unfolding with_options
+unfolding with_rest
 buffers-set (Ok rows) flat = refl
 buffers-set (Err e) flat = refl
 
@@ -78,10 +80,10 @@ unfolding buffer_opened
 opened_there name file text flat = ap is_some (gaps_are_taken.stands _ flat.buffers).here
 
 follows-opened : (name : List ℕ) (file : Bool) (text : List ℕ) (flat : Flat) → Follows flat (buffer_opened name file text flat)
-follows-opened name file text flat = record { units = units_opened name file text flat; keeps = joined_kept flat _ (keeps_opened name file text flat) }
+follows-opened name file text flat = record { units = ap units_in (rest_opened name file text flat); keeps = joined_kept flat _ (keeps_opened name file text flat) }
 
 follows-shows : (who n : ℕ) (flat : Flat) → is_there n flat.buffers ≡ true → Follows flat (shows who n flat)
-follows-shows who n flat t = record { units = units_shows who n flat; keeps = stays_shows who n flat t }
+follows-shows who n flat t = record { units = ap units_in (rest_shows who n flat); keeps = stays_shows who n flat t }
 
 ends-load : (name : List ℕ) (l : Loaded) (who : ℕ) (flat : Flat) → Ends flat (load_row name l who flat)
 ends-load name l who flat =
@@ -118,7 +120,7 @@ follows-marked : (saving : Saving) (flat : Flat) → Follows flat (marked_if_own
 follows-marked saving flat = by (is_named (chars saving.file) (slice_index_or flat.buffers saving.buffer None))
   where
     by : (t : Bool) → Follows flat (if t then saved_in saving.buffer flat else flat)
-    by true = record { units = units_saved saving.buffer flat; keeps = joined_kept flat (saved_in saving.buffer flat) (keeps_marked saving.buffer flat) }
+    by true = record { units = ap units_in (rest_saved saving.buffer flat); keeps = joined_kept flat (saved_in saving.buffer flat) (keeps_marked saving.buffer flat) }
     by false = follows-same flat
 
 ends-quit : (who : ℕ) (flat : Flat) → Ends flat (quit_row who flat)

@@ -1,5 +1,5 @@
 -- What a use of a pattern leaves.
-use Rattle.std.proofs.Common.{◌≡◌, ◌<◌, ◌+◌, ◌*◌, ℕ, zero, suc, Bool, true, false, List, [], ◌∷◌, refl, arith}
+use Rattle.std.proofs.Common.{◌≡◌, ◌<◌, ◌+◌, ◌*◌, ℕ, zero, suc, Bool, true, false, List, [], ◌∷◌, refl, ap, arith}
 use Rattle.std.specs.Prelude.{if◌then◌else◌, Some, None}
 use Rattle.std.specs.declared.option.Option.{Option}
 use Rattle.list_model.specs.Ranges.{Range, Selected}
@@ -10,7 +10,7 @@ use Rattle.kak_world.specs.Flat.{Flat, units_of, with_sels}
 use Rattle.kak_world.specs.Keeping.{KeepsClients}
 use Rattle.kak_world.specs.Rows.{RowEnd, Fails, does, fails, stages_of}
 use Rattle.kak_world.proofs.KeepingLaws.{keeps_same, keeps_sels, keeps_units}
-use Rattle.kak_world.proofs.WorldLaws.{units_sels, units_units}
+use Rattle.kak_world.proofs.WorldLaws.{units_in, rest_sels, units_units}
 use Rattle.key_rows.specs.Sequence.{then_row, after_unit}
 use Rattle.key_rows.specs.Patterns.{asks_for_last}
 use Rattle.key_rows.proofs.KeepingLaws.{KeepsIn, keeps_behind}
@@ -34,10 +34,10 @@ lists-used Select source who flat = lists-unless who flat _ _ (lists-within who 
 lists-used Split source who flat = lists-unless who flat _ _ (lists-within who flat _ _)
 lists-used Keep source who flat = lists-unless who flat _ _ (Takes _)
 lists-used Drop source who flat = lists-unless who flat _ _ (Takes _)
-lists-used (Search toward) source who flat = lists-unless who flat _ _ (Takes _)
-lists-used (Reach toward) source who flat = lists-unless who flat _ _ (Takes _)
-lists-used (Step toward further) source who flat = lists-unless who flat _ _ (Takes _)
-lists-used (Add toward further) source who flat = lists-unless who flat _ _ (lists-within who flat _ _)
+lists-used (Search direction) source who flat = lists-unless who flat _ _ (Takes _)
+lists-used (Reach direction) source who flat = lists-unless who flat _ _ (Takes _)
+lists-used (Step direction further) source who flat = lists-unless who flat _ _ (Takes _)
+lists-used (Add direction further) source who flat = lists-unless who flat _ _ (lists-within who flat _ _)
 
 -- what may come behind a row
 abbrev weight : RowEnd → ℕ
@@ -53,7 +53,7 @@ asked-falls (Some next) units flat e = by (units_of flat) refl
     by (suc n) h = omega (arith, e, h, units_units n flat)
 
 falls-behind : (who : ℕ) (flat : Flat) (row : RowEnd) (next : Option Use) → Lists who flat row → weight (then_row row (further_asked next)) < 3 * units_of flat + 1
-falls-behind who flat row next (Takes sels) = asked-falls next (units_of flat) (with_sels who sels flat) (units_sels who sels flat)
+falls-behind who flat row next (Takes sels) = asked-falls next (units_of flat) (with_sels who sels flat) (ap units_in (rest_sels who sels flat))
 falls-behind who flat row next (Refuses text) = omega arith
 
 pub finish_falls : (wanted : Use) (made : Option (List ℕ)) (who : ℕ) (flat : Flat)

@@ -3,3 +3,4 @@ pub mod ExpandingLemmas
 pub mod FileLaws
 pub mod FinishLaws
 pub mod UseLemmas
+pub mod WantingLemmas

@@ -20,7 +20,7 @@ use Rattle.regex_select.specs.declared.error.SelectError.{SelectError}
 use Rattle.regex_select.specs.declared.error.SelectError.TheVariants.{NoMatch, TooMany, NoMemory as Wanting}
 use Rattle.regex_select.specs.Causes.{IsForNone, IsCause, IsForOneMore}
 use Rattle.kak_world.specs.declared.ask.EditError.TheVariants.{NothingSelected, TooManySelections}
-use Rattle.kak_world.specs.Flat.{Flat, text_of, sels_of, units_of, registers_of, with_sels, with_list_of, with_units}
+use Rattle.kak_world.specs.Flat.{Flat, text_of, sels_of, units_of, with_sels, with_list_of, with_units, rest_of, with_rest}
 use Rattle.kak_world.specs.Rows.{Row, RowEnd, Asks, does, fails}
 use Rattle.command_set.specs.Finishing.{unless_none, taken_within, made_taken, kept_taken, found_taken, further_asked}
 use Rattle.command_set.specs.Refusing.{IsListOf}
@@ -141,11 +141,11 @@ added-row source f r who flat l given t s e some few cause =
 
 -- neither a list nor a unit is a register's
 pub last-then : (who : ℕ) (sels : Selected) (flat : Flat) → last_pattern (with_sels who sels flat) ≡ last_pattern flat
-unfolding registers_of with_sels with_list_of
+unfolding rest_of with_sels with_list_of
 last-then who sels flat = refl
 
 pub last-unit : (units : ℕ) (flat : Flat) → last_pattern (with_units units flat) ≡ last_pattern flat
-unfolding registers_of with_units
+unfolding rest_of with_rest
 last-unit units flat = refl
 
 -- a further use is asked for behind the list, for which a unit was taken

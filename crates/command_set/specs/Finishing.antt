@@ -7,14 +7,10 @@ use Rattle.list_model.specs.Ranges.{Range, Selected}
 use Rattle.list_model.specs.Settling.{each_settled}
 use Rattle.regex_ports.specs.declared.maker.Made.{Made}
 use Rattle.regex_ports.specs.declared.maker.Made.TheVariants.{Built, Refused}
-use Rattle.regex_select.specs.declared.way.Way.{Way}
-use Rattle.regex_select.specs.declared.way.Way.TheVariants.{Forward, Backward}
 use Rattle.regex_select.specs.Rows.{is_kept, kept_each}
 use Rattle.regex_select.specs.Selecting.{matched_in, split_in, made_each}
 use Rattle.regex_select.specs.Searching.{all_matches, sought, searched, main_settled, main_added}
 use Rattle.kak_world.specs.declared.ask.EditError.TheVariants.{BadPattern, NothingSelected, TooManySelections}
-use Rattle.kak_world.specs.declared.purpose.Toward.{Toward}
-use Rattle.kak_world.specs.declared.purpose.Toward.TheVariants.{Next, Former}
 use Rattle.kak_world.specs.declared.purpose.Use.{Use}
 use Rattle.kak_world.specs.declared.purpose.Use.TheVariants.{Select, Split, Keep, Drop, Search, Reach, Step, Add}
 use Rattle.kak_world.specs.Flat.{Flat, text_of, sels_of, units_of, with_sels}
@@ -26,11 +22,6 @@ use Rattle.key_rows.specs.Patterns.{asks_for_last}
 abbrev pub source_of : {P : Type 0} → (P → List ℕ) → Made P → Option (List ℕ)
 source_of source (Built pattern) = Some (source pattern)
 source_of source Refused = None
-
--- the way on which a match is looked for
-abbrev pub way_of : Toward → Way
-way_of Next = Forward
-way_of Former = Backward
 
 -- a row, unless there is nothing to be selected
 abbrev pub unless_none : List Range → RowEnd → Flat → RowEnd
@@ -61,23 +52,23 @@ list_used Select source who flat = made_taken (matched_in source (text_of who fl
 list_used Split source who flat = made_taken (split_in source (text_of who flat)) who flat
 list_used Keep source who flat = kept_taken (is_kept true source (text_of who flat)) who flat
 list_used Drop source who flat = kept_taken (is_kept false source (text_of who flat)) who flat
-list_used (Search toward) source who flat =
+list_used (Search direction) source who flat =
     let matches : List Range = all_matches source (text_of who flat) in
-    found_taken matches (each_settled (searched (record { way = way_of toward; extend = false }) matches) (sels_of who flat)) who flat
-list_used (Reach toward) source who flat =
+    found_taken matches (each_settled (searched (record { direction = direction; extend = false }) matches) (sels_of who flat)) who flat
+list_used (Reach direction) source who flat =
     let matches : List Range = all_matches source (text_of who flat) in
-    found_taken matches (each_settled (searched (record { way = way_of toward; extend = true }) matches) (sels_of who flat)) who flat
-list_used (Step toward further) source who flat =
+    found_taken matches (each_settled (searched (record { direction = direction; extend = true }) matches) (sels_of who flat)) who flat
+list_used (Step direction further) source who flat =
     let matches : List Range = all_matches source (text_of who flat) in
-    found_taken matches (main_settled (sought (way_of toward) matches) (sels_of who flat)) who flat
-list_used (Add toward further) source who flat =
+    found_taken matches (main_settled (sought direction matches) (sels_of who flat)) who flat
+list_used (Add direction further) source who flat =
     let matches : List Range = all_matches source (text_of who flat) in
-    unless_none matches (taken_within (length (sels_of who flat).list + 1) (main_added (sought (way_of toward) matches) (sels_of who flat)) who flat) flat
+    unless_none matches (taken_within (length (sels_of who flat).list + 1) (main_added (sought direction matches) (sels_of who flat)) who flat) flat
 
 -- what comes behind a use: a further one where it is to be made more often
 abbrev pub next_use : Use → Option Use
-next_use (Step toward (suc further)) = Some (Step toward further)
-next_use (Add toward (suc further)) = Some (Add toward further)
+next_use (Step direction (suc further)) = Some (Step direction further)
+next_use (Add direction (suc further)) = Some (Add direction further)
 next_use _ = None
 
 -- a further use takes a unit, and asks for the pattern again

@@ -5,6 +5,7 @@ pub mod Registers
 pub mod Selecting
 pub mod Expanding
 pub mod Files
+pub mod Wanting
 pub mod Rows
 pub mod Finishing
 pub mod Refusing

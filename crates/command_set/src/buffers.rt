@@ -1,9 +1,10 @@
 //! What commands do to buffers, and when a client may leave.
 #![tactic(auto, using(kak_world::proofs::WorldLaws::world_laws))]
 
-ghost use Rattle.std.specs.Prelude.{◌≡◌, true, slice_index_or, unwrap_or, encode_utf8_all, IfOk, IfSome, None};
+ghost use Rattle.std.specs.Prelude.{◌≡◌, true, slice_index_or, unwrap_or, encode_utf8_all, IfOk, IfSome, IsErrOf, None};
 ghost use Rattle.std.specs.Str.{chars};
-ghost use Rattle.kak_world.specs.Flat.{is_joined, is_there, name_of};
+ghost use Rattle.kak_world.specs.declared.ask.EditError.TheVariants.{NoMemory};
+ghost use Rattle.kak_world.specs.Flat.{acts, is_there, name_of};
 ghost use Rattle.kak_world.specs.Rows.{GivesRow, Answers};
 ghost use Rattle.command_set.specs.Buffers.{show_row, edit_named_row, unsaved_in, drop_at, drop_row, drop_if, quit_row, write_row};
 ghost use Rattle.kak_world.specs.Saving.{number_named};
@@ -23,15 +24,16 @@ fn number_named(alloc: Global, world: &World, name: &str) -> Result<Option<u32>,
     Ok(world.number_named(name.as_slice()))
 }
 
-/// Shows a client the buffer of a name. `NoSuchBuffer` leaves the world.
+/// Shows a client the buffer of a name. An error leaves the world.
 pub(crate) fn show(
     alloc: Global,
     world: &mut World,
     who: u32,
     name: Utf8Text,
 ) -> Result<(), EditError>
-    requires { is_joined who world.old.flat ≡ true }
+    requires { acts who world.old.flat ≡ true }
     ensures row { Answers result world.new.flat (show_row name who world.old.flat) }
+    ensures wanting { IsErrOf result NoMemory → world.new.flat ≡ world.old.flat }
 {
     match number_named(alloc, world, name.as_str())? {
         None => Err(EditError::Command(CommandError::NoSuchBuffer(name))),
@@ -42,15 +44,16 @@ pub(crate) fn show(
     }
 }
 
-/// Shows a client the buffer of a name, or asks for the file of that name. `TooManyBuffers` leaves the world.
+/// Shows a client the buffer of a name, or asks for the file of that name. An error leaves the world.
 pub(crate) fn edit(
     alloc: Global,
     world: &mut World,
     who: u32,
     name: Utf8Text,
 ) -> Result<Ask, EditError>
-    requires { is_joined who world.old.flat ≡ true }
+    requires { acts who world.old.flat ≡ true }
     ensures row { GivesRow result world.new.flat (edit_named_row name who world.old.flat) }
+    ensures wanting { IsErrOf result NoMemory → world.new.flat ≡ world.old.flat }
 {
     match number_named(alloc, world, name.as_str())? {
         Some(n) => {
@@ -78,6 +81,7 @@ fn unsaved_in(alloc: Global, world: &World, n: u32) -> Result<Option<Chars>, All
 fn drop_at(alloc: Global, world: &mut World, n: u32, forced: bool) -> Result<(), EditError>
     requires { is_there n world.old.flat.buffers ≡ true }
     ensures row { Answers result world.new.flat (drop_at forced n world.old.flat) }
+    ensures wanting { IsErrOf result NoMemory → world.new.flat ≡ world.old.flat }
 {
     if !forced {
         if let Some(name) = unsaved_in(alloc, world, n)? {
@@ -96,6 +100,7 @@ fn drop_named(
     forced: bool,
 ) -> Result<(), EditError>
     ensures row { Answers result world.new.flat (drop_if (number_named (chars name) world.old.flat) forced name world.old.flat) }
+    ensures wanting { IsErrOf result NoMemory → world.new.flat ≡ world.old.flat }
 {
     match number_named(alloc, world, name.as_str())? {
         None => Err(EditError::Command(CommandError::NoSuchBuffer(name))),
@@ -103,8 +108,8 @@ fn drop_named(
     }
 }
 
-/// Drops the buffer of a name, or the one that a client sees. `NoSuchBuffer` and `ModifiedRemain` leave the world; the
-/// latter doesn't come where the drop is forced.
+/// Drops the buffer of a name, or the one that a client sees. `ModifiedRemain` doesn't come where the drop is forced. An error
+/// leaves the world.
 pub(crate) fn drop_buffer(
     alloc: Global,
     world: &mut World,
@@ -112,8 +117,9 @@ pub(crate) fn drop_buffer(
     name: Option<Utf8Text>,
     forced: bool,
 ) -> Result<(), EditError>
-    requires { is_joined who world.old.flat ≡ true }
+    requires { acts who world.old.flat ≡ true }
     ensures row { Answers result world.new.flat (drop_row forced name who world.old.flat) }
+    ensures wanting { IsErrOf result NoMemory → world.new.flat ≡ world.old.flat }
 {
     match name {
         None => {
@@ -144,7 +150,7 @@ fn file_or_name(
     who: u32,
     file: Option<Utf8Text>,
 ) -> Result<Utf8Text, AllocError>
-    requires { is_joined who world.now.flat ≡ true }
+    requires { acts who world.now.flat ≡ true }
     ensures { IfOk result (λ name. name ≡ unwrap_or file (encode_utf8_all (name_of who world.now.flat))) }
 {
     match file {
@@ -162,7 +168,7 @@ pub(crate) fn write(
     file: Option<Utf8Text>,
     quits: bool,
 ) -> Result<Ask, EditError>
-    requires { is_joined who world.now.flat ≡ true }
+    requires { acts who world.now.flat ≡ true }
     ensures row { GivesRow result world.now.flat (write_row file quits who world.now.flat) }
 {
     Ok(Ask::Write(Saving {

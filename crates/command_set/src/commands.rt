@@ -1,9 +1,10 @@
 //! The commands: how a text is read as them, and the row of each.
 #![tactic(auto, using(kak_world::proofs::WorldLaws::world_laws))]
 
-ghost use Rattle.std.specs.Prelude.{◌≡◌, true, map, string_bytes, Ok, Err, IfOk, IfErr, IfSome};
+ghost use Rattle.std.specs.Prelude.{◌≡◌, true, map, string_bytes, Ok, Err, IfOk, IfErr, IfSome, IsErrOf};
 ghost use Rattle.kak_words.specs.Expanding.{expanded as words_expanded};
-ghost use Rattle.kak_world.specs.Flat.{is_joined};
+ghost use Rattle.kak_world.specs.declared.ask.EditError.TheVariants.{NoMemory};
+ghost use Rattle.kak_world.specs.Flat.{acts};
 ghost use Rattle.kak_world.specs.Rows.{GivesRow, row_of};
 ghost use Rattle.command_set.specs.Reading.{commands_told};
 ghost use Rattle.command_set.specs.Expanding.{table_of};
@@ -36,8 +37,9 @@ pub fn read(alloc: Global, text: &[char]) -> Result<Vec<Command>, EditError>
 
 // Does what a command orders.
 fn run_order(alloc: Global, world: &mut World, who: u32, order: Order) -> Result<Ask, EditError>
-    requires { is_joined who world.old.flat ≡ true }
+    requires { acts who world.old.flat ≡ true }
     ensures row { GivesRow result world.new.flat (row_order order who world.old.flat) }
+    ensures wanting { IsErrOf result NoMemory → world.new.flat ≡ world.old.flat }
 {
     match order {
         Order::Nothing => {}
@@ -74,7 +76,7 @@ fn order_refusal(error: OrderError) -> EditError
     }
 }
 
-/// Runs one command, by its words. A refusal leaves the world.
+/// Runs one command, by its words. A refusal leaves the world, and so does want of memory.
 #[tactic(auto, using(kak_world::proofs::WorldLaws::world_laws), unfolding(crate::specs::Rows::row_words))]
 pub fn command(
     alloc: Global,
@@ -82,8 +84,9 @@ pub fn command(
     who: u32,
     words: &[String],
 ) -> Result<Ask, EditError>
-    requires { is_joined who world.old.flat ≡ true }
+    requires { acts who world.old.flat ≡ true }
     ensures row { GivesRow result world.new.flat (row_words (map (λ w. string_bytes w) words.now) who world.old.flat) }
+    ensures wanting { IsErrOf result NoMemory → world.new.flat ≡ world.old.flat }
 {
     match read_order(alloc, words) {
         Ok(order) => run_order(alloc, world, who, order),
@@ -98,7 +101,7 @@ fn expanded(
     who: u32,
     command: &Command,
 ) -> Result<Vec<String>, EditError>
-    requires { is_joined who world.now.flat ≡ true }
+    requires { acts who world.now.flat ≡ true }
     ensures words { IfOk result (λ v. words_expanded (table_of who world.now.flat) command.now ≡ Ok (map (λ w. string_bytes w) v.items)) }
     ensures why { IfErr result (λ error. IsUnexpanded error (words_expanded (table_of who world.now.flat) command.now)) }
 {
@@ -113,7 +116,7 @@ fn expanded(
 }
 
 /// Runs one command, whose words are expanded first: `UnknownExpansion` comes where there is no such expansion. A refusal
-/// leaves the world.
+/// leaves the world, and so does want of memory.
 #[tactic(auto, using(kak_world::proofs::WorldLaws::world_laws), unfolding(crate::specs::Rows::row_command))]
 pub fn run_command(
     alloc: Global,
@@ -121,8 +124,9 @@ pub fn run_command(
     who: u32,
     command_read: &Command,
 ) -> Result<Ask, EditError>
-    requires { is_joined who world.old.flat ≡ true }
+    requires { acts who world.old.flat ≡ true }
     ensures row { GivesRow result world.new.flat (row_command command_read.now who world.old.flat) }
+    ensures wanting { IsErrOf result NoMemory → world.new.flat ≡ world.old.flat }
 {
     let words = expanded(alloc, world, who, command_read)?;
     command(alloc, world, who, words.as_slice())

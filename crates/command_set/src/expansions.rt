@@ -7,7 +7,7 @@ ghost use Rattle.edit_ops.specs.Reading.{text_of_range};
 ghost use Rattle.selection_set.specs.Inside.{IsInside, range_of};
 ghost use Rattle.selection_texts.specs.Telling.{told_text};
 ghost use Rattle.kak_registers.specs.Names.{named};
-ghost use Rattle.kak_world.specs.Flat.{is_joined, option_of, text_of, story_of};
+ghost use Rattle.kak_world.specs.Flat.{acts, option_of, text_of, story_of};
 ghost use Rattle.command_set.specs.Expanding.{truth, main_selection, main_place, value_strings, value_named, option_strings, register_strings, arguments, table_of};
 
 use crate::value_names::{Kind, ValueName, kind_named, value_named};
@@ -27,7 +27,7 @@ use std::alloc::{AllocError, Global};
 pub(crate) struct Expansions<'a> {
     pub(crate) world: &'a World,
     pub(crate) who: u32,
-    ghost joined: { is_joined who world.now.flat ≡ true },
+    ghost acts: { acts who world.now.flat ≡ true },
 }
 
 // One string.
@@ -62,7 +62,7 @@ fn client_name(alloc: Global, n: u32) -> Result<Words, AllocError>
 
 // The place of a client's main cursor.
 fn main_place(world: &World, who: u32, columns: Columns) -> ArgumentPlace
-    requires { is_joined who world.now.flat ≡ true }
+    requires { acts who world.now.flat ≡ true }
     ensures { result ≡ main_place columns who world.now.flat }
 {
     main_cursor(world.lines(who), columns, world.sels(who))
@@ -70,7 +70,7 @@ fn main_place(world: &World, who: u32, columns: Columns) -> ArgumentPlace
 
 // The main selection of a client.
 fn main_selection(world: &World, who: u32) -> Sel
-    requires { is_joined who world.now.flat ≡ true }
+    requires { acts who world.now.flat ≡ true }
     ensures inside { IsInside (text_of who world.now.flat) result }
     ensures value { range_of (text_of who world.now.flat) result ≡ main_selection who world.now.flat }
 {
@@ -80,7 +80,7 @@ fn main_selection(world: &World, who: u32) -> Sel
 
 // The main selection of a client, as it is described.
 fn main_described(alloc: Global, world: &World, who: u32) -> Result<Words, AllocError>
-    requires { is_joined who world.now.flat ≡ true }
+    requires { acts who world.now.flat ≡ true }
     ensures { IfOk result (λ words. words ≡ told_text (text_of who world.now.flat) (main_selection who world.now.flat) ∷ []) }
 {
     let sel = main_selection(world, who);
@@ -89,7 +89,7 @@ fn main_described(alloc: Global, world: &World, who: u32) -> Result<Words, Alloc
 
 // The text of the main selection of a client.
 fn main_text(alloc: Global, world: &World, who: u32) -> Result<Words, AllocError>
-    requires { is_joined who world.now.flat ≡ true }
+    requires { acts who world.now.flat ≡ true }
     ensures { IfOk result (λ words. words ≡ encode_utf8_all (text_of_range (text_of who world.now.flat) (main_selection who world.now.flat)) ∷ []) }
 {
     let sel = main_selection(world, who);
@@ -99,7 +99,7 @@ fn main_text(alloc: Global, world: &World, who: u32) -> Result<Words, AllocError
 
 // Whether the text of the buffer that a client sees may differ from what was saved.
 fn is_modified(world: &World, who: u32) -> bool
-    requires { is_joined who world.now.flat ≡ true }
+    requires { acts who world.now.flat ≡ true }
     ensures { result ≡ is_modified (story_of who world.now.flat) }
 {
     match world.buffer(world.shown_number(who)) {
@@ -115,7 +115,7 @@ fn value_strings(
     who: u32,
     value: ValueName,
 ) -> Result<Words, AllocError>
-    requires { is_joined who world.now.flat ≡ true }
+    requires { acts who world.now.flat ≡ true }
     ensures { IfOk result (λ words. words ≡ value_strings value who world.now.flat) }
 {
     match value {
@@ -170,7 +170,7 @@ fn named_value(
     who: u32,
     name: &str,
 ) -> Result<Option<Words>, AllocError>
-    requires { is_joined who world.now.flat ≡ true }
+    requires { acts who world.now.flat ≡ true }
     ensures { IfOk result (λ words. words ≡ option_map (λ v. value_strings v who world.now.flat) (value_named name.now)) }
 {
     match value_named(name) {
@@ -186,7 +186,7 @@ fn named_option(
     who: u32,
     name: &str,
 ) -> Result<Option<Words>, AllocError>
-    requires { is_joined who world.now.flat ≡ true }
+    requires { acts who world.now.flat ≡ true }
     ensures { IfOk result (λ words. words ≡ option_map option_strings (option_of name.now who world.now.flat)) }
 {
     match world
@@ -205,7 +205,7 @@ fn named_register(
     who: u32,
     name: &str,
 ) -> Result<Option<Words>, AllocError>
-    requires { is_joined who world.now.flat ≡ true }
+    requires { acts who world.now.flat ≡ true }
     ensures { IfOk result (λ words. words ≡ register_strings (named name.now) who world.now.flat) }
 {
     match register_named(name) {
@@ -233,7 +233,7 @@ fn strings_of(
     kind: &str,
     name: &str,
 ) -> Result<Option<Words>, AllocError>
-    requires { is_joined who world.now.flat ≡ true }
+    requires { acts who world.now.flat ≡ true }
     ensures { IfOk result (λ words. words ≡ table_of who world.now.flat kind.now name.now) }
 {
     match kind_named(kind) {

@@ -5,11 +5,12 @@ ghost use Rattle.std.specs.Prelude.{◌≡◌, ◌∷◌, [], true, false, slice
 ghost use Rattle.scope_options.specs.Settings.{seen_from};
 ghost use Rattle.std.specs.Str.{chars};
 ghost use Rattle.scope_options.specs.declared.scope.Scope.TheVariants.{Buffer as InBuffer};
-ghost use Rattle.kak_world.specs.Flat.{is_joined, options_of};
+ghost use Rattle.kak_world.specs.Flat.{acts, options_of};
 ghost use Rattle.kak_world.specs.Rows.{GivesRow};
 ghost use Rattle.kak_world.specs.Saving.{is_named};
 ghost use Rattle.kak_world.specs.Showing.{first_gap, has_all_buffers, buffer_opened};
 ghost use Rattle.command_set.specs.Files.{set_to, eol_word, bom_word, formatted, load_row, empty_row, coding_refusal, loaded_row, row_read, is_text, is_seen_as, eol_of, bom_of, saved_bytes, marked_if_own, behind_write, row_saved};
+ghost use Rattle.command_set.specs.Wanting.{IsPartOfFormat, IsPartOfLoad, IsPartOfEmpty, IsPartOfLoaded, IsPartOfRead, IsPartOfSaved};
 ghost use Rattle.text_coding.specs.Coding.{loaded};
 
 use crate::buffers::quit;
@@ -51,7 +52,8 @@ fn set_in_buffer(
     name: &str,
     word: &str,
 ) -> Result<(), AllocError>
-    ensures { OnOk result (world.new.flat ≡ set_to (InBuffer n) name.now word.now world.old.flat) }
+    ensures ok { OnOk result (world.new.flat ≡ set_to (InBuffer n) name.now word.now world.old.flat) }
+    ensures err { OnErr result (world.new.flat ≡ world.old.flat) }
 {
     let mut words = Words::new(alloc);
     words.push(String::from_str(alloc, word)?)?;
@@ -70,7 +72,8 @@ fn set_format(
     eol: Eol,
     bom: Bom,
 ) -> Result<(), AllocError>
-    ensures { OnOk result (world.new.flat ≡ formatted n eol bom world.old.flat) }
+    ensures ok { OnOk result (world.new.flat ≡ formatted n eol bom world.old.flat) }
+    ensures err { OnErr result (IsPartOfFormat n eol world.old.flat world.new.flat) }
 {
     set_in_buffer(alloc, world, n, "eolformat", eol_word(eol))?;
     set_in_buffer(alloc, world, n, "BOM", bom_word(bom))?;
@@ -82,6 +85,7 @@ fn open(alloc: Global, world: &mut World, name: &str, lines: Lines) -> Result<u3
     requires { has_all_buffers world.old.flat ≡ false }
     ensures number { IfOk result (λ n. n ≡ first_gap world.old.flat.buffers) }
     ensures ok { OnOk result (world.new.flat ≡ buffer_opened (chars name.now) true lines world.old.flat) }
+    ensures err { OnErr result (world.new.flat ≡ world.old.flat) }
 {
     let name = Chars::from_str(alloc, name)?;
     match world.open(alloc, name, true, lines) {
@@ -99,8 +103,9 @@ fn load(
     name: &str,
     loaded: Loaded,
 ) -> Result<Ask, EditError>
-    requires { is_joined who world.old.flat ≡ true }
+    requires { acts who world.old.flat ≡ true }
     ensures row { GivesRow result world.new.flat (load_row name.now loaded who world.old.flat) }
+    ensures err { OnErr result (IsPartOfLoad name.now loaded world.old.flat world.new.flat) }
 {
     if world.has_all_buffers() {
         return Err(EditError::Command(CommandError::TooManyBuffers));
@@ -114,8 +119,9 @@ fn load(
 
 // Opens an empty buffer for a file that isn't there, and shows that to a client.
 fn open_empty(alloc: Global, world: &mut World, who: u32, name: &str) -> Result<Ask, EditError>
-    requires { is_joined who world.old.flat ≡ true }
+    requires { acts who world.old.flat ≡ true }
     ensures row { GivesRow result world.new.flat (empty_row name.now who world.old.flat) }
+    ensures err { OnErr result (IsPartOfEmpty name.now world.old.flat world.new.flat) }
 {
     if world.has_all_buffers() {
         return Err(EditError::Command(CommandError::TooManyBuffers));
@@ -145,8 +151,9 @@ fn open_bytes(
     name: &str,
     bytes: &[u8],
 ) -> Result<Ask, EditError>
-    requires { is_joined who world.old.flat ≡ true }
+    requires { acts who world.old.flat ≡ true }
     ensures row { GivesRow result world.new.flat (loaded_row (loaded bytes.now) name.now who world.old.flat) }
+    ensures err { OnErr result (IsPartOfLoaded (loaded bytes.now) name.now world.old.flat world.new.flat) }
 {
     match decode(alloc, bytes) {
         Ok(loaded) => load(alloc, world, who, name, loaded),
@@ -156,7 +163,7 @@ fn open_bytes(
 
 /// Goes on with a file that was to be read: its text is opened as a buffer and shown to the client. `FileFault` comes where the
 /// read failed, `NotUtf8` and `TextFull` where the bytes are no text, and `TooManyBuffers` where no more can be opened;
-/// they leave the world.
+/// they leave the world. After want of memory the buffer may be opened, and shown to nobody.
 #[tactic(auto, unfolding(crate::specs::Files::row_read))]
 pub fn open_read(
     alloc: Global,
@@ -165,8 +172,9 @@ pub fn open_read(
     name: Utf8Text,
     read: &FileRead,
 ) -> Result<Ask, EditError>
-    requires { is_joined who world.old.flat ≡ true }
+    requires { acts who world.old.flat ≡ true }
     ensures row { GivesRow result world.new.flat (row_read name read.now who world.old.flat) }
+    ensures err { OnErr result (IsPartOfRead name read.now world.old.flat world.new.flat) }
 {
     match read {
         FileRead::Bytes(bytes) => open_bytes(alloc, world, who, name.as_str(), bytes.as_slice()),
@@ -241,7 +249,8 @@ fn is_own(alloc: Global, world: &World, saving: &Saving) -> Result<bool, AllocEr
 
 // Marks a buffer as saved whose text was written to the file of its own name.
 fn mark_if_own(alloc: Global, world: &mut World, saving: &Saving) -> Result<(), AllocError>
-    ensures { OnOk result (world.new.flat ≡ marked_if_own saving.now world.old.flat) }
+    ensures ok { OnOk result (world.new.flat ≡ marked_if_own saving.now world.old.flat) }
+    ensures err { OnErr result (world.new.flat ≡ world.old.flat) }
 {
     if is_own(alloc, world, saving)? {
         world.mark_saved(saving.buffer);
@@ -251,7 +260,7 @@ fn mark_if_own(alloc: Global, world: &mut World, saving: &Saving) -> Result<(), 
 
 /// Goes on with a file that was to be written: where it went to the buffer's own name, the text counts as saved; and the client
 /// may be to leave then. `FileFault` comes where the write failed, and leaves the world; `ModifiedRemain` as where a
-/// client leaves, when the text counts as saved already.
+/// client leaves, when the text counts as saved already. After want of memory it may count so, too.
 #[tactic(auto, unfolding(crate::specs::Files::row_saved))]
 pub fn note_saved(
     alloc: Global,
@@ -261,6 +270,7 @@ pub fn note_saved(
     put: Put,
 ) -> Result<Ask, EditError>
     ensures row { GivesRow result world.new.flat (row_saved saving put who world.old.flat) }
+    ensures err { OnErr result (IsPartOfSaved saving put world.old.flat world.new.flat) }
 {
     match put {
         Put::Failed => Err(EditError::Command(CommandError::FileFault(saving.file))),

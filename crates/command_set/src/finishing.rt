@@ -4,29 +4,19 @@
 ghost use Rattle.std.specs.Prelude.{◌≡◌, true, IfOk, IsErrOf};
 ghost use Rattle.selection_set.specs.Held.{IsHeld, selected};
 ghost use Rattle.kak_world.specs.declared.ask.EditError.TheVariants.{NoMemory};
-ghost use Rattle.kak_world.specs.Flat.{is_joined, text_of, with_sels};
+ghost use Rattle.kak_world.specs.Flat.{acts, text_of, with_sels};
 ghost use Rattle.kak_world.specs.Rows.{GivesRow, does};
-ghost use Rattle.command_set.specs.Finishing.{source_of, way_of, list_used, next_use, further_asked, pattern_used, row_finish};
+ghost use Rattle.command_set.specs.Finishing.{source_of, list_used, next_use, further_asked, pattern_used, row_finish};
 ghost use Rattle.command_set.specs.Refusing.{refusal_of, IsListOf};
 
-use kak_world::{Ask, EditError, Toward, Use, World};
+use kak_world::{Ask, EditError, Use, World};
 use key_rows::ask_for_last;
 use regex_ports::{Made, Pattern};
 use regex_select::{
-    Search, SelectError, Way, add_match, keep, matches_in, search, search_main, split_in,
+    Search, SelectError, add_match, keep, matches_in, search, search_main, split_in,
 };
 use selection_set::Sels;
 use std::alloc::Global;
-
-// The way on which a match is looked for.
-fn way_of(toward: Toward) -> Way
-    ensures { result ≡ way_of toward }
-{
-    match toward {
-        Toward::Next => Way::Forward,
-        Toward::Former => Way::Backward,
-    }
-}
 
 // By what the client is told why nothing was selected.
 fn refusal_of(error: SelectError) -> EditError
@@ -47,7 +37,7 @@ fn list_used<P: Pattern>(
     wanted: Use,
     pattern: &P,
 ) -> Result<Sels, SelectError>
-    requires { is_joined who world.now.flat ≡ true }
+    requires { acts who world.now.flat ≡ true }
     ensures held { IfOk result (λ sels. IsHeld (text_of who world.now.flat) sels) }
     ensures lists { IsListOf result (list_used wanted (P.source pattern.now) who world.now.flat) who world.now.flat }
 {
@@ -58,16 +48,32 @@ fn list_used<P: Pattern>(
         Use::Split => split_in(alloc, lines, sels, pattern),
         Use::Keep => keep(alloc, lines, sels, pattern, true),
         Use::Drop => keep(alloc, lines, sels, pattern, false),
-        Use::Search(toward) => {
-            let way = way_of(toward);
-            search(alloc, lines, sels, pattern, Search { way, extend: false })
+        Use::Search(direction) => {
+            search(
+                alloc,
+                lines,
+                sels,
+                pattern,
+                Search {
+                    direction,
+                    extend: false,
+                },
+            )
         }
-        Use::Reach(toward) => {
-            let way = way_of(toward);
-            search(alloc, lines, sels, pattern, Search { way, extend: true })
+        Use::Reach(direction) => {
+            search(
+                alloc,
+                lines,
+                sels,
+                pattern,
+                Search {
+                    direction,
+                    extend: true,
+                },
+            )
         }
-        Use::Step(toward, _) => search_main(alloc, lines, sels, pattern, way_of(toward)),
-        Use::Add(toward, _) => add_match(alloc, lines, sels, pattern, way_of(toward)),
+        Use::Step(direction, _) => search_main(alloc, lines, sels, pattern, direction),
+        Use::Add(direction, _) => add_match(alloc, lines, sels, pattern, direction),
     }
 }
 
@@ -76,8 +82,8 @@ fn next_use(wanted: Use) -> Option<Use>
     ensures { result ≡ next_use wanted }
 {
     match wanted {
-        Use::Step(toward, further) if further > 0 => Some(Use::Step(toward, further - 1)),
-        Use::Add(toward, further) if further > 0 => Some(Use::Add(toward, further - 1)),
+        Use::Step(direction, further) if further > 0 => Some(Use::Step(direction, further - 1)),
+        Use::Add(direction, further) if further > 0 => Some(Use::Add(direction, further - 1)),
         _ => None,
     }
 }
@@ -90,7 +96,7 @@ fn take_list(
     sels: Sels,
     next: Option<Use>,
 ) -> Result<Ask, EditError>
-    requires joined { is_joined who world.old.flat ≡ true }
+    requires acts { acts who world.old.flat ≡ true }
     requires held { IsHeld (text_of who world.old.flat) sels }
     ensures row { GivesRow result world.new.flat (further_asked next (with_sels who (selected (text_of who world.old.flat) sels) world.old.flat)) }
     ensures wanting { IsErrOf result NoMemory → world.new.flat ≡ world.old.flat }
@@ -119,7 +125,7 @@ fn make_use<P: Pattern>(
     wanted: Use,
     pattern: &P,
 ) -> Result<Ask, EditError>
-    requires { is_joined who world.old.flat ≡ true }
+    requires { acts who world.old.flat ≡ true }
     ensures row { GivesRow result world.new.flat (pattern_used wanted (P.source pattern.now) who world.old.flat) }
     ensures wanting { IsErrOf result NoMemory → world.new.flat ≡ world.old.flat }
 {
@@ -141,7 +147,7 @@ pub fn finish<P: Pattern>(
     wanted: Use,
     made: Made<P>,
 ) -> Result<Ask, EditError>
-    requires { is_joined who world.old.flat ≡ true }
+    requires { acts who world.old.flat ≡ true }
     ensures row { GivesRow result world.new.flat (row_finish wanted (source_of P.source made) who world.old.flat) }
     ensures wanting { IsErrOf result NoMemory → world.new.flat ≡ world.old.flat }
 {

@@ -1,8 +1,9 @@
 //! What commands do to options.
 #![tactic(auto, using(kak_world::proofs::WorldLaws::world_laws))]
 
-ghost use Rattle.std.specs.Prelude.{◌≡◌, true, [], IfOk, IfErr, IfSome};
-ghost use Rattle.kak_world.specs.Flat.{is_joined};
+ghost use Rattle.std.specs.Prelude.{◌≡◌, true, [], IfOk, IfErr, IfSome, IsErrOf};
+ghost use Rattle.kak_world.specs.declared.ask.EditError.TheVariants.{NoMemory};
+ghost use Rattle.kak_world.specs.Flat.{acts};
 ghost use Rattle.kak_world.specs.Rows.{Answers};
 ghost use Rattle.command_set.specs.Options.{scope_named, is_declared, refusal_by, declare_row, set_option_row, unset_option_row};
 
@@ -14,7 +15,7 @@ use std::alloc::Global;
 
 // The scope that a word names for a client.
 fn scope_named(word: &str, world: &World, who: u32) -> Option<Scope>
-    requires { is_joined who world.now.flat ≡ true }
+    requires { acts who world.now.flat ≡ true }
     ensures { result ≡ scope_named word.now who world.now.flat }
 {
     match word {
@@ -57,13 +58,14 @@ fn unscoped(alloc: Global, name: Utf8Text) -> OptionName
     }
 }
 
-/// Declares an option. `OptionExists` and `BadValue` leave the world.
+/// Declares an option. `OptionExists`, `BadValue` and want of memory leave the world.
 pub(crate) fn declare(
     alloc: Global,
     world: &mut World,
     declaration: Declaration,
 ) -> Result<(), EditError>
     ensures row { Answers result world.new.flat (declare_row declaration.kind declaration.name declaration.values world.old.flat) }
+    ensures wanting { IsErrOf result NoMemory → world.new.flat ≡ world.old.flat }
 {
     let Declaration { kind, name, values } = declaration;
     match world.declare_option(alloc, kind, name.as_str(), &values) {
@@ -72,15 +74,16 @@ pub(crate) fn declare(
     }
 }
 
-/// Sets an option at a scope. `NoSuchOption`, `NoSuchScope` and `BadValue` leave the world.
+/// Sets an option at a scope. `NoSuchOption`, `NoSuchScope`, `BadValue` and want of memory leave the world.
 pub(crate) fn set(
     alloc: Global,
     world: &mut World,
     who: u32,
     setting: SettingOrder,
 ) -> Result<(), EditError>
-    requires { is_joined who world.old.flat ≡ true }
+    requires { acts who world.old.flat ≡ true }
     ensures row { Answers result world.new.flat (set_option_row setting.add setting.option.scope setting.option.name setting.values who world.old.flat) }
+    ensures wanting { IsErrOf result NoMemory → world.new.flat ≡ world.old.flat }
 {
     let SettingOrder {
         add,
@@ -101,8 +104,9 @@ pub(crate) fn set(
 
 /// Takes away what an option is set to at a scope. `NoSuchOption` and `NoSuchScope` leave the world.
 pub(crate) fn unset(world: &mut World, who: u32, option: OptionName) -> Result<(), EditError>
-    requires { is_joined who world.old.flat ≡ true }
+    requires { acts who world.old.flat ≡ true }
     ensures row { Answers result world.new.flat (unset_option_row option.scope option.name who world.old.flat) }
+    ensures wanting { IsErrOf result NoMemory → world.new.flat ≡ world.old.flat }
 {
     if !is_declared(world, option.name.as_str()) {
         return Err(EditError::Command(CommandError::NoSuchOption(option.name)));

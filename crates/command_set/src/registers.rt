@@ -1,9 +1,10 @@
 //! What commands do to registers, and what they say.
 #![tactic(auto, using(kak_world::proofs::WorldLaws::world_laws))]
 
-ghost use Rattle.std.specs.Prelude.{◌≡◌, true};
+ghost use Rattle.std.specs.Prelude.{◌≡◌, true, IsErrOf};
+ghost use Rattle.kak_world.specs.declared.ask.EditError.TheVariants.{NoMemory};
 ghost use Rattle.kak_world.specs.declared.own.StatusText.TheVariants.{Said};
-ghost use Rattle.kak_world.specs.Flat.{is_joined, with_own};
+ghost use Rattle.kak_world.specs.Flat.{acts, with_own};
 ghost use Rattle.kak_world.specs.Rows.{Answers};
 ghost use Rattle.command_set.specs.Registers.{register_row, echo_row, failing};
 
@@ -15,13 +16,14 @@ use kak_world::{CommandError, EditError, StatusText, World};
 use key_rows::joined_text;
 use std::alloc::Global;
 
-/// Sets a register. `NoSuchRegister`, `ReadOnlyRegister` and `RegisterFull` leave the world.
+/// Sets a register. `NoSuchRegister`, `ReadOnlyRegister`, `RegisterFull` and want of memory leave the world.
 pub(crate) fn set(
     alloc: Global,
     world: &mut World,
     register: RegisterValues,
 ) -> Result<(), EditError>
     ensures row { Answers result world.new.flat (register_row register.name register.values world.old.flat) }
+    ensures wanting { IsErrOf result NoMemory → world.new.flat ≡ world.old.flat }
 {
     let RegisterValues { name, values } = register;
     match register_named(name.as_str()) {
@@ -32,21 +34,22 @@ pub(crate) fn set(
 
 // Says a text to a client.
 fn say(world: &mut World, who: u32, text: Chars)
-    requires { is_joined who world.old.flat ≡ true }
+    requires { acts who world.old.flat ≡ true }
     ensures { world.new.flat ≡ with_own who (λ o. record o { status = Said text }) world.old.flat }
 {
     world.own_mut(who).status = StatusText::Said(text);
 }
 
-/// Says words to a client, with a space between each two.
+/// Says words to a client, with a space between each two. Want of memory leaves the world.
 pub(crate) fn echo(
     alloc: Global,
     world: &mut World,
     who: u32,
     words: &Words,
 ) -> Result<(), EditError>
-    requires { is_joined who world.old.flat ≡ true }
+    requires { acts who world.old.flat ≡ true }
     ensures row { Answers result world.new.flat (echo_row words.now who world.old.flat) }
+    ensures wanting { IsErrOf result NoMemory → world.new.flat ≡ world.old.flat }
 {
     let text = joined_text(alloc, words)?;
     say(world, who, text);

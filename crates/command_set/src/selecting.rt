@@ -1,8 +1,9 @@
 //! What a command selects.
 #![tactic(auto, using(kak_world::proofs::WorldLaws::world_laws))]
 
-ghost use Rattle.std.specs.Prelude.{◌≡◌, ◌<◌, true, length};
-ghost use Rattle.kak_world.specs.Flat.{is_joined};
+ghost use Rattle.std.specs.Prelude.{◌≡◌, ◌<◌, true, length, IsErrOf};
+ghost use Rattle.kak_world.specs.declared.ask.EditError.TheVariants.{NoMemory};
+ghost use Rattle.kak_world.specs.Flat.{acts};
 ghost use Rattle.kak_world.specs.Rows.{Answers};
 ghost use Rattle.command_set.specs.Selecting.{described_selected, select_row};
 
@@ -20,9 +21,10 @@ fn select_described(
     columns: Columns,
     described: &[Described],
 ) -> Result<(), EditError>
-    requires joined { is_joined who world.old.flat ≡ true }
+    requires acts { acts who world.old.flat ≡ true }
     requires some { 0 < length described.now }
     ensures row { Answers result world.new.flat (described_selected columns described.now who world.old.flat) }
+    ensures wanting { IsErrOf result NoMemory → world.new.flat ≡ world.old.flat }
 {
     match list_meant(alloc, world.lines(who), columns, described) {
         Ok(sels) => {
@@ -34,15 +36,16 @@ fn select_described(
     }
 }
 
-/// Selects what is described. `TooManySelections` leaves the world.
+/// Selects what is described. `TooManySelections` and want of memory leave the world.
 pub(crate) fn select(
     alloc: Global,
     world: &mut World,
     who: u32,
     selection: &Selection,
 ) -> Result<(), EditError>
-    requires { is_joined who world.old.flat ≡ true }
+    requires { acts who world.old.flat ≡ true }
     ensures row { Answers result world.new.flat (select_row selection.now who world.old.flat) }
+    ensures wanting { IsErrOf result NoMemory → world.new.flat ≡ world.old.flat }
 {
     let described = selection.ranges.as_slice();
     if described.is_empty() {

@@ -1,5 +1,5 @@
--- The main cursor, and the list that it is of.
-use Rattle.std.proofs.Common.{◌≡◌, ℕ, ◌<◌, List, length, get_or, sym, ap, subst, ◌∙◌}
+-- The main cursor, the list that it is of, and the tab stops where a window moves.
+use Rattle.std.proofs.Common.{◌≡◌, ℕ, ◌<◌, List, length, get_or, refl, sym, ap, subst, ◌∙◌}
 use Rattle.text_model.specs.declared.coords.Coord.{Coord}
 use Rattle.text_model.specs.Texts.{IsPlace, coord_at}
 use Rattle.list_model.specs.Ranges.{Range, Selected, cursor, only}
@@ -8,6 +8,8 @@ use Rattle.selection_set.specs.Inside.{cursor_at}
 use Rattle.selection_set.specs.Listing.{Listed}
 use Rattle.selection_set.proofs.CursorLemmas.{coord_at-cursor, cursor-place}
 use Rattle.selection_set.specs.Held.{selected, IsHeld}
+use Rattle.window_view.specs.declared.corner.Corner.{Corner}
+use Rattle.kak_world.specs.Flat.{Flat, tabstop_of, shown_of, client_of, with_corner, with_list_of, rest_of}
 use Rattle.draw_model.specs.Drawings.{main_cursor}
 use Rattle.selection_set.proofs.HeldLemmas.{nth-inside, nth-range}
 
@@ -23,3 +25,8 @@ main-cursor text s sels at place e h l g p =
 -- and a place
 pub main-place : (text : List ℕ) (s : Listed) (at : Sel) (place : Coord) → IsHeld text s → s.main < length s.list → ((d : Sel) → at ≡ get_or s.list s.main d) → place ≡ cursor_at at → IsPlace text place
 main-place text s at place h l g p = subst (IsPlace text) (sym p) (cursor-place text at (nth-inside text s.list s.main at h.inside l g))
+
+-- a window that moves leaves the tab stops
+pub tabstop_corner : (k who : ℕ) (corner : Corner) (flat : Flat) → tabstop_of k (with_corner who corner flat) ≡ tabstop_of k flat
+unfolding tabstop_of shown_of client_of rest_of with_corner with_list_of
+tabstop_corner k who corner flat = refl

@@ -3,7 +3,7 @@ use Rattle.std.proofs.Common.{◌≡◌, ℕ, ◌+◌, ◌<◌, ◌≤◌, List,
 use Rattle.unicode_width.specs.Width.{char_width}
 use Rattle.kak_text.specs.Cells.{cells_of, column_behind}
 use Rattle.std.proofs.lemmas.List.{take_more, take-append-drop}
-use Rattle.kak_world.specs.declared.purpose.Toward.TheVariants.{Next, Former}
+use Rattle.directions.specs.declared.direction.Direction.TheVariants.{Forward, Backward}
 use Rattle.kak_world.specs.declared.purpose.Use.TheVariants as matches
 use Rattle.kak_world.specs.declared.purpose.Purpose.{Purpose}
 use Rattle.kak_world.specs.declared.purpose.Purpose.TheVariants.{Commands, Pattern}
@@ -18,14 +18,14 @@ name-cells tabstop (Pattern matches.Select) = refl
 name-cells tabstop (Pattern matches.Split) = refl
 name-cells tabstop (Pattern matches.Keep) = refl
 name-cells tabstop (Pattern matches.Drop) = refl
-name-cells tabstop (Pattern (matches.Search Next)) = refl
-name-cells tabstop (Pattern (matches.Search Former)) = refl
-name-cells tabstop (Pattern (matches.Reach Next)) = refl
-name-cells tabstop (Pattern (matches.Reach Former)) = refl
-name-cells tabstop (Pattern (matches.Step Next further)) = refl
-name-cells tabstop (Pattern (matches.Step Former further)) = refl
-name-cells tabstop (Pattern (matches.Add Next further)) = refl
-name-cells tabstop (Pattern (matches.Add Former further)) = refl
+name-cells tabstop (Pattern (matches.Search Forward)) = refl
+name-cells tabstop (Pattern (matches.Search Backward)) = refl
+name-cells tabstop (Pattern (matches.Reach Forward)) = refl
+name-cells tabstop (Pattern (matches.Reach Backward)) = refl
+name-cells tabstop (Pattern (matches.Step Forward further)) = refl
+name-cells tabstop (Pattern (matches.Step Backward further)) = refl
+name-cells tabstop (Pattern (matches.Add Forward further)) = refl
+name-cells tabstop (Pattern (matches.Add Backward further)) = refl
 
 -- a name has few
 pub name-short : (purpose : Purpose) → length (prompt_name purpose) < 16
@@ -34,14 +34,14 @@ name-short (Pattern matches.Select) = omega arith
 name-short (Pattern matches.Split) = omega arith
 name-short (Pattern matches.Keep) = omega arith
 name-short (Pattern matches.Drop) = omega arith
-name-short (Pattern (matches.Search Next)) = omega arith
-name-short (Pattern (matches.Search Former)) = omega arith
-name-short (Pattern (matches.Reach Next)) = omega arith
-name-short (Pattern (matches.Reach Former)) = omega arith
-name-short (Pattern (matches.Step Next further)) = omega arith
-name-short (Pattern (matches.Step Former further)) = omega arith
-name-short (Pattern (matches.Add Next further)) = omega arith
-name-short (Pattern (matches.Add Former further)) = omega arith
+name-short (Pattern (matches.Search Forward)) = omega arith
+name-short (Pattern (matches.Search Backward)) = omega arith
+name-short (Pattern (matches.Reach Forward)) = omega arith
+name-short (Pattern (matches.Reach Backward)) = omega arith
+name-short (Pattern (matches.Step Forward further)) = omega arith
+name-short (Pattern (matches.Step Backward further)) = omega arith
+name-short (Pattern (matches.Add Forward further)) = omega arith
+name-short (Pattern (matches.Add Backward further)) = omega arith
 
 -- characters one behind another
 behind-append : (tabstop column : ℕ) (xs ys : List ℕ) → column_behind tabstop column (xs ++ ys) ≡ column_behind tabstop (column_behind tabstop column xs) ys

@@ -6,7 +6,7 @@ use Rattle.kak_faces.specs.Standard.{standard_face}
 use Rattle.drawings.specs.declared.drawing.Atom.{Atom}
 use Rattle.line_painting.specs.Atoms.{ShownChar, shown_in, with_shown, with_all_shown, atoms_of}
 use Rattle.std.specs.Str.{chars}
-use Rattle.kak_world.specs.declared.purpose.Toward.TheVariants.{Next, Former}
+use Rattle.directions.specs.declared.direction.Direction.TheVariants.{Forward, Backward}
 use Rattle.kak_world.specs.declared.purpose.Use.TheVariants as matches
 use Rattle.kak_world.specs.declared.purpose.Purpose.{Purpose}
 use Rattle.kak_world.specs.declared.purpose.Purpose.TheVariants.{Commands, Pattern}
@@ -21,14 +21,14 @@ name-chars (Pattern matches.Select) = refl
 name-chars (Pattern matches.Split) = refl
 name-chars (Pattern matches.Keep) = refl
 name-chars (Pattern matches.Drop) = refl
-name-chars (Pattern (matches.Search Next)) = refl
-name-chars (Pattern (matches.Search Former)) = refl
-name-chars (Pattern (matches.Reach Next)) = refl
-name-chars (Pattern (matches.Reach Former)) = refl
-name-chars (Pattern (matches.Step Next further)) = refl
-name-chars (Pattern (matches.Step Former further)) = refl
-name-chars (Pattern (matches.Add Next further)) = refl
-name-chars (Pattern (matches.Add Former further)) = refl
+name-chars (Pattern (matches.Search Forward)) = refl
+name-chars (Pattern (matches.Search Backward)) = refl
+name-chars (Pattern (matches.Reach Forward)) = refl
+name-chars (Pattern (matches.Reach Backward)) = refl
+name-chars (Pattern (matches.Step Forward further)) = refl
+name-chars (Pattern (matches.Step Backward further)) = refl
+name-chars (Pattern (matches.Add Forward further)) = refl
+name-chars (Pattern (matches.Add Backward further)) = refl
 
 -- a prompt's four parts
 abbrev parts : Face → Face → Face → List ℕ → List ℕ → ℕ → List ℕ → List ShownChar

@@ -7,6 +7,7 @@ use Rattle.selection_set.specs.Held.{main_of}
 use Rattle.edit_line.specs.Halves.{Halves}
 use Rattle.kak_text.specs.Cells.{cells_of, column_behind, display_column}
 use Rattle.window_view.specs.View.{View, followed}
+use Rattle.window_view.specs.Sizes.{corner_of}
 use Rattle.kak_faces.specs.declared.standard.StandardFace.TheVariants as name
 use Rattle.kak_faces.specs.Standard.{standard_face}
 use Rattle.drawings.specs.declared.drawing.DrawnLine.{DrawnLine}
@@ -17,13 +18,13 @@ use Rattle.kak_world.specs.declared.own.Mode.{Mode}
 use Rattle.kak_world.specs.declared.own.Mode.TheVariants.{Normal, Insert, Prompt}
 use Rattle.kak_world.specs.declared.own.StatusText.{StatusText}
 use Rattle.kak_world.specs.declared.own.StatusText.TheVariants.{Quiet, Said, Refused}
-use Rattle.kak_world.specs.declared.purpose.Toward.{Toward}
-use Rattle.kak_world.specs.declared.purpose.Toward.TheVariants.{Next, Former}
+use Rattle.directions.specs.declared.direction.Direction.{Direction}
+use Rattle.directions.specs.declared.direction.Direction.TheVariants.{Forward, Backward}
 use Rattle.kak_world.specs.declared.purpose.Use.{Use}
 use Rattle.kak_world.specs.declared.purpose.Use.TheVariants as matches
 use Rattle.kak_world.specs.declared.purpose.Purpose.{Purpose}
 use Rattle.kak_world.specs.declared.purpose.Purpose.TheVariants.{Commands, Pattern}
-use Rattle.kak_world.specs.Flat.{Flat, text_of, number_of, name_of, mode_of, sels_of, view_of, tabstop_of, status_of, purpose_of, prompt_of, is_drawn, with_view}
+use Rattle.kak_world.specs.Flat.{Flat, text_of, number_of, name_of, mode_of, sels_of, view_of, tabstop_of, status_of, purpose_of, prompt_of, is_drawn, with_corner}
 use Rattle.line_painting.specs.Atoms.{ShownChar, shown_in, atoms_of}
 use Rattle.line_painting.specs.Lines.{drawn_lines}
 
@@ -39,9 +40,9 @@ under_cursor [] = 32
 under_cursor (c ∷ cs) = c
 
 -- what stands before the line of a prompt for a pattern, by where its matches are looked for
-abbrev pub search_name : Toward → List ℕ
-search_name Next = codes "search:"
-search_name Former = codes "reverse search:"
+abbrev pub search_name : Direction → List ℕ
+search_name Forward = codes "search:"
+search_name Backward = codes "reverse search:"
 
 -- the same, by what is done with them
 abbrev pub use_name : Use → List ℕ
@@ -49,10 +50,10 @@ use_name matches.Select = codes "select:"
 use_name matches.Split = codes "split:"
 use_name matches.Keep = codes "keep:"
 use_name matches.Drop = codes "drop:"
-use_name (matches.Search toward) = search_name toward
-use_name (matches.Reach toward) = search_name toward
-use_name (matches.Step toward further) = search_name toward
-use_name (matches.Add toward further) = search_name toward
+use_name (matches.Search direction) = search_name direction
+use_name (matches.Reach direction) = search_name direction
+use_name (matches.Step direction further) = search_name direction
+use_name (matches.Add direction further) = search_name direction
 
 -- what stands before the line of a prompt
 abbrev pub prompt_name : Purpose → List ℕ
@@ -119,12 +120,12 @@ abbrev pub cursor_drawn : ℕ → Mode → ℕ → ℕ → View → Purpose → 
 cursor_drawn tabstop Prompt line column view purpose prompt = record { prompt = true; line = 0; column = prompt_column tabstop purpose prompt.before }
 cursor_drawn tabstop _ line column view purpose prompt = record { prompt = false; line = line - view.top; column = column - view.left }
 
--- the world after a client's window has followed its main cursor
+-- the world after a client's window has followed its main cursor: it stands elsewhere then, and is as large as before
 abbrev pub after_following : ℕ → Flat → Flat
 after_following who flat =
-    with_view who
-    (followed (view_of who flat) (main_cursor (text_of who flat) (sels_of who flat)).line
-    (main_column (tabstop_of who flat) (text_of who flat) (sels_of who flat)) (main_cells (tabstop_of who flat) (text_of who flat) (sels_of who flat)) 0)
+    with_corner who
+    (corner_of (followed (view_of who flat) (main_cursor (text_of who flat) (sels_of who flat)).line
+    (main_column (tabstop_of who flat) (text_of who flat) (sels_of who flat)) (main_cells (tabstop_of who flat) (text_of who flat) (sels_of who flat)) 0))
     flat
 
 -- what a client is shown, whose window has followed its main cursor

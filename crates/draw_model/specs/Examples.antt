@@ -2,16 +2,16 @@
 use Rattle.std.specs.Prelude.{◌≡◌, ℕ, true, false, Some, List, [], ◌∷◌, map, codes}
 use Rattle.list_model.specs.Ranges.{only}
 use Rattle.edit_line.specs.Halves.{Halves, empty}
+use Rattle.window_view.specs.Sizes.{sized}
 use Rattle.kak_faces.specs.declared.colour.NamedColour.TheVariants as named
 use Rattle.kak_faces.specs.Standard.{plain_face, default_face}
 use Rattle.drawings.specs.declared.drawing.Info.TheVariants.{Keep}
 use Rattle.kak_world.specs.declared.own.Mode.TheVariants.{Normal, Insert, Prompt}
 use Rattle.kak_world.specs.declared.own.StatusText.TheVariants.{Quiet, Said, Refused}
-use Rattle.kak_world.specs.declared.purpose.Toward.TheVariants.{Next, Former}
+use Rattle.directions.specs.declared.direction.Direction.TheVariants.{Forward, Backward}
 use Rattle.kak_world.specs.declared.purpose.Use.TheVariants.{Select, Split, Keep as KeepThose, Drop, Search, Reach}
 use Rattle.kak_world.specs.declared.purpose.Purpose.TheVariants.{Commands, Pattern}
-use Rattle.scope_options.specs.Settings.{given}
-use Rattle.kak_world.specs.Flat.{Flat, made_buffer, opening, joined_by, with_sels, with_own, view_of}
+use Rattle.kak_world.specs.Flat.{Flat, made_buffer, first_rest, opening, joined_by, with_sels, with_own, view_of}
 use Rattle.line_painting.specs.Atoms.{atoms_of}
 use Rattle.line_painting.specs.Painting.{alone}
 use Rattle.line_painting.specs.Examples.{atom, atoms_line, whole, narrow, three}
@@ -23,7 +23,7 @@ opened_flat = joined_by 0 opening
 
 -- a world with a line of ASCII characters
 abbrev pub holding : List ℕ → Flat
-holding text = joined_by 0 (record { buffers = Some (made_buffer (codes "*scratch*") false text) ∷ []; clients = []; rest = record { units = 0; registers = []; options = given } })
+holding text = joined_by 0 (record { buffers = Some (made_buffer (codes "*scratch*") false text) ∷ []; clients = []; rest = first_rest })
 
 -- a prompt with this before its cursor, and this from it on
 abbrev pub halves : List ℕ → List ℕ → Halves
@@ -44,6 +44,9 @@ pub record PlaceExamples : Type 0 where
   pub whole_tab_is_followed : view_of 0 (after_following 0 (with_sels 0 (alone true (only 9)) (holding (codes "\t\t\t\t\t\t\t\t\t\t\t\n")))) ≡ whole
   pub next_tab_is_followed : view_of 0 (after_following 0 (with_sels 0 (alone true (only 10)) (holding (codes "\t\t\t\t\t\t\t\t\t\t\t\n"))))
       ≡ record { top = 0; left = 8; rows = 24; columns = 80 }
+  -- of three lines the last one comes into a window of two rows
+  pub two_rows_are_followed : view_of 0 (after_following 0 (with_own 0 (λ o. record o { size = sized 2 3 }) (with_sels 0 (alone true (only 4)) (holding (codes "a\nb\nc\n")))))
+      ≡ record { top = 1; left = 0; rows = 2; columns = 3 }
 
 pub record Examples : Type 0 where
   pub places : PlaceExamples
@@ -67,9 +70,9 @@ pub record Examples : Type 0 where
   pub empty_prompt : atoms_of (status_line Prompt Quiet Commands empty) ≡ atom (codes ":") named.Yellow named.Default ∷ atom (codes " ") named.Black named.Cyan ∷ []
   pub prompt_for_a_pattern : atoms_of (status_line Prompt Quiet (Pattern Split) (halves (codes "a") []))
       ≡ atom (codes "split:") named.Yellow named.Default ∷ atom (codes "a") named.Cyan named.Default ∷ atom (codes " ") named.Black named.Cyan ∷ []
-  pub names : map prompt_name (map Pattern (Select ∷ Split ∷ KeepThose ∷ Drop ∷ Search Next ∷ Reach Next ∷ Search Former ∷ Reach Former ∷ []))
+  pub names : map prompt_name (map Pattern (Select ∷ Split ∷ KeepThose ∷ Drop ∷ Search Forward ∷ Reach Forward ∷ Search Backward ∷ Reach Backward ∷ []))
       ≡ codes "select:" ∷ codes "split:" ∷ codes "keep:" ∷ codes "drop:" ∷ codes "search:" ∷ codes "search:" ∷ codes "reverse search:" ∷ codes "reverse search:" ∷ []
-  pub cursor_of_a_pattern : cursor_drawn 8 Prompt 0 1 whole (Pattern (Search Former)) (halves (codes "ab") []) ≡ record { prompt = true; line = 0; column = 17 }
+  pub cursor_of_a_pattern : cursor_drawn 8 Prompt 0 1 whole (Pattern (Search Backward)) (halves (codes "ab") []) ≡ record { prompt = true; line = 0; column = 17 }
   pub cursor_inside_a_prompt : atoms_of (status_line Prompt Quiet Commands (halves (codes "w") (codes " x")))
       ≡ atom (codes ":") named.Yellow named.Default ∷ atom (codes "w") named.Cyan named.Default ∷ atom (codes " ") named.Black named.Cyan ∷ atom (codes "x") named.Cyan named.Default ∷ []
   pub cursor_at_its_start : atoms_of (status_line Prompt Quiet Commands (halves [] (codes "w x")))

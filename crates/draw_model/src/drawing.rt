@@ -3,18 +3,18 @@
 ghost use Rattle.std.specs.Prelude.{◌≡◌, ◌+◌, ◌<◌, ◌≤◌, ◌^◌, true, IfOk, OnErr};
 ghost use Rattle.text_model.specs.Texts.{IsPlace};
 ghost use Rattle.window_view.specs.Views.{window_seen};
-ghost use Rattle.kak_world.specs.Flat.{is_joined, text_of, sels_of, tabstop_of};
+ghost use Rattle.kak_world.specs.Flat.{acts, text_of, sels_of, tabstop_of};
 ghost use Rattle.draw_model.specs.Drawings.{main_cursor, main_column, main_cells, prompt_column, cursor_drawn, drawing_of, after_following};
 
 use crate::status::{draw_mode, draw_status, prompt_name};
 use drawings::{Cursor, Drawing, Info};
 use edit_line::EditLine;
 use kak_faces::StandardFace;
-use kak_text::{Coord, MAX_TABSTOP, cells};
+use kak_text::{Coord, cells};
 use kak_world::{Mode, Purpose, World};
 use line_painting::draw_lines;
 use std::alloc::{AllocError, Global};
-use window_view::{Window, cell_of};
+use window_view::{Tabstop, Window, cell_of};
 
 // So many cells before the cursor of a prompt are too many.
 const MAX_PROMPT_CELLS: u32 = 2_147_483_648;
@@ -29,7 +29,7 @@ struct MainCursor {
 
 // The coordinate of the main cursor.
 fn cursor_at(world: &World, who: u32) -> Coord
-    requires { is_joined who world.now.flat ≡ true }
+    requires { acts who world.now.flat ≡ true }
     ensures value { result ≡ main_cursor (text_of who world.now.flat) (sels_of who world.now.flat) }
     ensures place { IsPlace (text_of who world.now.flat) result }
 {
@@ -38,38 +38,36 @@ fn cursor_at(world: &World, who: u32) -> Coord
 }
 
 // Finds the main cursor.
-fn find_cursor(world: &World, who: u32) -> MainCursor
-    requires { is_joined who world.now.flat ≡ true }
+#[tactic(auto, using(kak_world::proofs::WorldLaws::acts_joined))]
+fn find_cursor(world: &World, who: u32, tabstop: Tabstop) -> MainCursor
+    requires { acts who world.now.flat ≡ true }
     ensures at { result.at ≡ main_cursor (text_of who world.now.flat) (sels_of who world.now.flat) }
-    ensures column { result.column ≡ main_column (tabstop_of who world.now.flat) (text_of who world.now.flat) (sels_of who world.now.flat) }
-    ensures cells { result.cells ≡ main_cells (tabstop_of who world.now.flat) (text_of who world.now.flat) (sels_of who world.now.flat) }
+    ensures column { result.column ≡ main_column tabstop.columns (text_of who world.now.flat) (sels_of who world.now.flat) }
+    ensures cells { result.cells ≡ main_cells tabstop.columns (text_of who world.now.flat) (sels_of who world.now.flat) }
     ensures small { result.column + result.cells < 2 ^ 32 }
 {
     let at = cursor_at(world, who);
     let line = world.lines(who).line(at.line as usize);
-    let tabstop = world.tabstop(who);
     let column = cell_of(line, at.column as usize, tabstop);
     MainCursor {
         at,
         column,
-        cells: cells(line.at(at.column as usize), column, tabstop),
+        cells: cells(line.at(at.column as usize), column, tabstop.columns),
     }
 }
 
 // How many cells stand before the cursor of a prompt, of the characters before it. 2^31 and more count as want of memory,
 // and nothing else does.
-fn prompt_cursor(purpose: Purpose, before: &[char], tabstop: u32) -> Result<u32, AllocError>
-    requires some { 1 ≤ tabstop }
-    requires few { tabstop ≤ MAX_TABSTOP }
-    ensures value { IfOk result (λ column. column ≡ prompt_column tabstop purpose before.now) }
-    ensures wide { OnErr result (2 ^ 31 ≤ prompt_column tabstop purpose before.now) }
+fn prompt_cursor(purpose: Purpose, before: &[char], tabstop: Tabstop) -> Result<u32, AllocError>
+    ensures value { IfOk result (λ column. column ≡ prompt_column tabstop.columns purpose before.now) }
+    ensures wide { OnErr result (2 ^ 31 ≤ prompt_column tabstop.columns purpose before.now) }
 {
     let mut column = prompt_name(purpose).len() as u32;
     for c in before {
         if column >= MAX_PROMPT_CELLS {
             return Err(AllocError);
         }
-        column += cells(*c, column, tabstop);
+        column += cells(*c, column, tabstop.columns);
     }
     Ok(column)
 }
@@ -81,12 +79,10 @@ fn cursor_of(
     window: Window,
     purpose: Purpose,
     prompt: &EditLine,
-    tabstop: u32,
+    tabstop: Tabstop,
 ) -> Result<Cursor, AllocError>
-    requires some { 1 ≤ tabstop }
-    requires few { tabstop ≤ MAX_TABSTOP }
-    ensures value { IfOk result (λ cursor. cursor ≡ cursor_drawn tabstop mode main.at.line main.column (window_seen window) purpose prompt.now) }
-    ensures wide { OnErr result ((mode ≡ Mode.Prompt) × (2 ^ 31 ≤ prompt_column tabstop purpose prompt.now.before)) }
+    ensures value { IfOk result (λ cursor. cursor ≡ cursor_drawn tabstop.columns mode main.at.line main.column (window_seen window) purpose prompt.now) }
+    ensures wide { OnErr result ((mode ≡ Mode.Prompt) × (2 ^ 31 ≤ prompt_column tabstop.columns purpose prompt.now.before)) }
 {
     match mode {
         Mode::Prompt => Ok(Cursor {
@@ -102,17 +98,23 @@ fn cursor_of(
     }
 }
 
-/// Draws what a client is shown, whose window has followed its main cursor. It costs the lines of the window up to its
-/// right side with the selections up to its end, and not the text, and a prompt whole. An `Err` says that memory ran out; a
-/// prompt with 2^31 cells or more before its cursor counts as that too.
-pub fn draw(alloc: Global, world: &World, who: u32) -> Result<Drawing, AllocError>
-    requires { is_joined who world.now.flat ≡ true }
+// Draws what a client is shown, whose window has followed its main cursor.
+#[tactic(auto, using(kak_world::proofs::WorldLaws::acts_joined))]
+fn draw(
+    alloc: Global,
+    world: &World,
+    who: u32,
+    tabstop: Tabstop,
+    main: MainCursor,
+) -> Result<Drawing, AllocError>
+    requires acts { acts who world.now.flat ≡ true }
+    requires tabstop { tabstop.columns ≡ tabstop_of who world.now.flat }
+    requires at { main.at ≡ main_cursor (text_of who world.now.flat) (sels_of who world.now.flat) }
+    requires column { main.column ≡ main_column tabstop.columns (text_of who world.now.flat) (sels_of who world.now.flat) }
     ensures { IfOk result (λ drawing. drawing ≡ drawing_of who world.now.flat) }
 {
     let sels = world.sels(who);
-    let main = find_cursor(world, who);
     let window = world.window(who);
-    let tabstop = world.tabstop(who);
     let own = world.own(who);
     Ok(Drawing {
         first: !own.drawn,
@@ -134,11 +136,18 @@ pub fn draw(alloc: Global, world: &World, who: u32) -> Result<Drawing, AllocErro
     })
 }
 
-/// Lets a client's window follow its main cursor, by the least amount.
-pub fn follow_cursor(world: &mut World, who: u32)
-    requires { is_joined who world.old.flat ≡ true }
-    ensures { world.new.flat ≡ after_following who world.old.flat }
+/// Lets a client's window follow its main cursor, by the least amount, and draws what the client then is shown. It costs the
+/// lines of the window up to its right side with the selections up to its end, and not the text, and a prompt whole. An
+/// `Err` says that memory ran out, behind the window's move; a prompt with 2^31 cells or more before its cursor counts as
+/// that too.
+#[tactic(auto, using(kak_world::proofs::WorldLaws::world_laws, crate::proofs::CursorLemmas::tabstop_corner))]
+pub fn redraw(alloc: Global, world: &mut World, who: u32) -> Result<Drawing, AllocError>
+    requires { acts who world.old.flat ≡ true }
+    ensures draws { IfOk result (λ drawing. drawing ≡ drawing_of who (after_following who world.old.flat)) }
+    ensures follows { world.new.flat ≡ after_following who world.old.flat }
 {
-    let main = find_cursor(world, who);
+    let tabstop = world.tabstop(who);
+    let main = find_cursor(world, who, tabstop);
     world.follow(who, main.at.line, main.column, main.cells, 0);
+    draw(alloc, world, who, tabstop, main)
 }

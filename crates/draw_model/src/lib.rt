@@ -6,5 +6,5 @@ mod drawing;
 mod laws;
 mod status;
 
-pub use drawing::{draw, follow_cursor};
+pub use drawing::redraw;
 pub use laws::worked_examples;

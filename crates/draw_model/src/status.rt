@@ -5,11 +5,12 @@ ghost use Rattle.list_model.specs.Ranges.{Selected};
 ghost use Rattle.line_painting.specs.Atoms.{shown_in, atoms_of};
 ghost use Rattle.draw_model.specs.Drawings.{status_shown, under_cursor, search_name, use_name, prompt_name, prompt_shown, status_line, mode_name, mode_line_text, IsModeLine};
 
+use directions::Direction;
 use drawings::{Atoms, DrawnLine};
 use edit_line::EditLine;
 use kak_faces::{Face, StandardFace};
 use kak_text::{Chars, Coord};
-use kak_world::{Mode, Purpose, StatusText, Toward, Use};
+use kak_world::{Mode, Purpose, StatusText, Use};
 use line_painting::{push_run, push_shown};
 use selection_set::Sels;
 use std::alloc::{AllocError, Global};
@@ -43,12 +44,12 @@ fn past_cursor(behind: &[char]) -> &[char]
 }
 
 // What stands before the line of a prompt for a pattern, by where its matches are looked for.
-fn search_name(toward: Toward) -> &'static str
-    ensures { result.now ≡ search_name toward }
+fn search_name(direction: Direction) -> &'static str
+    ensures { result.now ≡ search_name direction }
 {
-    match toward {
-        Toward::Next => "search:",
-        Toward::Former => "reverse search:",
+    match direction {
+        Direction::Forward => "search:",
+        Direction::Backward => "reverse search:",
     }
 }
 
@@ -61,8 +62,8 @@ fn use_name(wanted: Use) -> &'static str
         Use::Split => "split:",
         Use::Keep => "keep:",
         Use::Drop => "drop:",
-        Use::Search(toward) | Use::Reach(toward) => search_name(toward),
-        Use::Step(toward, _) | Use::Add(toward, _) => search_name(toward),
+        Use::Search(direction) | Use::Reach(direction) => search_name(direction),
+        Use::Step(direction, _) | Use::Add(direction, _) => search_name(direction),
     }
 }
 

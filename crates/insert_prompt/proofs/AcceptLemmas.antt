@@ -7,15 +7,16 @@ use Rattle.kak_registers.specs.declared.names.RegisterError.{RegisterError}
 use Rattle.kak_registers.specs.Refusals.{register_refusal}
 use Rattle.kak_world.specs.declared.ask.EditError.{EditError}
 use Rattle.kak_world.specs.declared.ask.EditError.TheVariants.{NoMemory, BudgetSpent}
-use Rattle.kak_world.specs.Flat.{Flat, is_joined, prompt_of, registers_of, with_registers, with_own}
+use Rattle.kak_world.specs.declared.world.Rest.{Rest}
+use Rattle.kak_world.specs.Flat.{Flat, acts, prompt_of, with_own, rest_of, with_rest}
 use Rattle.kak_world.specs.Registers.{set_unless, set_row}
 use Rattle.kak_world.specs.Rows.{RowEnd, Asks, GivesUp, Fails, does, error_text, row_of}
 use Rattle.std.specs.Str.{chars}
 use Rattle.kak_registers.specs.Contents.{strings_of}
 use Rattle.kak_world.specs.declared.ask.Ask.{Ask}
 use Rattle.kak_world.specs.declared.purpose.Use.{Use}
-use Rattle.kak_world.proofs.WorldLaws.{registers_own}
-use Rattle.kak_world.proofs.KeepingLaws.{keeps_set_row}
+use Rattle.kak_world.proofs.WorldLaws.{rest_own}
+use Rattle.kak_world.proofs.KeepingLaws.{acts_kept, keeps_set_row}
 use Rattle.key_rows.specs.Patterns.{last_string, asks_for, asks_for_last}
 use Rattle.key_rows.specs.Sequence.{then_row}
 use Rattle.insert_prompt.specs.Rows.{leave_prompt, typed_kept, pattern_typed}
@@ -26,7 +27,7 @@ left_behind who end = record { world = leave_prompt who end.world; row = end.row
 
 -- a register is set in a prompt that was left as it is before that
 set-left : (name : ℕ) (strings : List (List ℕ)) (who : ℕ) (flat : Flat) → set_row name strings (leave_prompt who flat) ≡ left_behind who (set_row name strings flat)
-unfolding set_row registers_of with_registers with_own
+unfolding set_row rest_of with_rest with_own
 set-left name strings who flat = by (register_refusal name strings)
   where
     by : (o : Option RegisterError) → set_unless o name strings (leave_prompt who flat) ≡ left_behind who (set_unless o name strings flat)
@@ -62,12 +63,12 @@ pub nothing-typed : (typed : List ℕ) (wanted : Use) (who : ℕ) (flat new : Fl
     → pattern_typed typed wanted who flat ≡ record { world = new; row = Asks ask }
 nothing-typed (c ∷ cs) wanted who flat new ask e a n = absurd (omega (arith, e))
 nothing-typed [] wanted who flat new ask e a n =
-    ap (λ rows. asks_for (chars (last_string (strings_of 47 rows))) wanted (leave_prompt who flat)) (registers_own who _ flat)
+    ap (λ (r : Rest). asks_for (chars (last_string (strings_of 47 r.registers))) wanted (leave_prompt who flat)) (rest_own who _ flat)
     ∙ ap (λ r. let x : RowEnd = record { world = leave_prompt who flat; row = r } in x) (ap (λ (x : RowEnd). x.row) a)
     ∙ ap (λ (w : Flat). let x : RowEnd = record { world = w; row = Asks ask } in x) (sym n)
 
--- a client stays where a register was refused
-pub refused-joined : (error : EditError) (name : ℕ) (strings : List (List ℕ)) (who : ℕ) (flat mid : Flat) → IfSome (row_of error) (λ row. set_row name strings flat ≡ record { world = mid; row = row }) → (error ≡ NoMemory → mid ≡ flat)
-    → is_joined who mid ≡ is_joined who flat
-refused-joined NoMemory name strings who flat mid e w = ap (is_joined who) (w refl)
-refused-joined error name strings who flat mid e w = ap (λ (x : RowEnd). is_joined who x.world) (sym e) ∙ (keeps_set_row name strings flat).joined who
+-- a client acts on where a register was refused
+pub refused-acts : (error : EditError) (name : ℕ) (strings : List (List ℕ)) (who : ℕ) (flat mid : Flat) → IfSome (row_of error) (λ row. set_row name strings flat ≡ record { world = mid; row = row }) → (error ≡ NoMemory → mid ≡ flat)
+    → acts who mid ≡ acts who flat
+refused-acts NoMemory name strings who flat mid e w = ap (acts who) (w refl)
+refused-acts error name strings who flat mid e w = ap (λ (x : RowEnd). acts who x.world) (sym e) ∙ acts_kept who flat (set_row name strings flat).world (keeps_set_row name strings flat)

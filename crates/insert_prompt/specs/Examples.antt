@@ -4,11 +4,11 @@ use Rattle.key_names.specs.declared.key.Key.{Key}
 use Rattle.key_names.specs.declared.key.Base.TheVariants.{Char, Ret, Tab, Esc}
 use Rattle.list_model.specs.Ranges.{Range, Selected, only}
 use Rattle.undo_model.specs.Stories.{opened}
-use Rattle.kak_world.specs.declared.holder.Holder.TheVariants.{Of}
+use Rattle.list_shelf.specs.declared.holder.Holder.TheVariants.{Of}
 use Rattle.kak_world.specs.declared.own.Mode.TheVariants.{Normal, Insert}
 use Rattle.kak_world.specs.declared.own.Own.{Own}
-use Rattle.scope_options.specs.Settings.{given}
-use Rattle.kak_world.specs.Flat.{Held, Flat, first_own, fresh_list, newcomer, only_at, mode_of, text_of, sels_of, story_of}
+use Rattle.list_shelf.specs.Shelves.{Held}
+use Rattle.kak_world.specs.Flat.{Flat, first_rest, first_own, fresh_list, newcomer, only_at, mode_of, text_of, sels_of, story_of}
 use Rattle.insert_prompt.specs.Rows.{insert_base, insert_control}
 
 -- a list of a client
@@ -20,7 +20,7 @@ abbrev pub two_clients : List ℕ → Own → Selected → Selected → Flat
 two_clients text own first second = record {
   buffers = Some (record { name = codes "*scratch*"; is_file = false; story = opened text; lists = list_for 0 first ∷ list_for 1 second ∷ [] }) ∷ [];
   clients = record (newcomer 0 0 0) { own = own } ∷ newcomer 1 1 0 ∷ [];
-  rest = record { units = 0; registers = []; options = given };
+  rest = first_rest;
 }
 
 -- client 0 in insert mode on a text, with these selections, and client 1 on the character at an offset

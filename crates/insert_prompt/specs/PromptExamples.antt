@@ -8,7 +8,7 @@ use Rattle.kak_registers.specs.Contents.{strings_of}
 use Rattle.kak_world.specs.declared.ask.Ask.TheVariants.{Commands, Make, Nothing}
 use Rattle.kak_world.specs.declared.ask.EditError.TheVariants.{NoSuchRegister}
 use Rattle.kak_world.specs.declared.own.Mode.TheVariants.{Normal, Prompt}
-use Rattle.kak_world.specs.declared.purpose.Toward.TheVariants.{Next}
+use Rattle.directions.specs.declared.direction.Direction.TheVariants.{Forward}
 use Rattle.kak_world.specs.declared.purpose.Use.{Use}
 use Rattle.kak_world.specs.declared.purpose.Use.TheVariants.{Select, Split, Keep, Search}
 use Rattle.kak_world.specs.declared.purpose.Purpose.TheVariants.{Pattern}
@@ -98,8 +98,8 @@ pub record PatternExamples : Type 0 where
   pub and_held : strings_of 47 (registers_of (prompt_base Ret 0 (seeking Select (codes "x") (codes "y"))).world) ≡ codes "xy" ∷ []
   pub no_command_is : strings_of 58 (registers_of (prompt_base Ret 0 (seeking Select (codes "x") (codes "y"))).world) ≡ []
   pub prompt_is_left_first : mode_of 0 (prompt_base Ret 0 (seeking Split (codes "x") [])).world ≡ Normal
-  pub empty_one_asks_for_the_last : (prompt_base Ret 0 (looking (codes "a" ∷ codes "b" ∷ []) (seeking (Search Next) [] []))).row ≡ asking (codes "b") (Search Next)
-  pub which_stays : strings_of 47 (registers_of (prompt_base Ret 0 (looking (codes "a" ∷ codes "b" ∷ []) (seeking (Search Next) [] []))).world) ≡ codes "a" ∷ codes "b" ∷ []
+  pub empty_one_asks_for_the_last : (prompt_base Ret 0 (looking (codes "a" ∷ codes "b" ∷ []) (seeking (Search Forward) [] []))).row ≡ asking (codes "b") (Search Forward)
+  pub which_stays : strings_of 47 (registers_of (prompt_base Ret 0 (looking (codes "a" ∷ codes "b" ∷ []) (seeking (Search Forward) [] []))).world) ≡ codes "a" ∷ codes "b" ∷ []
   pub escape_asks_for_none : (prompt_base Esc 0 (seeking Keep (codes "x") [])).row ≡ Asks Nothing
   pub and_keeps_none : strings_of 47 (registers_of (prompt_base Esc 0 (seeking Keep (codes "x") [])).world) ≡ []
 

@@ -14,7 +14,7 @@ use Rattle.edit_ops.specs.declared.kinds.Erase.TheVariants.{BeforeCursor, AtCurs
 use Rattle.edit_ops.specs.declared.kinds.Put.TheVariants.{BeforeCursor as PutBeforeCursor}
 use Rattle.edit_ops.specs.Typing.{typed_before}
 use Rattle.edit_ops.specs.Erasing.{erasures}
-use Rattle.motion_keys.specs.declared.direction.Direction.TheVariants.{Forward, Backward}
+use Rattle.directions.specs.declared.direction.Direction.TheVariants.{Forward, Backward}
 use Rattle.motion_keys.specs.declared.finding.Motion.TheVariants.{Step, Line, To}
 use Rattle.motion_keys.specs.declared.finding.Reach.TheVariants.{Select}
 use Rattle.motion_keys.specs.declared.landmarks.Place.TheVariants.{LineStart}

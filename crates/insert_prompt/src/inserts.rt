@@ -3,23 +3,24 @@
 
 ghost use Rattle.std.specs.Prelude.{◌≡◌, true, None, Some, ◌∷◌, [], IsErrOf};
 ghost use Rattle.kak_world.specs.declared.ask.EditError.TheVariants.{NoMemory};
-ghost use Rattle.kak_world.specs.Flat.{is_joined, pending_of};
+ghost use Rattle.kak_world.specs.Flat.{acts, pending_of};
 ghost use Rattle.kak_world.specs.Rows.{GivesRow, does};
 ghost use Rattle.key_rows.specs.Each.{each_changed, each_moved};
 ghost use Rattle.key_rows.specs.Naming.{register_named};
 ghost use Rattle.insert_prompt.specs.Rows.{typed, erased_row, leave_insert, awaiting, insert_control, put_register, put_named, insert_base, insert_first, row_insert};
 ghost use Rattle.insert_prompt.specs.Wanting.{is_part_of_typing, is_part_of_erasing, is_part_of_putting, IsPartOfBase, IsPartOfInsert};
 
+use directions::Direction;
 use edit_ops::{Erase, Put, before_cursors, erase};
 use kak_world::{Ask, EditError, Mode, World};
 use key_names::{Base, Key};
 use key_rows::{Each, Shape, change_each, register_named, register_puts};
-use motion_keys::{Direction, Motion, Place, Reach};
+use motion_keys::{Motion, Place, Reach};
 use std::alloc::Global;
 
 // Puts a character in before each cursor.
 fn put_in(alloc: Global, world: &mut World, who: u32, c: char) -> Result<Ask, EditError>
-    requires { is_joined who world.old.flat ≡ true }
+    requires { acts who world.old.flat ≡ true }
     ensures row { GivesRow result world.new.flat (typed (c ∷ []) who world.old.flat) }
     ensures wanting { IsErrOf result NoMemory → is_part_of_typing c who world.old.flat world.new.flat }
 {
@@ -32,7 +33,7 @@ fn put_in(alloc: Global, world: &mut World, who: u32, c: char) -> Result<Ask, Ed
 
 // Erases a character before each cursor, or at it.
 fn erase_at(alloc: Global, world: &mut World, who: u32, what: Erase) -> Result<Ask, EditError>
-    requires { is_joined who world.old.flat ≡ true }
+    requires { acts who world.old.flat ≡ true }
     ensures row { GivesRow result world.new.flat (erased_row what who world.old.flat) }
     ensures wanting { IsErrOf result NoMemory → is_part_of_erasing what who world.old.flat world.new.flat }
 {
@@ -43,7 +44,7 @@ fn erase_at(alloc: Global, world: &mut World, who: u32, what: Erase) -> Result<A
 
 // Moves each selection.
 fn step(alloc: Global, world: &mut World, who: u32, motion: Motion) -> Result<Ask, EditError>
-    requires { is_joined who world.old.flat ≡ true }
+    requires { acts who world.old.flat ≡ true }
     ensures row { GivesRow result world.new.flat (does (each_moved motion Reach.Select who world.old.flat)) }
     ensures wanting { IsErrOf result NoMemory → world.new.flat ≡ world.old.flat }
 {
@@ -52,7 +53,7 @@ fn step(alloc: Global, world: &mut World, who: u32, motion: Motion) -> Result<As
 
 // Does something to each selection.
 fn change(alloc: Global, world: &mut World, who: u32, change: Each) -> Result<Ask, EditError>
-    requires { is_joined who world.old.flat ≡ true }
+    requires { acts who world.old.flat ≡ true }
     ensures row { GivesRow result world.new.flat (does (each_changed change who world.old.flat)) }
     ensures wanting { IsErrOf result NoMemory → world.new.flat ≡ world.old.flat }
 {
@@ -62,7 +63,7 @@ fn change(alloc: Global, world: &mut World, who: u32, change: Each) -> Result<As
 
 // Leaves insert mode; where it was entered behind selections, the cursors go back.
 fn leave(alloc: Global, world: &mut World, who: u32) -> Result<Ask, EditError>
-    requires { is_joined who world.old.flat ≡ true }
+    requires { acts who world.old.flat ≡ true }
     ensures row { GivesRow result world.new.flat (does (leave_insert who world.old.flat)) }
     ensures wanting { IsErrOf result NoMemory → world.new.flat ≡ world.old.flat }
 {
@@ -77,7 +78,7 @@ fn leave(alloc: Global, world: &mut World, who: u32) -> Result<Ask, EditError>
 
 // Puts the n-th string of a register in before the n-th cursor.
 fn put_register(alloc: Global, world: &mut World, who: u32, name: char) -> Result<Ask, EditError>
-    requires { is_joined who world.old.flat ≡ true }
+    requires { acts who world.old.flat ≡ true }
     ensures row { GivesRow result world.new.flat (put_register name who world.old.flat) }
     ensures wanting { IsErrOf result NoMemory → is_part_of_putting (Some name) who world.old.flat world.new.flat }
 {
@@ -88,7 +89,7 @@ fn put_register(alloc: Global, world: &mut World, who: u32, name: char) -> Resul
 
 // Lets a key wait for the next one, or none.
 pub(crate) fn set_pending(world: &mut World, who: u32, key: Option<Key>)
-    requires { is_joined who world.old.flat ≡ true }
+    requires { acts who world.old.flat ≡ true }
     ensures { world.new.flat ≡ awaiting key who world.old.flat }
 {
     world.own_mut(who).pending = key;
@@ -96,7 +97,7 @@ pub(crate) fn set_pending(world: &mut World, who: u32, key: Option<Key>)
 
 // Runs a key with control alone.
 fn run_control(world: &mut World, who: u32, key: Key)
-    requires { is_joined who world.old.flat ≡ true }
+    requires { acts who world.old.flat ≡ true }
     ensures { does world.new.flat ≡ insert_control key.base key who world.old.flat }
 {
     match key.base {
@@ -108,7 +109,7 @@ fn run_control(world: &mut World, who: u32, key: Key)
 
 // Runs a key without modifiers.
 fn run_plain(alloc: Global, world: &mut World, who: u32, base: Base) -> Result<Ask, EditError>
-    requires { is_joined who world.old.flat ≡ true }
+    requires { acts who world.old.flat ≡ true }
     ensures row { GivesRow result world.new.flat (insert_base base who world.old.flat) }
     ensures wanting { IsErrOf result NoMemory → IsPartOfBase base who world.old.flat world.new.flat }
 {
@@ -131,7 +132,7 @@ fn run_plain(alloc: Global, world: &mut World, who: u32, base: Base) -> Result<A
 
 // Runs a key that no other key waits for.
 fn run_first(alloc: Global, world: &mut World, who: u32, key: Key) -> Result<Ask, EditError>
-    requires { is_joined who world.old.flat ≡ true }
+    requires { acts who world.old.flat ≡ true }
     ensures row { GivesRow result world.new.flat (insert_first key who world.old.flat) }
     ensures wanting { IsErrOf result NoMemory → IsPartOfBase key.base who world.old.flat world.new.flat }
 {
@@ -147,7 +148,7 @@ fn run_first(alloc: Global, world: &mut World, who: u32, key: Key) -> Result<Ask
 
 // Runs a key for which `<c-r>` waited: it names a register, or does nothing.
 fn run_named(alloc: Global, world: &mut World, who: u32, key: Key) -> Result<Ask, EditError>
-    requires { is_joined who world.old.flat ≡ true }
+    requires { acts who world.old.flat ≡ true }
     ensures row { GivesRow result world.new.flat (put_named (register_named key) who (awaiting None who world.old.flat)) }
     ensures wanting { IsErrOf result NoMemory → is_part_of_putting (register_named key) who (awaiting None who world.old.flat) world.new.flat }
 {
@@ -162,7 +163,7 @@ fn run_named(alloc: Global, world: &mut World, who: u32, key: Key) -> Result<Ask
 /// text no room, and `NoSuchRegister` where a key names no register; they leave the text, the selections and the registers.
 #[tactic(auto, using(kak_world::proofs::WorldLaws::world_laws), unfolding(crate::specs::Rows::row_insert))]
 pub fn insert_key(alloc: Global, world: &mut World, who: u32, key: Key) -> Result<Ask, EditError>
-    requires { is_joined who world.old.flat ≡ true }
+    requires { acts who world.old.flat ≡ true }
     ensures row { GivesRow result world.new.flat (row_insert key who world.old.flat) }
     ensures wanting { IsErrOf result NoMemory → IsPartOfInsert (pending_of who world.old.flat) key who world.old.flat world.new.flat }
 {

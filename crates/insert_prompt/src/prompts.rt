@@ -5,7 +5,7 @@ ghost use Rattle.std.specs.Prelude.{◌≡◌, true, None, IfOk, IfSome, OnOk, O
 ghost use Rattle.edit_line.specs.Edits.{put_before_cursor};
 ghost use Rattle.edit_line.specs.Halves.{whole};
 ghost use Rattle.kak_world.specs.declared.ask.EditError.TheVariants.{NoMemory};
-ghost use Rattle.kak_world.specs.Flat.{is_joined, prompt_of};
+ghost use Rattle.kak_world.specs.Flat.{acts, prompt_of};
 ghost use Rattle.kak_world.specs.Rows.{Answers, GivesRow, does, row_of};
 ghost use Rattle.key_rows.specs.Naming.{register_named};
 ghost use Rattle.insert_prompt.specs.Rows.{awaiting, prompt_edited, line_edited, leave_prompt, typed_kept, commands_accepted, pattern_typed, accepted, prompt_base, prompt_control, prompt_register, prompt_named, prompt_first, row_prompt};
@@ -21,7 +21,7 @@ use std::alloc::{AllocError, Global};
 
 // Leaves the prompt, and gives its line.
 fn leave(alloc: Global, world: &mut World, who: u32) -> EditLine
-    requires { is_joined who world.old.flat ≡ true }
+    requires { acts who world.old.flat ≡ true }
     ensures typed { result ≡ prompt_of who world.old.flat }
     ensures left { world.new.flat ≡ leave_prompt who world.old.flat }
 {
@@ -32,7 +32,7 @@ fn leave(alloc: Global, world: &mut World, who: u32) -> EditLine
 
 // Leaves the prompt, since a register can't hold what was typed; want of memory leaves the world.
 fn refuse(alloc: Global, world: &mut World, who: u32, error: &EditError)
-    requires { is_joined who world.old.flat ≡ true }
+    requires { acts who world.old.flat ≡ true }
     ensures left { IfSome (row_of error.now) (λ row. world.new.flat ≡ leave_prompt who world.old.flat) }
     ensures wanting { error.now ≡ NoMemory → world.new.flat ≡ world.old.flat }
 {
@@ -46,7 +46,7 @@ fn refuse(alloc: Global, world: &mut World, who: u32, error: &EditError)
 
 // Has a register hold what was typed, and leaves the prompt; where the register can't, the prompt is left too.
 fn keep_typed(alloc: Global, world: &mut World, who: u32, name: char) -> Result<Chars, EditError>
-    requires { is_joined who world.old.flat ≡ true }
+    requires { acts who world.old.flat ≡ true }
     ensures row { Answers result world.new.flat (typed_kept name who world.old.flat) }
     ensures typed { IfOk result (λ typed. typed ≡ whole (prompt_of who world.old.flat)) }
     ensures wanting { IsErrOf result NoMemory → world.new.flat ≡ world.old.flat }
@@ -67,7 +67,7 @@ fn keep_typed(alloc: Global, world: &mut World, who: u32, name: char) -> Result<
 
 // Asks for what was typed to be run as commands.
 fn accept_commands(alloc: Global, world: &mut World, who: u32) -> Result<Ask, EditError>
-    requires { is_joined who world.old.flat ≡ true }
+    requires { acts who world.old.flat ≡ true }
     ensures row { GivesRow result world.new.flat (commands_accepted who world.old.flat) }
     ensures wanting { IsErrOf result NoMemory → world.new.flat ≡ world.old.flat }
 {
@@ -77,7 +77,7 @@ fn accept_commands(alloc: Global, world: &mut World, who: u32) -> Result<Ask, Ed
 
 // Asks for what was typed as a pattern, or for the one that was looked for last where nothing was.
 fn accept_pattern(alloc: Global, world: &mut World, who: u32, wanted: Use) -> Result<Ask, EditError>
-    requires { is_joined who world.old.flat ≡ true }
+    requires { acts who world.old.flat ≡ true }
     ensures row { GivesRow result world.new.flat (pattern_typed (whole (prompt_of who world.old.flat)) wanted who world.old.flat) }
     ensures wanting { IsErrOf result NoMemory → world.new.flat ≡ world.old.flat }
 {
@@ -95,7 +95,7 @@ fn accept_pattern(alloc: Global, world: &mut World, who: u32, wanted: Use) -> Re
 
 // Accepts the prompt, as what it is for.
 fn accept(alloc: Global, world: &mut World, who: u32) -> Result<Ask, EditError>
-    requires { is_joined who world.old.flat ≡ true }
+    requires { acts who world.old.flat ≡ true }
     ensures row { GivesRow result world.new.flat (accepted who world.old.flat) }
     ensures wanting { IsErrOf result NoMemory → world.new.flat ≡ world.old.flat }
 {
@@ -108,7 +108,7 @@ fn accept(alloc: Global, world: &mut World, who: u32) -> Result<Ask, EditError>
 
 // Puts characters in before the cursor of the prompt. An `Err` leaves the world.
 fn put(world: &mut World, who: u32, chars: &[char]) -> Result<(), AllocError>
-    requires { is_joined who world.old.flat ≡ true }
+    requires { acts who world.old.flat ≡ true }
     ensures ok { OnOk result (world.new.flat ≡ prompt_edited (put_before_cursor chars.now) who world.old.flat) }
     ensures err { OnErr result (world.new.flat ≡ world.old.flat) }
 {
@@ -134,7 +134,7 @@ fn edit(line: &mut EditLine, base: Base)
 
 // The same, in the prompt of a client.
 fn edit_prompt(world: &mut World, who: u32, base: Base)
-    requires { is_joined who world.old.flat ≡ true }
+    requires { acts who world.old.flat ≡ true }
     ensures { world.new.flat ≡ prompt_edited (line_edited base) who world.old.flat }
 {
     let own = world.own_mut(who);
@@ -143,7 +143,7 @@ fn edit_prompt(world: &mut World, who: u32, base: Base)
 
 // Runs a key without modifiers.
 fn run_plain(alloc: Global, world: &mut World, who: u32, base: Base) -> Result<Ask, EditError>
-    requires { is_joined who world.old.flat ≡ true }
+    requires { acts who world.old.flat ≡ true }
     ensures row { GivesRow result world.new.flat (prompt_base base who world.old.flat) }
     ensures wanting { IsErrOf result NoMemory → world.new.flat ≡ world.old.flat }
 {
@@ -166,7 +166,7 @@ fn run_plain(alloc: Global, world: &mut World, who: u32, base: Base) -> Result<A
 
 // Runs a key with control alone.
 fn run_control(world: &mut World, who: u32, key: Key)
-    requires { is_joined who world.old.flat ≡ true }
+    requires { acts who world.old.flat ≡ true }
     ensures { does world.new.flat ≡ prompt_control key.base key who world.old.flat }
 {
     match key.base {
@@ -177,7 +177,7 @@ fn run_control(world: &mut World, who: u32, key: Key)
 
 // Runs a key that no other key waits for.
 fn run_first(alloc: Global, world: &mut World, who: u32, key: Key) -> Result<Ask, EditError>
-    requires { is_joined who world.old.flat ≡ true }
+    requires { acts who world.old.flat ≡ true }
     ensures row { GivesRow result world.new.flat (prompt_first key who world.old.flat) }
     ensures wanting { IsErrOf result NoMemory → world.new.flat ≡ world.old.flat }
 {
@@ -193,7 +193,7 @@ fn run_first(alloc: Global, world: &mut World, who: u32, key: Key) -> Result<Ask
 
 // Puts the strings of a register in before the cursor of the prompt, joined by spaces; no key waits then.
 fn put_register(alloc: Global, world: &mut World, who: u32, name: char) -> Result<Ask, EditError>
-    requires { is_joined who world.old.flat ≡ true }
+    requires { acts who world.old.flat ≡ true }
     ensures row { GivesRow result world.new.flat (prompt_register name who (awaiting None who world.old.flat)) }
     ensures wanting { IsErrOf result NoMemory → world.new.flat ≡ world.old.flat }
 {
@@ -212,7 +212,7 @@ fn put_register(alloc: Global, world: &mut World, who: u32, name: char) -> Resul
 
 // Runs a key for which `<c-r>` waited: it names a register, or does nothing.
 fn run_named(alloc: Global, world: &mut World, who: u32, key: Key) -> Result<Ask, EditError>
-    requires { is_joined who world.old.flat ≡ true }
+    requires { acts who world.old.flat ≡ true }
     ensures row { GivesRow result world.new.flat (prompt_named (register_named key) who (awaiting None who world.old.flat)) }
     ensures wanting { IsErrOf result NoMemory → world.new.flat ≡ world.old.flat }
 {
@@ -231,7 +231,7 @@ fn run_named(alloc: Global, world: &mut World, who: u32, key: Key) -> Result<Ask
 /// that was typed.
 #[tactic(auto, using(kak_world::proofs::WorldLaws::world_laws), unfolding(crate::specs::Rows::row_prompt))]
 pub fn prompt_key(alloc: Global, world: &mut World, who: u32, key: Key) -> Result<Ask, EditError>
-    requires { is_joined who world.old.flat ≡ true }
+    requires { acts who world.old.flat ≡ true }
     ensures row { GivesRow result world.new.flat (row_prompt key who world.old.flat) }
     ensures wanting { IsErrOf result NoMemory → world.new.flat ≡ world.old.flat }
 {

@@ -6,13 +6,13 @@ use Rattle.undo_model.specs.Edits.{Splice}
 use Rattle.edit_ops.specs.declared.kinds.Put.{Put}
 use Rattle.edit_ops.specs.declared.kinds.Put.TheVariants.{Over}
 use Rattle.edit_ops.specs.Putting.{put_in_at}
-use Rattle.kak_world.specs.Flat.{Flat, is_joined, text_of, tabstop_of, sels_of}
+use Rattle.kak_world.specs.Flat.{Flat, acts, text_of, tabstop_of, sels_of}
 use Rattle.kak_world.specs.Rows.{Row, RowEnd, Asks, Fails, GivesUp, does, fails}
 use Rattle.kak_world.specs.declared.ask.EditError.TheVariants.{SharedLine}
 use Rattle.edit_ops.specs.Aligning.{shares_line, alignments}
 use Rattle.kak_world.specs.Keeping.{KeepsClients}
 use Rattle.kak_world.specs.Editing.{edit_row}
-use Rattle.kak_world.proofs.KeepingLaws.{keeps_same, keeps_after, keeps_own, keeps_sels, keeps_edit_row, keeps_set_row}
+use Rattle.kak_world.proofs.KeepingLaws.{acts_kept, keeps_same, keeps_after, keeps_own, keeps_sels, keeps_edit_row, keeps_set_row}
 use Rattle.key_rows.specs.declared.each.Each.{Each}
 use Rattle.key_rows.specs.declared.edits.Edit.{Edit}
 use Rattle.key_rows.specs.declared.edits.Edit.TheVariants as edit
@@ -68,7 +68,7 @@ keeps_edit edit.Cut register who = keeps_cut register who
 keeps_edit edit.Erase register who = keeps_erase who
 keeps_edit edit.Keep register who = λ flat. keeps_set_row _ _ flat
 keeps_edit edit.Replace register who = keeps_put Over register who
-keeps_edit (edit.Rotate way) register who = λ flat. keeps_leaving _ who flat
+keeps_edit (edit.Rotate direction) register who = λ flat. keeps_leaving _ who flat
 keeps_edit (edit.Indent how) register who = λ flat. keeps_edit_row _ who flat
 keeps_edit edit.Join register who = λ flat. keeps_edit_row _ who flat
 keeps_edit edit.Align register who = keeps-align who
@@ -87,11 +87,11 @@ keeps_place entry.FirstLine register who flat = keeps_sels who _ flat
 keeps_place entry.LastNewline register who flat = keeps_sels who _ flat
 keeps_place entry.Cut register who flat = keeps_cut register who flat
 keeps_place entry.Erase register who flat = keeps_erase who flat
-keeps_place (entry.Open side) register who flat = keeps_leaving _ who flat
+keeps_place (entry.Open direction) register who flat = keeps_leaving _ who flat
 
 pub keeps_entry : (how : InsertEntry) (register : Option ℕ) (who : ℕ) → KeepsIn (enter_row how register who)
 keeps_entry how register who = keeps_then (place_row how register who) _ (keeps_place how register who) (λ w. keeps_own who _ w)
 
--- so a client that was there is there behind a row
-pub stays : (row : Flat → RowEnd) (who : ℕ) (old new : Flat) → KeepsIn row → row old ≡ does new → is_joined who old ≡ true → is_joined who new ≡ true
-stays row who old new k e j = sym (ap (λ (x : RowEnd). is_joined who x.world) e) ∙ (k old).joined who ∙ j
+-- so a client that acted acts behind a row
+pub stays : (row : Flat → RowEnd) (who : ℕ) (old new : Flat) → KeepsIn row → row old ≡ does new → acts who old ≡ true → acts who new ≡ true
+stays row who old new k e a = sym (ap (λ (x : RowEnd). acts who x.world) e) ∙ acts_kept who old (row old).world (k old) ∙ a

@@ -8,8 +8,9 @@ use Rattle.kak_registers.specs.declared.row.Register.{Register}
 use Rattle.kak_registers.specs.Names.{is_settable}
 use Rattle.kak_registers.specs.Contents.{strings_of}
 use Rattle.kak_world.specs.declared.own.Own.{Own}
+use Rattle.kak_world.specs.declared.world.Rest.{Rest}
 use Rattle.kak_world.specs.Flat.{Flat, text_of, name_of, sels_of, registers_of, with_own}
-use Rattle.kak_world.proofs.WorldLaws.{registers_own, text_own, sels_own, name_own}
+use Rattle.kak_world.proofs.WorldLaws.{rest_own, text_own, sels_own, name_own}
 use Rattle.key_rows.specs.Reading.{in_bytes, numbers_from, strings_read}
 
 -- by what it does depend on: the registers, the text, the selections, and the buffer's name
@@ -29,7 +30,7 @@ pub read-own : (name k who : ℕ) (f : Own → Own) (flat : Flat) → strings_re
 read-own name k who f flat =
     let w : Flat = with_own who f flat in
     read-by name k w
-    ∙ ap (λ rows. read_by name rows (text_of k w) (sels_of k w) (name_of k w)) (registers_own who f flat)
+    ∙ ap (λ (r : Rest). read_by name r.registers (text_of k w) (sels_of k w) (name_of k w)) (rest_own who f flat)
     ∙ ap (λ text. read_by name (registers_of flat) text (sels_of k w) (name_of k w)) (text_own k who f flat)
     ∙ ap (λ sels. read_by name (registers_of flat) (text_of k flat) sels (name_of k w)) (sels_own k who f flat)
     ∙ ap (read_by name (registers_of flat) (text_of k flat) (sels_of k flat)) (name_own k who f flat)

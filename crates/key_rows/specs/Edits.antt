@@ -7,8 +7,7 @@ use Rattle.undo_model.specs.Edits.{Splice}
 use Rattle.edit_ops.specs.declared.kinds.Erase.TheVariants.{Selection}
 use Rattle.edit_ops.specs.declared.kinds.Put.{Put}
 use Rattle.edit_ops.specs.declared.kinds.Put.TheVariants.{Over}
-use Rattle.edit_ops.specs.declared.kinds.Side.{Side}
-use Rattle.edit_ops.specs.declared.kinds.Rotation.{Rotation}
+use Rattle.directions.specs.declared.direction.Direction.{Direction}
 use Rattle.edit_ops.specs.declared.kinds.Indent.{Indent}
 use Rattle.edit_ops.specs.Erasing.{erasures}
 use Rattle.edit_ops.specs.Opening.{opens}
@@ -39,12 +38,12 @@ abbrev pub erase_row : ℕ → Flat → RowEnd
 erase_row who flat = leaving_row (erasures Selection (sels_of who flat).list) who flat
 
 -- a line opened below or above each selection, which leaves the new lines
-abbrev pub open_row : Side → ℕ → Flat → RowEnd
-open_row side who flat = leaving_row (opens (text_of who flat) side (sels_of who flat).list) who flat
+abbrev pub open_row : Direction → ℕ → Flat → RowEnd
+open_row direction who flat = leaving_row (opens (text_of who flat) direction (sels_of who flat).list) who flat
 
 -- the texts of the selections go round
-abbrev pub rotate_row : Rotation → ℕ → Flat → RowEnd
-rotate_row way who flat = leaving_row (rotations (text_of who flat) way (sels_of who flat).list) who flat
+abbrev pub rotate_row : Direction → ℕ → Flat → RowEnd
+rotate_row direction who flat = leaving_row (rotations (text_of who flat) direction (sels_of who flat).list) who flat
 
 -- the lines that the selections touch are indented, or less so; the list is mapped
 abbrev pub indent_row : Indent → ℕ → Flat → RowEnd
@@ -92,7 +91,7 @@ edit_done edit.Cut register who flat = cut_row register who flat
 edit_done edit.Erase register who flat = erase_row who flat
 edit_done edit.Keep register who flat = keep_row register who flat
 edit_done edit.Replace register who flat = put_row Over register who flat
-edit_done (edit.Rotate way) register who flat = rotate_row way who flat
+edit_done (edit.Rotate direction) register who flat = rotate_row direction who flat
 edit_done (edit.Indent how) register who flat = indent_row how who flat
 edit_done edit.Join register who flat = join_row who flat
 edit_done edit.Align register who flat = align_row who flat

@@ -36,7 +36,7 @@ place_row entry.FirstLine register who flat = does (each_changed each.AtFirstLin
 place_row entry.LastNewline register who flat = does (each_changed (each.Reshaped shape.LastNewline) who flat)
 place_row entry.Cut register who flat = cut_row register who flat
 place_row entry.Erase register who flat = erase_row who flat
-place_row (entry.Open side) register who flat = open_row side who flat
+place_row (entry.Open direction) register who flat = open_row direction who flat
 
 -- whether leaving insert mode takes cursors back
 abbrev pub appends : InsertEntry → Bool

@@ -53,7 +53,7 @@ splices_of edit.Cut register who flat = erasures Selection (sels_of who flat).li
 splices_of edit.Erase register who flat = erasures Selection (sels_of who flat).list
 splices_of edit.Keep register who flat = []
 splices_of edit.Replace register who flat = puts_read Over (strings_read (used register) who flat) who flat
-splices_of (edit.Rotate way) register who flat = rotations (text_of who flat) way (sels_of who flat).list
+splices_of (edit.Rotate direction) register who flat = rotations (text_of who flat) direction (sels_of who flat).list
 splices_of (edit.Indent how) register who flat = indents (text_of who flat) how (indentwidth_of who flat) (tabstop_of who flat) (sels_of who flat).list
 splices_of edit.Join register who flat = joins (text_of who flat) (sels_of who flat).list
 splices_of edit.Align register who flat = alignments (text_of who flat) (tabstop_of who flat) (sels_of who flat).list
@@ -74,7 +74,7 @@ splices_before entry.Behind who flat =
     if reaches_end (text_of who flat) (sels_of who flat).list then put_in_at (length (text_of who flat)) (10 ∷ []) ∷ [] else []
 splices_before entry.Cut who flat = erasures Selection (sels_of who flat).list
 splices_before entry.Erase who flat = erasures Selection (sels_of who flat).list
-splices_before (entry.Open side) who flat = opens (text_of who flat) side (sels_of who flat).list
+splices_before (entry.Open direction) who flat = opens (text_of who flat) direction (sels_of who flat).list
 splices_before _ who flat = []
 
 -- the way into insert mode was left part of the way, and the mode stayed

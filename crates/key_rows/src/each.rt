@@ -7,13 +7,12 @@ ghost use Rattle.list_model.specs.Settling.{each_settled};
 ghost use Rattle.selection_set.specs.Inside.{range_of, IsInside};
 ghost use Rattle.selection_set.specs.Listing.{AreInside, ranges_of};
 ghost use Rattle.window_view.specs.Views.{window_seen};
-ghost use Rattle.kak_world.specs.Flat.{is_joined, sels_of};
+ghost use Rattle.kak_world.specs.Flat.{acts, sels_of};
 ghost use Rattle.selection_set.specs.Held.{selected, IsHeld};
 ghost use Rattle.motion_keys.specs.Words.{EndsAre};
 ghost use Rattle.key_rows.specs.Each.{object_ends, object_range, each_range, each_changed};
 
 use crate::shapes::{Shape, reshape};
-use kak_text::MAX_TABSTOP;
 use kak_world::World;
 use line_buffer::Lines;
 use motion_keys::{Motion, Place, Reach, moved};
@@ -21,7 +20,7 @@ use selection_set::{Pair, Sel, Sels};
 use smallvec::SmallVec;
 use std::alloc::{AllocError, Global};
 use text_objects::{Object, around, inner};
-use window_view::Window;
+use window_view::{Tabstop, Window};
 
 /// How much of an object is selected.
 #[derive(Clone, Copy, PartialEq, Eq, Debug)]
@@ -48,15 +47,13 @@ pub enum Each {
 // The ends of an object at a selection's cursor.
 fn object_ends(
     lines: &Lines,
-    tabstop: u32,
+    tabstop: Tabstop,
     sel: Sel,
     extent: Extent,
     object: Object,
 ) -> Option<Pair>
     requires inside { IsInside lines.now sel }
-    requires some { 1 ≤ tabstop }
-    requires few { tabstop ≤ MAX_TABSTOP }
-    ensures { EndsAre lines.now result (object_ends extent object lines.now (cursor (range_of lines.now sel)) tabstop) }
+    ensures { EndsAre lines.now result (object_ends extent object lines.now (cursor (range_of lines.now sel)) tabstop.columns) }
 {
     match extent {
         Extent::Inner => inner(lines, &sel, object, tabstop),
@@ -65,12 +62,10 @@ fn object_ends(
 }
 
 // The object at a selection's cursor, straight; where there is none, the selection stays.
-fn on_object(lines: &Lines, tabstop: u32, sel: Sel, extent: Extent, object: Object) -> Sel
+fn on_object(lines: &Lines, tabstop: Tabstop, sel: Sel, extent: Extent, object: Object) -> Sel
     requires inside { IsInside lines.now sel }
-    requires some { 1 ≤ tabstop }
-    requires few { tabstop ≤ MAX_TABSTOP }
     ensures inside { IsInside lines.now result }
-    ensures selects { range_of lines.now result ≡ object_range extent object tabstop lines.now (range_of lines.now sel) }
+    ensures selects { range_of lines.now result ≡ object_range extent object tabstop.columns lines.now (range_of lines.now sel) }
 {
     match object_ends(lines, tabstop, sel, extent, object) {
         Some(pair) => Sel::of_pair(pair),
@@ -79,12 +74,10 @@ fn on_object(lines: &Lines, tabstop: u32, sel: Sel, extent: Extent, object: Obje
 }
 
 // What becomes of a selection.
-fn changed(lines: &Lines, window: &Window, tabstop: u32, sel: Sel, change: Each) -> Sel
+fn changed(lines: &Lines, window: &Window, tabstop: Tabstop, sel: Sel, change: Each) -> Sel
     requires inside { IsInside lines.now sel }
-    requires some { 1 ≤ tabstop }
-    requires few { tabstop ≤ MAX_TABSTOP }
     ensures inside { IsInside lines.now result }
-    ensures changes { range_of lines.now result ≡ each_range change (window_seen window.now) tabstop lines.now (range_of lines.now sel) }
+    ensures changes { range_of lines.now result ≡ each_range change (window_seen window.now) tabstop.columns lines.now (range_of lines.now sel) }
 {
     match change {
         Each::Moved(motion, reach) => moved(lines, window, tabstop, sel, motion, reach),
@@ -109,16 +102,14 @@ fn changed_list(
     alloc: Global,
     lines: &Lines,
     window: &Window,
-    tabstop: u32,
+    tabstop: Tabstop,
     sels: &[Sel],
     change: Each,
 ) -> Result<SmallVec<Sel, 4>, AllocError>
     requires inside { AreInside lines.now sels.now }
-    requires some { 1 ≤ tabstop }
-    requires few { tabstop ≤ MAX_TABSTOP }
     ensures inside { IfOk result (λ list. AreInside lines.now list.items) }
     ensures changes { IfOk result (λ list. ranges_of lines.now list.items
-        ≡ map (each_range change (window_seen window.now) tabstop lines.now) (ranges_of lines.now sels.now)) }
+        ≡ map (each_range change (window_seen window.now) tabstop.columns lines.now) (ranges_of lines.now sels.now)) }
     ensures few { length sels.now ≤ 4 → IsOk result }
 {
     let mut list = SmallVec::with_capacity(alloc, sels.len())?;
@@ -134,16 +125,14 @@ fn changed_sels(
     alloc: Global,
     lines: &Lines,
     window: &Window,
-    tabstop: u32,
+    tabstop: Tabstop,
     sels: &Sels,
     change: Each,
 ) -> Result<Sels, AllocError>
     requires held { IsHeld lines.now sels.now }
-    requires some { 1 ≤ tabstop }
-    requires few { tabstop ≤ MAX_TABSTOP }
     ensures held { IfOk result (λ s. IsHeld lines.now s) }
     ensures changes { IfOk result (λ s. selected lines.now s
-        ≡ each_settled (each_range change (window_seen window.now) tabstop lines.now) (selected lines.now sels.now)) }
+        ≡ each_settled (each_range change (window_seen window.now) tabstop.columns lines.now) (selected lines.now sels.now)) }
     ensures few { length sels.now.list ≤ 4 → IsOk result }
 {
     let list = changed_list(alloc, lines, window, tabstop, sels.as_slice(), change)?;
@@ -162,7 +151,7 @@ pub fn change_each(
     who: u32,
     change: Each,
 ) -> Result<(), AllocError>
-    requires { is_joined who world.old.flat ≡ true }
+    requires { acts who world.old.flat ≡ true }
     ensures does { OnOk result (world.new.flat ≡ each_changed change who world.old.flat) }
     ensures few { length (sels_of who world.old.flat).list ≤ 4 → IsOk result }
     ensures err { OnErr result (world.new.flat ≡ world.old.flat) }

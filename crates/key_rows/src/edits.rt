@@ -3,7 +3,7 @@
 
 ghost use Rattle.std.specs.Prelude.{◌≡◌, true, None, IfOk, IfErr, IsErrOf};
 ghost use Rattle.kak_world.specs.declared.ask.EditError.TheVariants.{NoMemory};
-ghost use Rattle.kak_world.specs.Flat.{is_joined};
+ghost use Rattle.kak_world.specs.Flat.{acts};
 ghost use Rattle.kak_world.specs.Rows.{Answers};
 ghost use Rattle.key_rows.specs.Handing.{AreAlignments, IsUnaligned};
 ghost use Rattle.key_rows.specs.Edits.{erase_row, open_row, rotate_row, indent_row, join_row, align_row, fill_row, cut_row, put_row, edit_done};
@@ -13,7 +13,8 @@ ghost use Rattle.key_rows.specs.Wanting.{IsPartOfPut, IsPartOfFill, IsPartOfEdit
 use crate::leaving::edit_leaving;
 use crate::reading::{is_stored, keep, register_puts, used};
 use buffer_store::Splice;
-use edit_ops::{AlignError, Erase, Indent, Put, Rotation, Side};
+use directions::Direction;
+use edit_ops::{AlignError, Erase, Indent, Put};
 use kak_world::{EditError, World};
 use std::alloc::Global;
 
@@ -29,7 +30,7 @@ pub enum Edit {
     /// The n-th string of a register takes the place of the n-th.
     Replace,
     /// They go round.
-    Rotate(Rotation),
+    Rotate(Direction),
     /// Their lines get blanks at their start, or lose them.
     Indent(Indent),
     /// Their lines are joined.
@@ -40,7 +41,7 @@ pub enum Edit {
 
 /// Erases at each selection of a client. `UndoFull` and `TextFull` leave the world.
 pub fn erase(alloc: Global, world: &mut World, who: u32) -> Result<(), EditError>
-    requires { is_joined who world.old.flat ≡ true }
+    requires { acts who world.old.flat ≡ true }
     ensures row { Answers result world.new.flat (erase_row who world.old.flat) }
     ensures wanting { IsErrOf result NoMemory → IsPartOfEdit Edit.Erase None who world.old.flat world.new.flat }
 {
@@ -49,28 +50,33 @@ pub fn erase(alloc: Global, world: &mut World, who: u32) -> Result<(), EditError
 }
 
 /// Opens a line below or above each selection of a client. `UndoFull` and `TextFull` leave the world.
-pub(crate) fn open(alloc: Global, world: &mut World, who: u32, side: Side) -> Result<(), EditError>
-    requires { is_joined who world.old.flat ≡ true }
-    ensures row { Answers result world.new.flat (open_row side who world.old.flat) }
-    ensures wanting { IsErrOf result NoMemory → IsPartOfEntry (Open side) None who world.old.flat world.new.flat }
+pub(crate) fn open(
+    alloc: Global,
+    world: &mut World,
+    who: u32,
+    direction: Direction,
+) -> Result<(), EditError>
+    requires { acts who world.old.flat ≡ true }
+    ensures row { Answers result world.new.flat (open_row direction who world.old.flat) }
+    ensures wanting { IsErrOf result NoMemory → IsPartOfEntry (Open direction) None who world.old.flat world.new.flat }
 {
-    let splices = edit_ops::open(alloc, world.lines(who), world.sels(who), side)?;
+    let splices = edit_ops::open(alloc, world.lines(who), world.sels(who), direction)?;
     edit_leaving(alloc, world, who, splices.as_slice())
 }
 
 // Lets the texts of a client's selections go round.
-fn rotate(alloc: Global, world: &mut World, who: u32, way: Rotation) -> Result<(), EditError>
-    requires { is_joined who world.old.flat ≡ true }
-    ensures row { Answers result world.new.flat (rotate_row way who world.old.flat) }
-    ensures wanting { IsErrOf result NoMemory → IsPartOfEdit (Edit.Rotate way) None who world.old.flat world.new.flat }
+fn rotate(alloc: Global, world: &mut World, who: u32, direction: Direction) -> Result<(), EditError>
+    requires { acts who world.old.flat ≡ true }
+    ensures row { Answers result world.new.flat (rotate_row direction who world.old.flat) }
+    ensures wanting { IsErrOf result NoMemory → IsPartOfEdit (Edit.Rotate direction) None who world.old.flat world.new.flat }
 {
-    let splices = edit_ops::rotate(alloc, world.lines(who), world.sels(who), way)?;
+    let splices = edit_ops::rotate(alloc, world.lines(who), world.sels(who), direction)?;
     edit_leaving(alloc, world, who, splices.as_slice())
 }
 
 /// Puts a character in the place of each one in the selections of a client. `UndoFull` and `TextFull` leave the world.
 pub fn fill(alloc: Global, world: &mut World, who: u32, c: char) -> Result<(), EditError>
-    requires { is_joined who world.old.flat ≡ true }
+    requires { acts who world.old.flat ≡ true }
     ensures row { Answers result world.new.flat (fill_row c who world.old.flat) }
     ensures wanting { IsErrOf result NoMemory → IsPartOfFill c who world.old.flat world.new.flat }
 {
@@ -80,7 +86,7 @@ pub fn fill(alloc: Global, world: &mut World, who: u32, c: char) -> Result<(), E
 
 // Indents the lines that a client's selections touch, or less so.
 fn indent(alloc: Global, world: &mut World, who: u32, how: Indent) -> Result<(), EditError>
-    requires { is_joined who world.old.flat ≡ true }
+    requires { acts who world.old.flat ≡ true }
     ensures row { Answers result world.new.flat (indent_row how who world.old.flat) }
     ensures wanting { IsErrOf result NoMemory → IsPartOfEdit (Edit.Indent how) None who world.old.flat world.new.flat }
 {
@@ -98,7 +104,7 @@ fn indent(alloc: Global, world: &mut World, who: u32, how: Indent) -> Result<(),
 
 // Joins the lines that a client's selections touch.
 fn join(alloc: Global, world: &mut World, who: u32) -> Result<(), EditError>
-    requires { is_joined who world.old.flat ≡ true }
+    requires { acts who world.old.flat ≡ true }
     ensures row { Answers result world.new.flat (join_row who world.old.flat) }
     ensures wanting { IsErrOf result NoMemory → IsPartOfEdit Edit.Join None who world.old.flat world.new.flat }
 {
@@ -109,7 +115,7 @@ fn join(alloc: Global, world: &mut World, who: u32) -> Result<(), EditError>
 
 // The spaces that bring a client's cursors to one display column.
 fn alignment(alloc: Global, world: &World, who: u32) -> Result<Vec<Splice>, EditError>
-    requires { is_joined who world.now.flat ≡ true }
+    requires { acts who world.now.flat ≡ true }
     ensures aligns { IfOk result (λ splices. AreAlignments who world.now.flat splices.items) }
     ensures refused { IfErr result (λ error. IsUnaligned error who world.now.flat) }
 {
@@ -127,7 +133,7 @@ fn alignment(alloc: Global, world: &World, who: u32) -> Result<Vec<Splice>, Edit
 
 // Brings a client's cursors to one display column.
 fn align(alloc: Global, world: &mut World, who: u32) -> Result<(), EditError>
-    requires { is_joined who world.old.flat ≡ true }
+    requires { acts who world.old.flat ≡ true }
     ensures row { Answers result world.new.flat (align_row who world.old.flat) }
     ensures wanting { IsErrOf result NoMemory → IsPartOfEdit Edit.Align None who world.old.flat world.new.flat }
 {
@@ -144,7 +150,7 @@ pub fn cut(
     who: u32,
     register: Option<char>,
 ) -> Result<(), EditError>
-    requires { is_joined who world.old.flat ≡ true }
+    requires { acts who world.old.flat ≡ true }
     ensures row { Answers result world.new.flat (cut_row register who world.old.flat) }
     ensures wanting { IsErrOf result NoMemory → IsPartOfEdit Edit.Cut register who world.old.flat world.new.flat }
 {
@@ -161,7 +167,7 @@ pub fn put(
     register: Option<char>,
     how: Put,
 ) -> Result<(), EditError>
-    requires { is_joined who world.old.flat ≡ true }
+    requires { acts who world.old.flat ≡ true }
     ensures row { Answers result world.new.flat (put_row how register who world.old.flat) }
     ensures wanting { IsErrOf result NoMemory → IsPartOfPut how register who world.old.flat world.new.flat }
 {
@@ -178,7 +184,7 @@ pub fn edit_texts(
     edit: Edit,
     register: Option<char>,
 ) -> Result<(), EditError>
-    requires { is_joined who world.old.flat ≡ true }
+    requires { acts who world.old.flat ≡ true }
     ensures row { Answers result world.new.flat (edit_done edit register who world.old.flat) }
     ensures wanting { IsErrOf result NoMemory → IsPartOfEdit edit register who world.old.flat world.new.flat }
 {
@@ -187,7 +193,7 @@ pub fn edit_texts(
         Edit::Erase => erase(alloc, world, who),
         Edit::Keep => keep(alloc, world, who, register),
         Edit::Replace => put(alloc, world, who, register, Put::Over),
-        Edit::Rotate(way) => rotate(alloc, world, who, way),
+        Edit::Rotate(direction) => rotate(alloc, world, who, direction),
         Edit::Indent(how) => indent(alloc, world, who, how),
         Edit::Join => join(alloc, world, who),
         Edit::Align => align(alloc, world, who),

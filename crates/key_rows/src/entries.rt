@@ -6,7 +6,7 @@ ghost use Rattle.selection_set.specs.Listing.{AreInside, ranges_of};
 ghost use Rattle.buffer_store.specs.Buffers.{flat_splice, IsSpliceOf};
 ghost use Rattle.edit_ops.specs.Putting.{put_in_at};
 ghost use Rattle.kak_world.specs.declared.ask.EditError.TheVariants.{NoMemory};
-ghost use Rattle.kak_world.specs.Flat.{is_joined, sels_of};
+ghost use Rattle.kak_world.specs.Flat.{acts, sels_of};
 ghost use Rattle.kak_world.specs.Rows.{Answers};
 ghost use Rattle.key_rows.specs.Entering.{reaches_end, room_row, place_row, edits_first, appends, enter_row};
 ghost use Rattle.key_rows.specs.Wanting.{IsPartOfEntry};
@@ -15,7 +15,7 @@ use crate::each::{Each, change_each};
 use crate::edits::{cut, erase, open};
 use crate::shapes::Shape;
 use buffer_store::Splice;
-use edit_ops::Side;
+use directions::Direction;
 use kak_text::Chars;
 use kak_world::{EditError, Mode, World};
 use line_buffer::Lines;
@@ -38,7 +38,7 @@ pub enum InsertEntry {
     /// In the place of their texts.
     Erase,
     /// On a new line below or above each.
-    Open(Side),
+    Open(Direction),
 }
 
 // Whether some selection reaches the text's last character.
@@ -71,11 +71,11 @@ fn newline_at_end(alloc: Global, lines: &Lines) -> Result<Splice, AllocError>
 
 // Puts a newline in at the end of the text, where a client's selection reaches its last character.
 fn make_room(alloc: Global, world: &mut World, who: u32) -> Result<(), EditError>
-    requires { is_joined who world.old.flat ≡ true }
+    requires { acts who world.old.flat ≡ true }
     ensures row { Answers result world.new.flat (room_row who world.old.flat) }
     ensures made { OnOk result (IsPartOfEntry InsertEntry.Behind None who world.old.flat world.new.flat) }
     ensures wanting { IsErrOf result NoMemory → IsPartOfEntry InsertEntry.Behind None who world.old.flat world.new.flat }
-    ensures joined { OnOk result (is_joined who world.new.flat ≡ true) }
+    ensures acts { OnOk result (acts who world.new.flat ≡ true) }
 {
     if !reaches_end(world.lines(who), world.sels(who).as_slice()) {
         return Ok(());
@@ -93,7 +93,7 @@ fn place(
     entry: InsertEntry,
     register: Option<char>,
 ) -> Result<(), EditError>
-    requires { is_joined who world.old.flat ≡ true }
+    requires { acts who world.old.flat ≡ true }
     ensures row { Answers result world.new.flat (place_row entry register who world.old.flat) }
     ensures wanting { IsErrOf result NoMemory → IsPartOfEntry entry register who world.old.flat world.new.flat }
     ensures few { length (sels_of who world.old.flat).list ≤ 4 → edits_first entry ≡ false → IsOk result }
@@ -110,7 +110,7 @@ fn place(
         }
         InsertEntry::Cut => cut(alloc, world, who, register)?,
         InsertEntry::Erase => erase(alloc, world, who)?,
-        InsertEntry::Open(side) => open(alloc, world, who, side)?,
+        InsertEntry::Open(direction) => open(alloc, world, who, direction)?,
     }
     Ok(())
 }
@@ -134,7 +134,7 @@ pub fn enter_insert(
     entry: InsertEntry,
     register: Option<char>,
 ) -> Result<(), EditError>
-    requires { is_joined who world.old.flat ≡ true }
+    requires { acts who world.old.flat ≡ true }
     ensures row { Answers result world.new.flat (enter_row entry register who world.old.flat) }
     ensures wanting { IsErrOf result NoMemory → IsPartOfEntry entry register who world.old.flat world.new.flat }
     ensures few { length (sels_of who world.old.flat).list ≤ 4 → edits_first entry ≡ false → IsOk result }

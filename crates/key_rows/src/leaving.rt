@@ -5,7 +5,7 @@ ghost use Rattle.std.specs.Prelude.{◌≡◌, true, length, IsErrOf};
 ghost use Rattle.buffer_store.specs.Buffers.{AreSplicesOf, flat_splices, changes_of};
 ghost use Rattle.kak_world.specs.declared.ask.EditError.TheVariants.{NoMemory};
 ghost use Rattle.kak_world.specs.Changing.{IsAfterSomeChanges};
-ghost use Rattle.kak_world.specs.Flat.{is_joined, text_of, sels_of};
+ghost use Rattle.kak_world.specs.Flat.{acts, text_of, sels_of};
 ghost use Rattle.kak_world.specs.Rows.{Answers};
 ghost use Rattle.key_rows.specs.Edits.{leaving_row};
 
@@ -24,7 +24,7 @@ pub fn edit_leaving(
     who: u32,
     splices: &[Splice],
 ) -> Result<(), EditError>
-    requires joined { is_joined who world.old.flat ≡ true }
+    requires acts { acts who world.old.flat ≡ true }
     requires splices { AreSplicesOf (text_of who world.old.flat) splices.now }
     requires one_each { length splices.now ≡ length (sels_of who world.old.flat).list }
     ensures row { Answers result world.new.flat (leaving_row (flat_splices (text_of who world.old.flat) splices.now) who world.old.flat) }

@@ -6,7 +6,7 @@ ghost use Rattle.std.specs.Str.{chars};
 ghost use Rattle.text_model.specs.Texts.{IsPlace, offset};
 ghost use Rattle.selection_set.specs.Inside.{IsInside, range_of};
 ghost use Rattle.kak_world.specs.declared.ask.EditError.TheVariants.{NoMemory};
-ghost use Rattle.kak_world.specs.Flat.{is_joined};
+ghost use Rattle.kak_world.specs.Flat.{acts};
 ghost use Rattle.kak_world.specs.Rows.{Answers, GivesRow};
 ghost use Rattle.key_rows.specs.Patterns.{last_string, last_pattern, asks_for_last, is_special, escaped_one, escaped_pattern, is_word_at, begins_word, ends_word, word_end, pattern_of, main_remembered};
 
@@ -179,7 +179,7 @@ pub fn remember_main(
     who: u32,
     bounds: Bounds,
 ) -> Result<(), EditError>
-    requires { is_joined who world.old.flat ≡ true }
+    requires { acts who world.old.flat ≡ true }
     ensures row { Answers result world.new.flat (main_remembered bounds who world.old.flat) }
     ensures wanting { IsErrOf result NoMemory → world.new.flat ≡ world.old.flat }
 {

@@ -6,7 +6,7 @@ ghost use Rattle.text_model.specs.Texts.{IsStored};
 ghost use Rattle.buffer_store.specs.Buffers.{flat_splices, AreSplicesOf};
 ghost use Rattle.kak_registers.specs.Names.{is_settable};
 ghost use Rattle.kak_world.specs.declared.ask.EditError.TheVariants.{NoMemory};
-ghost use Rattle.kak_world.specs.Flat.{is_joined, name_of, sels_of, text_of};
+ghost use Rattle.kak_world.specs.Flat.{acts, name_of, sels_of, text_of};
 ghost use Rattle.kak_world.specs.Registers.{with_register};
 ghost use Rattle.kak_world.specs.Rows.{Answers};
 ghost use Rattle.key_rows.specs.Reading.{used, own_strings, numbers_from, strings_read, joined_text};
@@ -37,7 +37,7 @@ pub fn keep(
     who: u32,
     register: Option<char>,
 ) -> Result<(), EditError>
-    requires { is_joined who world.old.flat ≡ true }
+    requires { acts who world.old.flat ≡ true }
     ensures row { Answers result world.new.flat (keep_row register who world.old.flat) }
     ensures sets { OnOk result (world.new.flat ≡ with_register (used register) (own_strings who world.old.flat) world.old.flat) }
     ensures wanting { IsErrOf result NoMemory → world.new.flat ≡ world.old.flat }
@@ -75,7 +75,7 @@ fn read_only(
     who: u32,
     name: char,
 ) -> Result<Option<Words>, AllocError>
-    requires joined { is_joined who world.now.flat ≡ true }
+    requires acts { acts who world.now.flat ≡ true }
     requires other { is_settable name ≡ false }
     ensures { IfOk result (λ words. words ≡ strings_read name who world.now.flat) }
 {
@@ -106,7 +106,7 @@ fn strings_put(
     strings: &Words,
     how: Put,
 ) -> Result<Vec<Splice>, EditError>
-    requires { is_joined who world.now.flat ≡ true }
+    requires { acts who world.now.flat ≡ true }
     ensures puts { IfOk result (λ splices. flat_splices (text_of who world.now.flat) splices.items ≡ puts_of how strings.now who world.now.flat) }
     ensures places { IfOk result (λ splices. AreSplicesOf (text_of who world.now.flat) splices.items) }
     ensures refused { IfErr result (λ error. IsTooMuch error (puts_of how strings.now who world.now.flat) who world.now.flat) }
@@ -132,7 +132,7 @@ pub fn register_puts(
     name: char,
     how: Put,
 ) -> Result<Vec<Splice>, EditError>
-    requires { is_joined who world.now.flat ≡ true }
+    requires { acts who world.now.flat ≡ true }
     ensures puts { IfOk result (λ splices. ArePuts how name who world.now.flat splices.items) }
     ensures refused { IfErr result (λ error. AreStringsRefused error how name who world.now.flat) }
 {
@@ -168,7 +168,7 @@ pub fn register_strings(
     who: u32,
     name: char,
 ) -> Result<Option<Words>, AllocError>
-    requires { is_joined who world.now.flat ≡ true }
+    requires { acts who world.now.flat ≡ true }
     ensures { IfOk result (λ words. words ≡ strings_read name who world.now.flat) }
 {
     if let Some(words) = world.registers().get(name) {
@@ -185,7 +185,7 @@ pub fn register_text(
     who: u32,
     name: char,
 ) -> Result<Option<Chars>, AllocError>
-    requires { is_joined who world.now.flat ≡ true }
+    requires { acts who world.now.flat ≡ true }
     ensures { IfOk result (λ text. text ≡ option_map joined_text (strings_read name who world.now.flat)) }
 {
     if let Some(words) = world.registers().get(name) {

@@ -3,7 +3,6 @@
 ghost use Rattle.std.specs.Prelude.{◌≡◌, ℕ, ◌+◌, ◌*◌, ◌^◌, ◌<◌, ◌≤◌, true, length, take, OnOk, IfOk};
 ghost use Rattle.std.specs.List.{AllByRecursion};
 ghost use Rattle.kak_text.specs.Cells.{cells_of};
-ghost use Rattle.kak_text.specs.declared.widths.TheConstants.{MAX_TABSTOP};
 ghost use Rattle.compact_chars.specs.Rows.{chars_of};
 ghost use Rattle.window_view.specs.Views.{window_seen};
 ghost use Rattle.line_painting.specs.Cells.{right_of, char_drawn};
@@ -16,15 +15,13 @@ use compact_chars::CharsRef;
 use kak_faces::Face;
 use kak_text::{MAX_TABSTOP, cells};
 use std::alloc::AllocError;
-use window_view::Window;
+use window_view::{Tabstop, Window};
 
-// The window by which lines are cut, and after how many columns its tab stops are.
+// The window by which lines are cut, and its tab stops.
 #[derive(Clone, Copy, Debug)]
 pub struct WindowFrame {
     pub window: Window,
-    pub tabstop: u32,
-    pub ghost some: { 1 ≤ tabstop },
-    pub ghost few: { tabstop ≤ MAX_TABSTOP },
+    pub tabstop: Tabstop,
 }
 
 // Whether a character is printable ASCII or a newline, which has one cell and is drawn as itself.
@@ -65,11 +62,11 @@ fn push_one(
     column: u32,
 ) -> Result<u32, AllocError>
     requires { column < 2 ^ 31 }
-    ensures drawn { OnOk result (atoms.new ≡ grown_by atoms.old (char_drawn (window_seen frame.window) column (cells_of c column frame.tabstop) c)) }
-    ensures column { IfOk result (λ behind. behind ≡ column + cells_of c column frame.tabstop) }
+    ensures drawn { OnOk result (atoms.new ≡ grown_by atoms.old (char_drawn (window_seen frame.window) column (cells_of c column frame.tabstop.columns) c)) }
+    ensures column { IfOk result (λ behind. behind ≡ column + cells_of c column frame.tabstop.columns) }
     ensures small { IfOk result (λ behind. behind ≤ column + MAX_TABSTOP) }
 {
-    let width = cells(c, column, frame.tabstop);
+    let width = cells(c, column, frame.tabstop.columns);
     let drawn = char_drawn(frame.window, column, width, c);
     atoms.push_times(drawn.c, drawn.count)?;
     Ok(column + width)
@@ -86,8 +83,9 @@ pub fn push_stretch(
     face: Face,
 ) -> Result<u32, AllocError>
     requires { column + MAX_TABSTOP * length (chars_of chars) < 2 ^ 31 }
-    ensures drawn { OnOk result (atoms.new.atoms ≡ with_stretch frame.tabstop (window_seen frame.window) atoms.old.atoms face column (chars_of chars.entry)) }
-    ensures column { IfOk result (IsColumnBehind frame.tabstop (window_seen frame.window) column (chars_of chars.entry)) }
+    ensures drawn { OnOk result (atoms.new.atoms
+        ≡ with_stretch frame.tabstop.columns (window_seen frame.window) atoms.old.atoms face column (chars_of chars.entry)) }
+    ensures column { IfOk result (IsColumnBehind frame.tabstop.columns (window_seen frame.window) column (chars_of chars.entry)) }
     ensures small { IfOk result (λ behind. behind ≤ column + MAX_TABSTOP * length (chars_of chars.entry)) }
 {
     if chars.is_empty() {

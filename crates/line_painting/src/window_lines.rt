@@ -23,7 +23,7 @@ use kak_text::{Coord, MAX_TABSTOP};
 use line_buffer::Lines;
 use selection_set::{Sel, Sels};
 use std::alloc::{AllocError, Global};
-use window_view::Window;
+use window_view::{Tabstop, Window};
 
 // The first selection from one on that ends on a line or below it, or how many there are.
 fn first_reaching(sels: &[Sel], from: usize, line: u32) -> usize
@@ -47,8 +47,8 @@ fn push_cursor(
     colors: &Colors,
 ) -> Result<u32, AllocError>
     requires { column + MAX_TABSTOP * length (chars_of chars) < 2 ^ 31 }
-    ensures drawn { OnOk result (atoms.new.atoms ≡ with_stretch frame.tabstop (window_seen frame.window) atoms.old.atoms (first_face colors.now (chars_of chars.entry)) column (chars_of chars.entry)) }
-    ensures column { IfOk result (IsColumnBehind frame.tabstop (window_seen frame.window) column (chars_of chars.entry)) }
+    ensures drawn { OnOk result (atoms.new.atoms ≡ with_stretch frame.tabstop.columns (window_seen frame.window) atoms.old.atoms (first_face colors.now (chars_of chars.entry)) column (chars_of chars.entry)) }
+    ensures column { IfOk result (IsColumnBehind frame.tabstop.columns (window_seen frame.window) column (chars_of chars.entry)) }
     ensures small { IfOk result (λ behind. behind ≤ column + MAX_TABSTOP * length (chars_of chars.entry)) }
 {
     if chars.is_empty() {
@@ -71,7 +71,7 @@ fn push_parts(
     requires inside { parts.behind ≤ length (chars_of line) }
     requires short { length (chars_of line) ≤ MAX_CHARS }
     requires column { column ≤ MAX_TABSTOP * parts.low }
-    ensures drawn { IfOk result (PartsAreDrawn frame.tabstop (window_seen frame.window) (chars_of line.entry) parts colors.now atoms.old.atoms atoms.new.atoms column) }
+    ensures drawn { IfOk result (PartsAreDrawn frame.tabstop.columns (window_seen frame.window) (chars_of line.entry) parts colors.now atoms.old.atoms atoms.new.atoms column) }
     ensures small { IfOk result (λ behind. behind ≤ MAX_TABSTOP * parts.behind) }
 {
     let first = line.between(parts.low, parts.middle);
@@ -98,7 +98,7 @@ fn push_line(
     requires held { IsHeld lines.now sels.now }
     requires before { AllByRecursion (EndsBefore n) (take first sels.now.list) }
     requires paint { paint.now ≡ painted }
-    ensures { OnOk result (atoms.new.atoms ≡ with_all_shown atoms.old.atoms (line_shown frame.tabstop (selected lines.now sels.now) (window_seen frame.window) lines.now n)) }
+    ensures { OnOk result (atoms.new.atoms ≡ with_all_shown atoms.old.atoms (line_shown frame.tabstop.columns (selected lines.now sels.now) (window_seen frame.window) lines.now n)) }
 {
     let line = lines.line(n as usize);
     let begin = Coord { line: n, column: 0 };
@@ -143,7 +143,7 @@ fn draw_line(
     requires before { AllByRecursion (EndsBefore n) (take first sels.now.list) }
     requires paint { paint.now ≡ painted }
     requires none { atoms.old.atoms ≡ [] }
-    ensures drawn { IfOk result (λ line. line ≡ record { atoms = atoms_of (line_shown frame.tabstop (selected lines.now sels.now) (window_seen frame.window) lines.now n) }) }
+    ensures drawn { IfOk result (λ line. line ≡ record { atoms = atoms_of (line_shown frame.tabstop.columns (selected lines.now sels.now) (window_seen frame.window) lines.now n) }) }
     ensures left { OnOk result (atoms.new.atoms ≡ []) }
 {
     push_line(atoms, lines, n, frame, sels, first, paint)?;
@@ -152,19 +152,17 @@ fn draw_line(
     })
 }
 
-/// Draws the lines of a window, as many as there are, of a text with selections, with a tab stop at each `tabstop` columns.
+/// Draws the lines of a window, as many as there are, of a text with selections.
 /// It goes over the selections up to the window's end once, and not over those behind it.
 pub fn draw_lines(
     alloc: Global,
     lines: &Lines,
     window: Window,
-    tabstop: u32,
+    tabstop: Tabstop,
     sels: &Sels,
 ) -> Result<DrawnLines, AllocError>
     requires held { IsHeld lines.now sels.now }
-    requires some { 1 ≤ tabstop }
-    requires few { tabstop ≤ MAX_TABSTOP }
-    ensures { IfOk result (λ drawn. drawn ≡ lines_drawn tabstop lines.now (selected lines.now sels.now) (window_seen window)) }
+    ensures { IfOk result (λ drawn. drawn ≡ lines_drawn tabstop.columns lines.now (selected lines.now sels.now) (window_seen window)) }
 {
     let paint = Paint::standard();
     let frame = WindowFrame { window, tabstop };

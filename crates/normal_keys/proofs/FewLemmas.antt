@@ -7,8 +7,9 @@ use Rattle.std.proofs.lemmas.List.{length-map}
 use Rattle.list_model.specs.Ranges.{Range, Selected}
 use Rattle.list_model.specs.Settling.{placed, sorted, swept, ranges, each_settled}
 use Rattle.list_model.proofs.EmbedLemmas.{swept_no_longer}
-use Rattle.kak_world.specs.Flat.{Flat, is_joined, sels_of, view_of, tabstop_of, text_of, units_of, with_units}
-use Rattle.kak_world.proofs.WorldLaws.{sels_sels, sels_own, sels_units, joined_units}
+use Rattle.kak_world.specs.Flat.{Flat, is_joined, acts, sels_of, view_of, tabstop_of, text_of, units_of, with_units}
+use Rattle.kak_world.proofs.WorldLaws.{sels_sels, sels_own, sels_rest, acts_joined}
+use Rattle.kak_world.proofs.KeepingLaws.{acts_kept, keeps_units}
 use Rattle.list_keys.specs.declared.changes.ListChange.{ListChange}
 use Rattle.list_keys.specs.declared.changes.ListChange.TheVariants.{WholeText, MainAlone, WithoutMain, Cut, Split, Copied}
 use Rattle.list_keys.specs.Cuts.{cut_by}
@@ -58,19 +59,19 @@ once-few (Travels travel) register who flat a j = absurd (false≢true (sym a))
 once-few (GoesToNode direction) register who flat a j = absurd (false≢true (sym a))
 once-few (Puts how) register who flat a j = absurd (false≢true (sym a))
 
-pub run-few : (what : Repeated) (register : Option ℕ) (who : ℕ) (before after : Flat) → repeated_grows what ≡ false → is_joined who before ≡ true → once what register who before ≡ does after → length (sels_of who before).list ≤ 4 → length (sels_of who after).list ≤ 4
-run-few what register who before after a j e h = omega (arith, h, once-few what register who before a j, ap (λ (x : RowEnd). length (sels_of who x.world).list) e)
+pub run-few : (what : Repeated) (register : Option ℕ) (who : ℕ) (before after : Flat) → repeated_grows what ≡ false → acts who before ≡ true → once what register who before ≡ does after → length (sels_of who before).list ≤ 4 → length (sels_of who after).list ≤ 4
+run-few what register who before after a j e h = omega (arith, h, once-few what register who before a (acts_joined who before j), ap (λ (x : RowEnd). length (sels_of who x.world).list) e)
 
 -- and nobody goes
-pub run-stays : (what : Repeated) (register : Option ℕ) (who : ℕ) (before after : Flat) → is_joined who before ≡ true → once what register who before ≡ does after → is_joined who after ≡ true
-run-stays what register who before after j e = sym (ap (λ (x : RowEnd). is_joined who x.world) e) ∙ (keeps-once what register who before).joined who ∙ j
+pub run-stays : (what : Repeated) (register : Option ℕ) (who : ℕ) (before after : Flat) → acts who before ≡ true → once what register who before ≡ does after → acts who after ≡ true
+run-stays what register who before after j e = sym (ap (λ (x : RowEnd). acts who x.world) e) ∙ acts_kept who before (once what register who before).world (keeps-once what register who before) ∙ j
 
 -- a unit that was taken is none of the list's
 pub unit-few : (who : ℕ) (before after : Flat) → after ≡ with_units (units_of after) before → length (sels_of who before).list ≤ 4 → length (sels_of who after).list ≤ 4
-unit-few who before after e h = omega (arith, h, ap (λ (w : Flat). length (sels_of who w).list) e, ap (λ (s : Selected). length s.list) (sels_units who (units_of after) before))
+unit-few who before after e h = omega (arith, h, ap (λ (w : Flat). length (sels_of who w).list) e, ap (λ (s : Selected). length s.list) (sels_rest who (λ r. record r { step = record r.step { units = units_of after } }) before))
 
-pub unit-stays : (who : ℕ) (before after : Flat) → after ≡ with_units (units_of after) before → is_joined who before ≡ true → is_joined who after ≡ true
-unit-stays who before after e j = ap (is_joined who) e ∙ joined_units who (units_of after) before ∙ j
+pub unit-stays : (who : ℕ) (before after : Flat) → after ≡ with_units (units_of after) before → acts who before ≡ true → acts who after ≡ true
+unit-stays who before after e j = ap (acts who) e ∙ acts_kept who before _ (keeps_units (units_of after) before) ∙ j
 
 pub cleared-few : (who : ℕ) (before after : Flat) → after ≡ client_cleared who before → length (sels_of who before).list ≤ 4 → length (sels_of who after).list ≤ 4
 cleared-few who before after e h = omega (arith, h, ap (λ (w : Flat). length (sels_of who w).list) e, ap (λ (s : Selected). length s.list) (sels_own who who (λ o. record o { count = 0; register = None; pending = None }) before))

@@ -6,8 +6,8 @@ use Rattle.key_names.specs.declared.key.Key.{Key}
 use Rattle.text_model.specs.declared.TheConstants.{MAX_SELECTIONS}
 use Rattle.list_model.specs.Ranges.{Selected}
 use Rattle.undo_model.specs.declared.travel.Travel.TheVariants.{Node as NodeOf}
-use Rattle.motion_keys.specs.declared.direction.Direction.{Direction}
-use Rattle.motion_keys.specs.declared.direction.Direction.TheVariants.{Forward, Backward}
+use Rattle.directions.specs.declared.direction.Direction.{Direction}
+use Rattle.directions.specs.declared.direction.Direction.TheVariants.{Forward, Backward}
 use Rattle.motion_keys.specs.declared.char_moves.CharSearch.{CharSearch}
 use Rattle.motion_keys.specs.declared.landmarks.Place.{Place}
 use Rattle.motion_keys.specs.declared.landmarks.Place.TheVariants as place
@@ -101,8 +101,8 @@ keeps-acted key (action.SelectsObject extent) prefix who flat = keeps_own who _ 
 keeps-acted key action.Fills prefix who flat = keeps_own who _ flat
 keeps-acted key (action.Inserts entry) prefix who flat = keeps_entry entry prefix.register who flat
 keeps-acted key (action.Prompts purpose) prefix who flat = keeps_own who _ flat
-keeps-acted key (action.StepsToMatch toward) prefix who flat = keeps_same flat
-keeps-acted key (action.AddsMatch toward) prefix who flat = keeps_same flat
+keeps-acted key (action.StepsToMatch direction) prefix who flat = keeps_same flat
+keeps-acted key (action.AddsMatch direction) prefix who flat = keeps_same flat
 keeps-acted key (action.Remembers bounds) prefix who flat = keeps_set_row _ _ flat
 
 keeps-character : (search : CharSearch) (reach : Reach) (count who : ℕ) (c : Option ℕ) → KeepsIn (sought_character search reach count who c)

@@ -5,8 +5,8 @@ use Rattle.std.specs.Char.{digit_value, is_ascii_digit, is_ascii_uppercase, to_a
 use Rattle.key_names.specs.declared.key.Key.{Key}
 use Rattle.key_names.specs.declared.key.Base.{Base}
 use Rattle.key_names.specs.declared.key.Base.TheVariants as base
-use Rattle.motion_keys.specs.declared.direction.Direction.{Direction}
-use Rattle.motion_keys.specs.declared.direction.Direction.TheVariants.{Forward, Backward}
+use Rattle.directions.specs.declared.direction.Direction.{Direction}
+use Rattle.directions.specs.declared.direction.Direction.TheVariants.{Forward, Backward}
 use Rattle.motion_keys.specs.declared.char_moves.Until.{Until}
 use Rattle.motion_keys.specs.declared.char_moves.Until.TheVariants.{On, Before}
 use Rattle.motion_keys.specs.declared.words.WordMove.TheVariants.{Next as NextWord, End, Back}
@@ -20,15 +20,12 @@ use Rattle.undo_model.specs.declared.travel.Travel.TheVariants.{Undo, Redo}
 use Rattle.list_keys.specs.declared.cuts.Cut.TheVariants as cut
 use Rattle.list_keys.specs.declared.parts.Split.TheVariants as split
 use Rattle.list_keys.specs.declared.changes.ListChange.TheVariants as list
-use Rattle.kak_world.specs.declared.purpose.Toward.TheVariants.{Next, Former}
 use Rattle.kak_world.specs.declared.purpose.Use.{Use}
 use Rattle.kak_world.specs.declared.purpose.Use.TheVariants as pattern
 use Rattle.kak_world.specs.declared.purpose.Purpose.TheVariants.{Commands, Pattern}
 use Rattle.key_rows.specs.declared.patterns.Bounds.TheVariants.{Anywhere, AtWordEnds}
 use Rattle.key_rows.specs.declared.shapes.Shape.TheVariants as shape
 use Rattle.edit_ops.specs.declared.kinds.Put.TheVariants.{Before as PutBefore, After as PutAfter}
-use Rattle.edit_ops.specs.declared.kinds.Side.TheVariants.{Below, Above}
-use Rattle.edit_ops.specs.declared.kinds.Rotation.TheVariants.{Forward as RotateOn, Backward as RotateBack}
 use Rattle.edit_ops.specs.declared.kinds.Indent.TheVariants.{More, Less}
 use Rattle.key_rows.specs.declared.edits.Edit.TheVariants as edit
 use Rattle.key_rows.specs.declared.entries.InsertEntry.TheVariants as entry
@@ -112,17 +109,17 @@ signs =
     ∷ (code "a", action.Inserts entry.Behind)
     ∷ (code "I", action.Inserts entry.FirstLine)
     ∷ (code "A", action.Inserts entry.LastNewline)
-    ∷ (code "o", action.Inserts (entry.Open Below))
-    ∷ (code "O", action.Inserts (entry.Open Above))
+    ∷ (code "o", action.Inserts (entry.Open Forward))
+    ∷ (code "O", action.Inserts (entry.Open Backward))
     ∷ (code "c", action.Inserts entry.Cut)
     ∷ (34, action.ChoosesRegister)
     ∷ (code ":", action.Prompts Commands)
     ∷ (code "s", asks pattern.Select)
     ∷ (code "S", asks pattern.Split)
-    ∷ (code "/", asks (pattern.Search Next))
-    ∷ (code "?", asks (pattern.Reach Next))
-    ∷ (code "n", action.StepsToMatch Next)
-    ∷ (code "N", action.AddsMatch Next)
+    ∷ (code "/", asks (pattern.Search Forward))
+    ∷ (code "?", asks (pattern.Reach Forward))
+    ∷ (code "n", action.StepsToMatch Forward)
+    ∷ (code "N", action.AddsMatch Forward)
     ∷ (code "*", action.Remembers AtWordEnds)
     ∷ []
 
@@ -136,8 +133,8 @@ alt_signs =
     ∷ (code "C", action.Lists (list.Copied Backward))
     ∷ (code "d", action.Edits edit.Erase)
     ∷ (code "j", action.Edits edit.Join)
-    ∷ (code ")", action.Edits (edit.Rotate RotateOn))
-    ∷ (code "(", action.Edits (edit.Rotate RotateBack))
+    ∷ (code ")", action.Edits (edit.Rotate Forward))
+    ∷ (code "(", action.Edits (edit.Rotate Backward))
     ∷ (code "c", action.Inserts entry.Erase)
     ∷ (code "i", action.SelectsObject Inner)
     ∷ (code "a", action.SelectsObject Around)
@@ -145,10 +142,10 @@ alt_signs =
     ∷ (code "S", action.Lists (list.Split split.IntoEnds))
     ∷ (code "k", asks pattern.Keep)
     ∷ (code "K", asks pattern.Drop)
-    ∷ (code "/", asks (pattern.Search Former))
-    ∷ (code "?", asks (pattern.Reach Former))
-    ∷ (code "n", action.StepsToMatch Former)
-    ∷ (code "N", action.AddsMatch Former)
+    ∷ (code "/", asks (pattern.Search Backward))
+    ∷ (code "?", asks (pattern.Reach Backward))
+    ∷ (code "n", action.StepsToMatch Backward)
+    ∷ (code "N", action.AddsMatch Backward)
     ∷ (code "*", action.Remembers Anywhere)
     ∷ []
 

@@ -15,8 +15,8 @@ action_grows (Lists change) = change_adds change
 action_grows (Repeats what) = repeated_grows what
 action_grows (Edits edit) = true
 action_grows (Inserts entry) = edits_first entry
-action_grows (StepsToMatch toward) = true
-action_grows (AddsMatch toward) = true
+action_grows (StepsToMatch direction) = true
+action_grows (AddsMatch direction) = true
 action_grows (Remembers bounds) = true
 action_grows _ = false
 

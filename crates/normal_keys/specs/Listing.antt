@@ -3,7 +3,7 @@ use Rattle.std.specs.Prelude.{ℕ, nat_lt, if◌then◌else◌, None, Some}
 use Rattle.std.specs.declared.option.Option.{Option}
 use Rattle.text_model.specs.declared.TheConstants.{MAX_SELECTIONS}
 use Rattle.list_model.specs.Ranges.{Selected}
-use Rattle.motion_keys.specs.declared.direction.Direction.{Direction}
+use Rattle.directions.specs.declared.direction.Direction.{Direction}
 use Rattle.list_keys.specs.declared.changes.ListChange.{ListChange}
 use Rattle.list_keys.specs.Changes.{changed_list, made_count}
 use Rattle.list_keys.specs.Rows.{main_turned}

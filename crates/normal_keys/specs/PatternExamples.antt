@@ -6,7 +6,7 @@ use Rattle.list_model.specs.Ranges.{Range, only}
 use Rattle.kak_registers.specs.Contents.{strings_of}
 use Rattle.kak_world.specs.declared.own.Mode.TheVariants.{Prompt}
 use Rattle.kak_world.specs.declared.ask.Ask.TheVariants.{Make}
-use Rattle.kak_world.specs.declared.purpose.Toward.TheVariants.{Next, Former}
+use Rattle.directions.specs.declared.direction.Direction.TheVariants.{Forward, Backward}
 use Rattle.kak_world.specs.declared.purpose.Use.{Use}
 use Rattle.kak_world.specs.declared.purpose.Use.TheVariants.{Select, Split, Keep, Drop, Search, Reach, Step, Add}
 use Rattle.kak_world.specs.declared.purpose.Purpose.{Purpose}
@@ -39,21 +39,21 @@ pub record PromptingExamples : Type 0 where
   pub capital_s_splits : opened_by (key (Char 83)) ≡ Pattern Split
   pub alt_k_keeps : opened_by (alt 107) ≡ Pattern Keep
   pub alt_capital_k_drops : opened_by (alt 75) ≡ Pattern Drop
-  pub slash_searches : opened_by (key (Char 47)) ≡ Pattern (Search Next)
-  pub with_alt_it_searches_back : opened_by (alt 47) ≡ Pattern (Search Former)
-  pub question_mark_reaches : opened_by (key (Char 63)) ≡ Pattern (Reach Next)
-  pub with_alt_it_reaches_back : opened_by (alt 63) ≡ Pattern (Reach Former)
+  pub slash_searches : opened_by (key (Char 47)) ≡ Pattern (Search Forward)
+  pub with_alt_it_searches_back : opened_by (alt 47) ≡ Pattern (Search Backward)
+  pub question_mark_reaches : opened_by (key (Char 63)) ≡ Pattern (Reach Forward)
+  pub with_alt_it_reaches_back : opened_by (alt 63) ≡ Pattern (Reach Backward)
   pub it_is_a_prompt : mode_after (keys (codes "s")) ≡ Prompt
 
 -- the pattern that was looked for last
 pub record AgainExamples : Type 0 where
-  pub n_asks_for_it : row_after [] (key (Char 110)) (looking (codes "b" ∷ []) (codes "ab\n") (only 0)) ≡ asking (codes "b") (Step Next 0)
-  pub count_asks_more_often : row_after (keys (codes "3")) (key (Char 110)) (looking (codes "b" ∷ []) (codes "ab\n") (only 0)) ≡ asking (codes "b") (Step Next 2)
-  pub alt_n_asks_back : row_after [] (alt 110) (looking (codes "b" ∷ []) (codes "ab\n") (only 0)) ≡ asking (codes "b") (Step Former 0)
-  pub capital_n_adds : row_after (keys (codes "2")) (key (Char 78)) (looking (codes "b" ∷ []) (codes "ab\n") (only 0)) ≡ asking (codes "b") (Add Next 1)
-  pub alt_capital_n_adds_back : row_after [] (alt 78) (looking (codes "b" ∷ []) (codes "ab\n") (only 0)) ≡ asking (codes "b") (Add Former 0)
-  pub last_string_is_meant : row_after [] (key (Char 110)) (looking (codes "a" ∷ codes "b" ∷ []) (codes "ab\n") (only 0)) ≡ asking (codes "b") (Step Next 0)
-  pub none_is_the_empty_one : row_after [] (key (Char 110)) (looking [] (codes "ab\n") (only 0)) ≡ asking [] (Step Next 0)
+  pub n_asks_for_it : row_after [] (key (Char 110)) (looking (codes "b" ∷ []) (codes "ab\n") (only 0)) ≡ asking (codes "b") (Step Forward 0)
+  pub count_asks_more_often : row_after (keys (codes "3")) (key (Char 110)) (looking (codes "b" ∷ []) (codes "ab\n") (only 0)) ≡ asking (codes "b") (Step Forward 2)
+  pub alt_n_asks_back : row_after [] (alt 110) (looking (codes "b" ∷ []) (codes "ab\n") (only 0)) ≡ asking (codes "b") (Step Backward 0)
+  pub capital_n_adds : row_after (keys (codes "2")) (key (Char 78)) (looking (codes "b" ∷ []) (codes "ab\n") (only 0)) ≡ asking (codes "b") (Add Forward 1)
+  pub alt_capital_n_adds_back : row_after [] (alt 78) (looking (codes "b" ∷ []) (codes "ab\n") (only 0)) ≡ asking (codes "b") (Add Backward 0)
+  pub last_string_is_meant : row_after [] (key (Char 110)) (looking (codes "a" ∷ codes "b" ∷ []) (codes "ab\n") (only 0)) ≡ asking (codes "b") (Step Forward 0)
+  pub none_is_the_empty_one : row_after [] (key (Char 110)) (looking [] (codes "ab\n") (only 0)) ≡ asking [] (Step Forward 0)
 
 -- the main selection's text
 pub record RememberingExamples : Type 0 where

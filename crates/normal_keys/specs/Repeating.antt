@@ -2,8 +2,8 @@
 use Rattle.std.specs.Prelude.{ℕ, zero, suc, ◌+◌, Bool, true, false}
 use Rattle.std.specs.declared.option.Option.{Option}
 use Rattle.undo_model.specs.declared.travel.Travel.TheVariants.{Node}
-use Rattle.motion_keys.specs.declared.direction.Direction.{Direction}
-use Rattle.motion_keys.specs.declared.direction.Direction.TheVariants.{Forward, Backward}
+use Rattle.directions.specs.declared.direction.Direction.{Direction}
+use Rattle.directions.specs.declared.direction.Direction.TheVariants.{Forward, Backward}
 use Rattle.kak_world.specs.declared.ask.EditError.TheVariants.{NoSuchNode}
 use Rattle.kak_world.specs.Flat.{Flat, node_number_of}
 use Rattle.kak_world.specs.Rows.{RowEnd, does, fails}

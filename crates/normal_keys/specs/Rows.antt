@@ -80,8 +80,8 @@ acted key (action.SelectsObject extent) prefix who flat = does (waiting key pref
 acted key action.Fills prefix who flat = does (waiting key prefix.count who flat)
 acted key (action.Inserts entry) prefix who flat = enter_row entry prefix.register who flat
 acted key (action.Prompts purpose) prefix who flat = does (open_prompt purpose who flat)
-acted key (action.StepsToMatch toward) prefix who flat = asks_for_last (Step toward (prefix.count - 1)) flat
-acted key (action.AddsMatch toward) prefix who flat = asks_for_last (Add toward (prefix.count - 1)) flat
+acted key (action.StepsToMatch direction) prefix who flat = asks_for_last (Step direction (prefix.count - 1)) flat
+acted key (action.AddsMatch direction) prefix who flat = asks_for_last (Add direction (prefix.count - 1)) flat
 acted key (action.Remembers bounds) prefix who flat = main_remembered bounds who flat
 
 -- the character that a key without modifiers stands for

@@ -2,16 +2,15 @@
 use Rattle.std.specs.Prelude.{◌≡◌, ℕ, zero, suc, ◌+◌, ◌-◌, ◌<◌, max, None, Some}
 use Rattle.std.specs.declared.option.Option.{Option}
 use Rattle.undo_model.specs.declared.travel.Travel.TheVariants.{Node}
-use Rattle.undo_model.specs.Moves.{move_changes}
 use Rattle.key_names.specs.declared.key.Key.{Key}
 use Rattle.motion_keys.specs.declared.char_moves.CharSearch.{CharSearch}
-use Rattle.motion_keys.specs.declared.direction.Direction.{Direction}
-use Rattle.motion_keys.specs.declared.direction.Direction.TheVariants.{Forward, Backward}
+use Rattle.directions.specs.declared.direction.Direction.{Direction}
+use Rattle.directions.specs.declared.direction.Direction.TheVariants.{Forward, Backward}
 use Rattle.motion_keys.specs.declared.finding.Motion.TheVariants.{Character}
 use Rattle.motion_keys.specs.declared.finding.Reach.{Reach}
-use Rattle.kak_world.specs.Flat.{Flat, story_of, node_number_of, pending_of, units_of, with_units}
+use Rattle.kak_world.specs.Flat.{Flat, node_number_of, pending_of, units_of, with_units}
 use Rattle.kak_world.specs.Rows.{RowEnd}
-use Rattle.kak_world.specs.Changing.{IsCutOff}
+use Rattle.kak_world.specs.Changing.{IsMoveCutIn}
 use Rattle.key_rows.specs.Wanting.{IsPartOfPut, IsPartOfFill, IsPartOfEdit, IsPartOfEntry}
 use Rattle.normal_keys.specs.declared.prefixes.Prefix.{Prefix}
 use Rattle.normal_keys.specs.declared.actions.Action.{Action}
@@ -44,8 +43,8 @@ node_beside Forward n = n + 1
 
 -- one run came part of the way
 abbrev pub is_part_of_once : Repeated → Option ℕ → ℕ → Flat → Flat → Type 0
-is_part_of_once (repeated.Travels travel) register who old new = IsCutOff who (move_changes travel (story_of who old)) old new
-is_part_of_once (repeated.GoesToNode direction) register who old new = IsCutOff who (move_changes (Node (node_beside direction (node_number_of who old))) (story_of who old)) old new
+is_part_of_once (repeated.Travels travel) register who old new = IsMoveCutIn who travel old new
+is_part_of_once (repeated.GoesToNode direction) register who old new = IsMoveCutIn who (Node (node_beside direction (node_number_of who old))) old new
 is_part_of_once (repeated.Puts how) register who old new = IsPartOfPut how register who old new
 is_part_of_once _ register who old new = new ≡ old
 

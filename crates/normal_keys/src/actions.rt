@@ -3,12 +3,13 @@
 ghost use Rattle.std.specs.Prelude.{◌≡◌};
 ghost use Rattle.normal_keys.specs.Actions.{moves, seeks, asks, letter_action, alt_letter_action, sign_action, alt_sign_action, otherwise, reach_of, character_action, arrow_action, plain_action, control_action, alt_action, action_of};
 
-use edit_ops::{Indent, Put, Rotation, Side};
-use kak_world::{Purpose, Toward, Use};
+use directions::Direction;
+use edit_ops::{Indent, Put};
+use kak_world::{Purpose, Use};
 use key_names::{Base, Key};
 use key_rows::{Bounds, Edit, Extent, InsertEntry, Shape};
 use list_keys::{Cut, ListChange, Split};
-use motion_keys::{CharSearch, Direction, LinePart, Motion, Reach, Until, WordKind, WordMove};
+use motion_keys::{CharSearch, LinePart, Motion, Reach, Until, WordKind, WordMove};
 use undo_model::Travel;
 
 /// What is done as often as the count says.
@@ -58,9 +59,9 @@ pub enum Action {
     /// An empty prompt.
     Prompts(Purpose),
     /// The main selection becomes a match of the pattern that was looked for last, as often as the count says.
-    StepsToMatch(Toward),
+    StepsToMatch(Direction),
     /// A match of it is added as the new main selection, as often as the count says.
-    AddsMatch(Toward),
+    AddsMatch(Direction),
     /// The text of the main selection becomes the pattern that was looked for last.
     Remembers(Bounds),
 }
@@ -150,17 +151,17 @@ fn sign_action(c: char) -> Action
         'a' => Action::Inserts(InsertEntry::Behind),
         'I' => Action::Inserts(InsertEntry::FirstLine),
         'A' => Action::Inserts(InsertEntry::LastNewline),
-        'o' => Action::Inserts(InsertEntry::Open(Side::Below)),
-        'O' => Action::Inserts(InsertEntry::Open(Side::Above)),
+        'o' => Action::Inserts(InsertEntry::Open(Direction::Forward)),
+        'O' => Action::Inserts(InsertEntry::Open(Direction::Backward)),
         'c' => Action::Inserts(InsertEntry::Cut),
         '"' => Action::ChoosesRegister,
         ':' => Action::Prompts(Purpose::Commands),
         's' => asks(Use::Select),
         'S' => asks(Use::Split),
-        '/' => asks(Use::Search(Toward::Next)),
-        '?' => asks(Use::Reach(Toward::Next)),
-        'n' => Action::StepsToMatch(Toward::Next),
-        'N' => Action::AddsMatch(Toward::Next),
+        '/' => asks(Use::Search(Direction::Forward)),
+        '?' => asks(Use::Reach(Direction::Forward)),
+        'n' => Action::StepsToMatch(Direction::Forward),
+        'N' => Action::AddsMatch(Direction::Forward),
         '*' => Action::Remembers(Bounds::AtWordEnds),
         _ => Action::Nothing,
     }
@@ -178,8 +179,8 @@ fn alt_sign_action(c: char) -> Action
         'C' => Action::Lists(ListChange::Copied(Direction::Backward)),
         'd' => Action::Edits(Edit::Erase),
         'j' => Action::Edits(Edit::Join),
-        ')' => Action::Edits(Edit::Rotate(Rotation::Forward)),
-        '(' => Action::Edits(Edit::Rotate(Rotation::Backward)),
+        ')' => Action::Edits(Edit::Rotate(Direction::Forward)),
+        '(' => Action::Edits(Edit::Rotate(Direction::Backward)),
         'c' => Action::Inserts(InsertEntry::Erase),
         'i' => Action::SelectsObject(Extent::Inner),
         'a' => Action::SelectsObject(Extent::Around),
@@ -187,10 +188,10 @@ fn alt_sign_action(c: char) -> Action
         'S' => Action::Lists(ListChange::Split(Split::IntoEnds)),
         'k' => asks(Use::Keep),
         'K' => asks(Use::Drop),
-        '/' => asks(Use::Search(Toward::Former)),
-        '?' => asks(Use::Reach(Toward::Former)),
-        'n' => Action::StepsToMatch(Toward::Former),
-        'N' => Action::AddsMatch(Toward::Former),
+        '/' => asks(Use::Search(Direction::Backward)),
+        '?' => asks(Use::Reach(Direction::Backward)),
+        'n' => Action::StepsToMatch(Direction::Backward),
+        'N' => Action::AddsMatch(Direction::Backward),
         '*' => Action::Remembers(Bounds::Anywhere),
         _ => Action::Nothing,
     }

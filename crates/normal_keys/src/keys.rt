@@ -2,7 +2,7 @@
 #![tactic(auto, using(kak_world::proofs::WorldLaws::world_laws))]
 
 ghost use Rattle.std.specs.Prelude.{◌≡◌, ◌≤◌, true, length, IsErrOf};
-ghost use Rattle.kak_world.specs.Flat.{is_joined, sels_of, pending_of};
+ghost use Rattle.kak_world.specs.Flat.{acts, sels_of, pending_of};
 ghost use Rattle.kak_world.specs.Rows.{GivesRow, does};
 ghost use Rattle.key_rows.specs.Each.{each_changed};
 ghost use Rattle.normal_keys.specs.Rows.{open_prompt, go_to_line, acted, sought_character, chosen_register, answered, row_pending, row_normal};
@@ -25,7 +25,7 @@ use std::alloc::Global;
 
 // Does something to each selection once.
 fn change(alloc: Global, world: &mut World, who: u32, change: Each) -> Result<Ask, EditError>
-    requires { is_joined who world.old.flat ≡ true }
+    requires { acts who world.old.flat ≡ true }
     ensures row { GivesRow result world.new.flat (does (each_changed change who world.old.flat)) }
     ensures wanting { IsErrOf result EditError.NoMemory → world.new.flat ≡ world.old.flat }
     ensures few { length (sels_of who world.old.flat).list ≤ 4 → ¬ IsErrOf result EditError.NoMemory }
@@ -36,7 +36,7 @@ fn change(alloc: Global, world: &mut World, who: u32, change: Each) -> Result<As
 
 // Opens an empty prompt.
 fn begin_prompt(alloc: Global, world: &mut World, who: u32, purpose: Purpose)
-    requires { is_joined who world.old.flat ≡ true }
+    requires { acts who world.old.flat ≡ true }
     ensures { world.new.flat ≡ open_prompt purpose who world.old.flat }
 {
     let own = world.own_mut(who);
@@ -54,7 +54,7 @@ fn go(
     key: Key,
     reach: Reach,
 ) -> Result<Ask, EditError>
-    requires { is_joined who world.old.flat ≡ true }
+    requires { acts who world.old.flat ≡ true }
     ensures row { GivesRow result world.new.flat (does (go_to_line key reach count who world.old.flat)) }
     ensures wanting { IsErrOf result EditError.NoMemory → world.new.flat ≡ world.old.flat }
     ensures few { length (sels_of who world.old.flat).list ≤ 4 → ¬ IsErrOf result EditError.NoMemory }
@@ -76,7 +76,7 @@ fn act(
     key: Key,
     action: Action,
 ) -> Result<Ask, EditError>
-    requires { is_joined who world.old.flat ≡ true }
+    requires { acts who world.old.flat ≡ true }
     ensures row { GivesRow result world.new.flat (acted key action prefix who world.old.flat) }
     ensures wanting { IsErrOf result EditError.NoMemory → IsPartOfAction action prefix who world.old.flat world.new.flat }
     ensures few { length (sels_of who world.old.flat).list ≤ 4 → IsErrOf result EditError.NoMemory → action_grows action ≡ true }
@@ -112,11 +112,11 @@ fn act(
             begin_prompt(alloc, world, who, purpose);
             Ok(Ask::Nothing)
         }
-        Action::StepsToMatch(toward) => {
-            ask_for_last(alloc, world, Use::Step(toward, count.saturating_sub(1)))
+        Action::StepsToMatch(direction) => {
+            ask_for_last(alloc, world, Use::Step(direction, count.saturating_sub(1)))
         }
-        Action::AddsMatch(toward) => {
-            ask_for_last(alloc, world, Use::Add(toward, count.saturating_sub(1)))
+        Action::AddsMatch(direction) => {
+            ask_for_last(alloc, world, Use::Add(direction, count.saturating_sub(1)))
         }
         Action::Remembers(bounds) => {
             remember_main(alloc, world, who, bounds)?;
@@ -127,7 +127,7 @@ fn act(
 
 // Chooses a register for the next key, and leaves the count to it; a key that names none chooses none.
 fn choose_register(world: &mut World, who: u32, count: u32, name: Option<char>)
-    requires { is_joined who world.old.flat ≡ true }
+    requires { acts who world.old.flat ≡ true }
     ensures { does world.new.flat ≡ chosen_register count who name world.old.flat }
 {
     if let Some(name) = name {
@@ -145,7 +145,7 @@ fn seek(
     reach: Reach,
     c: Option<char>,
 ) -> Result<Ask, EditError>
-    requires { is_joined who world.old.flat ≡ true }
+    requires { acts who world.old.flat ≡ true }
     ensures row { GivesRow result world.new.flat (sought_character search reach count who c world.old.flat) }
     ensures wanting { IsErrOf result EditError.NoMemory → is_part_of_seeking search reach count who c world.old.flat world.new.flat }
     ensures few { length (sels_of who world.old.flat).list ≤ 4 → ¬ IsErrOf result EditError.NoMemory }
@@ -172,7 +172,7 @@ fn answer(
     waited: Action,
     key: Key,
 ) -> Result<Ask, EditError>
-    requires { is_joined who world.old.flat ≡ true }
+    requires { acts who world.old.flat ≡ true }
     ensures row { GivesRow result world.new.flat (answered waited key count who world.old.flat) }
     ensures wanting { IsErrOf result EditError.NoMemory → IsPartOfAnswer waited key count who world.old.flat world.new.flat }
     ensures few { length (sels_of who world.old.flat).list ≤ 4 → IsErrOf result EditError.NoMemory → answer_grows waited ≡ true }
@@ -212,7 +212,7 @@ fn run_pending(
     pending: Option<Key>,
     key: Key,
 ) -> Result<Ask, EditError>
-    requires { is_joined who world.old.flat ≡ true }
+    requires { acts who world.old.flat ≡ true }
     ensures row { GivesRow result world.new.flat (row_pending pending key prefix who world.old.flat) }
     ensures wanting { IsErrOf result EditError.NoMemory → IsPartOfKey pending key prefix who world.old.flat world.new.flat }
     ensures few { length (sels_of who world.old.flat).list ≤ 4 → IsErrOf result EditError.NoMemory → key_grows pending key ≡ true }
@@ -228,7 +228,7 @@ fn run_pending(
 /// due and no unit was left. For at most four selections, only a key that can change the text or add selections takes memory.
 #[tactic(auto, unfolding(crate::specs::Rows::row_normal), using(kak_world::proofs::WorldLaws::world_laws))]
 pub fn normal_key(alloc: Global, world: &mut World, who: u32, key: Key) -> Result<Ask, EditError>
-    requires { is_joined who world.old.flat ≡ true }
+    requires { acts who world.old.flat ≡ true }
     ensures row { GivesRow result world.new.flat (row_normal key who world.old.flat) }
     ensures wanting { IsErrOf result EditError.NoMemory → IsPartOfNormal key who world.old.flat world.new.flat }
     ensures few { length (sels_of who world.old.flat).list ≤ 4 → IsErrOf result EditError.NoMemory → key_grows (pending_of who world.old.flat) key ≡ true }

@@ -2,7 +2,7 @@
 #![tactic(auto, using(kak_world::proofs::WorldLaws::world_laws))]
 
 ghost use Rattle.std.specs.Prelude.{◌≡◌, ◌≤◌, true, length, IsErrOf};
-ghost use Rattle.kak_world.specs.Flat.{is_joined, sels_of};
+ghost use Rattle.kak_world.specs.Flat.{acts, sels_of};
 ghost use Rattle.kak_world.specs.Rows.{GivesRow};
 ghost use Rattle.list_keys.specs.Changes.{change_adds};
 ghost use Rattle.normal_keys.specs.Listing.{list_changed};
@@ -21,7 +21,7 @@ pub(crate) fn change_list(
     who: u32,
     change: ListChange,
 ) -> Result<Ask, EditError>
-    requires { is_joined who world.old.flat ≡ true }
+    requires { acts who world.old.flat ≡ true }
     ensures row { GivesRow result world.new.flat (list_changed change who world.old.flat) }
     ensures wanting { IsErrOf result EditError.NoMemory → world.new.flat ≡ world.old.flat }
     ensures few { length (sels_of who world.old.flat).list ≤ 4 → IsErrOf result EditError.NoMemory → change_adds change ≡ true }

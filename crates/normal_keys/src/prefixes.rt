@@ -2,7 +2,7 @@
 #![tactic(auto, using(kak_world::proofs::WorldLaws::world_laws))]
 
 ghost use Rattle.std.specs.Prelude.{◌≡◌, true};
-ghost use Rattle.kak_world.specs.Flat.{is_joined, pending_of};
+ghost use Rattle.kak_world.specs.Flat.{acts, pending_of};
 ghost use Rattle.normal_keys.specs.Rows.{with_digit, prefix_of, client_cleared, prefixed, waiting};
 
 use kak_world::World;
@@ -30,7 +30,7 @@ pub(crate) fn with_digit(count: u32, digit: u32) -> u32
 
 /// Takes what stands before a key of a client, and the key that waits, if one does.
 pub(crate) fn take_prefix(world: &mut World, who: u32) -> (Prefix, Option<Key>)
-    requires { is_joined who world.old.flat ≡ true }
+    requires { acts who world.old.flat ≡ true }
     ensures clears { world.new.flat ≡ client_cleared who world.old.flat }
     ensures prefix { result.0 ≡ prefix_of who world.old.flat }
     ensures pending { result.1 ≡ pending_of who world.old.flat }
@@ -49,7 +49,7 @@ pub(crate) fn take_prefix(world: &mut World, who: u32) -> (Prefix, Option<Key>)
 
 /// Gives a client a count, and a register or none.
 pub(crate) fn set_prefix(world: &mut World, who: u32, count: u32, register: Option<char>)
-    requires { is_joined who world.old.flat ≡ true }
+    requires { acts who world.old.flat ≡ true }
     ensures { world.new.flat ≡ prefixed count register who world.old.flat }
 {
     let own = world.own_mut(who);
@@ -59,7 +59,7 @@ pub(crate) fn set_prefix(world: &mut World, who: u32, count: u32, register: Opti
 
 /// Lets a key wait for the next one, with a count.
 pub(crate) fn wait(world: &mut World, who: u32, key: Key, count: u32)
-    requires { is_joined who world.old.flat ≡ true }
+    requires { acts who world.old.flat ≡ true }
     ensures { world.new.flat ≡ waiting key count who world.old.flat }
 {
     let own = world.own_mut(who);

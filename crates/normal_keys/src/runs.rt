@@ -3,7 +3,7 @@
 
 ghost use Rattle.std.specs.Prelude.{◌≡◌, ◌≤◌, true, false, None, length, IsOk, IsErrOf};
 ghost use Rattle.kak_world.specs.declared.ask.EditError.TheVariants.{NoMemory};
-ghost use Rattle.kak_world.specs.Flat.{is_joined, sels_of};
+ghost use Rattle.kak_world.specs.Flat.{acts, sels_of};
 ghost use Rattle.kak_world.specs.Rows.{Answers, GivesRow};
 ghost use Rattle.normal_keys.specs.Running.{runs};
 ghost use Rattle.normal_keys.specs.Listing.{main_moved};
@@ -12,16 +12,16 @@ ghost use Rattle.normal_keys.specs.Wanting.{is_part_of_once, ArePartOfKey};
 
 use crate::actions::Repeated;
 use crate::prefixes::Prefix;
+use directions::Direction;
 use kak_world::{Ask, EditError, World};
 use key_rows::{Each, change_each, put};
 use list_keys::main_beside;
-use motion_keys::Direction;
 use std::alloc::Global;
 use undo_model::Travel;
 
 // Another selection becomes the main one.
 fn turn_main(world: &mut World, who: u32, direction: Direction)
-    requires { is_joined who world.old.flat ≡ true }
+    requires { acts who world.old.flat ≡ true }
     ensures { world.new.flat ≡ main_moved direction who world.old.flat }
 {
     let main = main_beside(world.sels(who), direction);
@@ -35,7 +35,7 @@ fn go_to_node(
     who: u32,
     direction: Direction,
 ) -> Result<(), EditError>
-    requires { is_joined who world.old.flat ≡ true }
+    requires { acts who world.old.flat ≡ true }
     ensures row { Answers result world.new.flat (node_row direction who world.old.flat) }
     ensures wanting { IsErrOf result NoMemory → is_part_of_once (Repeated.GoesToNode direction) None who world.old.flat world.new.flat }
 {
@@ -60,7 +60,7 @@ fn run_once(
     register: Option<char>,
     what: Repeated,
 ) -> Result<(), EditError>
-    requires { is_joined who world.old.flat ≡ true }
+    requires { acts who world.old.flat ≡ true }
     ensures row { Answers result world.new.flat (once what register who world.old.flat) }
     ensures wanting { IsErrOf result NoMemory → is_part_of_once what register who world.old.flat world.new.flat }
     ensures few { repeated_grows what ≡ false → length (sels_of who world.old.flat).list ≤ 4 → IsOk result }
@@ -90,7 +90,7 @@ pub(crate) fn run_often(
     prefix: Prefix,
     what: Repeated,
 ) -> Result<Ask, EditError>
-    requires { is_joined who world.old.flat ≡ true }
+    requires { acts who world.old.flat ≡ true }
     ensures row { GivesRow result world.new.flat (runs prefix.count (once what prefix.register who) world.old.flat) }
     ensures wanting { IsErrOf result NoMemory → ArePartOfKey what prefix.count prefix.register who world.old.flat world.new.flat }
     ensures few { repeated_grows what ≡ false → length (sels_of who world.old.flat).list ≤ 4 → ¬ IsErrOf result EditError.NoMemory }

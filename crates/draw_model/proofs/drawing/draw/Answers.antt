@@ -38,22 +38,22 @@ returns c =
     let is_mode : c.own-own.result.now.mode ≡ mode = ap (λ (o : Own). o.mode) c.own-own.ensures in
     let lines : c.in_ok-draw_lines.field-0 ≡ drawn_lines tabstop text sels (view_of who flat) =
     c.in_ok-draw_lines.ensures
-    ∙ ap (λ t. drawn_lines c.tabstop-tabstop.result t (selected t c.sels-sels.result.now) (window_seen c.window-window.result)) c.lines.ensures
-    ∙ ap₂ (λ s v. drawn_lines c.tabstop-tabstop.result text s v) (sym c.sels-sels.ensures.sels) c.window-window.ensures
-    ∙ ap (λ n. drawn_lines n text sels (view_of who flat)) c.tabstop-tabstop.ensures.value in
+    ∙ ap (λ t. drawn_lines c.args.tabstop.columns t (selected t c.sels-sels.result.now) (window_seen c.window-window.result)) c.lines.ensures
+    ∙ ap₂ (λ s v. drawn_lines c.args.tabstop.columns text s v) (sym c.sels-sels.ensures.sels) c.window-window.ensures
+    ∙ ap (λ n. drawn_lines n text sels (view_of who flat)) c.requires.tabstop in
     let status : c.in_ok-draw_status.field-0 ≡ record { atoms = atoms_of (status_line mode (status_of who flat) (purpose_of who flat) (prompt_of who flat)) } =
     c.in_ok-draw_status.ensures
     ∙ ap₂ (λ m (o : Own). line_of (status_line m o.status o.purpose o.prompt)) is_mode c.own-own.ensures in
     let mode_line : c.in_ok-draw_mode.field-0 ≡ line_of (mode_shown (name_of who flat) (main_cursor text sels) mode sels (number_of who flat)) =
     c.in_ok-draw_mode.ensures sels (ap (λ (s : Selected). s.main) c.sels-sels.ensures.sels)
     (ap (λ (s : Selected). length s.list) c.sels-sels.ensures.sels ∙ ranges-length text c.sels-sels.result.now.list)
-    ∙ ap₂ (λ a m. line_of (mode_shown c.buffer_name.result.now a m sels c.number.result)) c.find_cursor-main.ensures.at is_mode
+    ∙ ap₂ (λ a m. line_of (mode_shown c.buffer_name.result.now a m sels c.number.result)) c.requires.at is_mode
     ∙ ap₂ (λ b n. line_of (mode_shown b (main_cursor text sels) mode sels n)) c.buffer_name.ensures c.number.ensures in
     let cursor : c.in_ok-cursor_of.field-0 ≡ cursor_drawn tabstop mode (main_cursor text sels).line (main_column tabstop text sels) (view_of who flat) (purpose_of who flat) (prompt_of who flat) =
     c.in_ok-cursor_of.ensures.value
-    ∙ ap₂ (λ m (a : Coord). cursor_drawn c.tabstop-tabstop.result m a.line c.find_cursor-main.result.column (window_seen c.window-window.result) c.own-own.result.now.purpose c.own-own.result.now.prompt) is_mode c.find_cursor-main.ensures.at
-    ∙ ap₂ (λ k v. cursor_drawn c.tabstop-tabstop.result mode (main_cursor text sels).line k v c.own-own.result.now.purpose c.own-own.result.now.prompt) c.find_cursor-main.ensures.column c.window-window.ensures
-    ∙ ap₂ (λ n (o : Own). cursor_drawn n mode (main_cursor text sels).line (main_column tabstop text sels) (view_of who flat) o.purpose o.prompt) c.tabstop-tabstop.ensures.value c.own-own.ensures in
+    ∙ ap₂ (λ m (a : Coord). cursor_drawn c.args.tabstop.columns m a.line c.args.main.column (window_seen c.window-window.result) c.own-own.result.now.purpose c.own-own.result.now.prompt) is_mode c.requires.at
+    ∙ ap₂ (λ k v. cursor_drawn c.args.tabstop.columns mode (main_cursor text sels).line k v c.own-own.result.now.purpose c.own-own.result.now.prompt) c.requires.column c.window-window.ensures
+    ∙ ap₂ (λ n (o : Own). cursor_drawn n mode (main_cursor text sels).line (main_column n text sels) (view_of who flat) o.purpose o.prompt) c.requires.tabstop c.own-own.ensures in
     let a : Drawing = record {
       first = not c.own-own.result.now.drawn;
       lines = c.in_ok-draw_lines.field-0;

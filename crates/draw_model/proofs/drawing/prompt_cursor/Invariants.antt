@@ -4,4 +4,4 @@ use Rattle.draw_model.specs.Drawings.{prompt_column}
 use Rattle.draw_model.proofs.drawing.prompt_cursor.Given as goal
 
 abbrev pub invariant-loop-c : goal.invariant-loop-c
-invariant-loop-c l = l.column ≡ prompt_column l.tabstop l.fn.purpose (take l.c-index l.before)
+invariant-loop-c l = l.column ≡ prompt_column l.tabstop.columns l.fn.purpose (take l.c-index l.before)

@@ -3,17 +3,17 @@ use Rattle.std.proofs.Common.{◌≡◌, [], ◌∷◌, refl, arith}
 use Rattle.std.specs.Prelude.{decimal}
 use Rattle.std.proofs.lemmas.Fmt.{decimal_digit}
 use Rattle.unicode_width.proofs.Computing.{unicode_width}
-use Rattle.kak_world.specs.Flat.{client_of, shown_of, buffer_of, list_of, own_of, number_of, name_of, text_of, sels_of, view_of, tabstop_of, indentwidth_of, options_of, with_own, with_list_of, with_sels, with_view, joined_by}
+use Rattle.kak_world.specs.Flat.{client_of, shown_of, buffer_of, list_of, own_of, number_of, name_of, text_of, sels_of, view_of, tabstop_of, indentwidth_of, with_own, with_list_of, with_sels, with_corner, joined_by, rest_of}
 use Rattle.draw_model.specs.Drawings.{drawing_of}
 use Rattle.draw_model.specs.Examples.{PlaceExamples}
 use Rattle.draw_model.proofs.laws.worked_examples.Goals as goal
 
 places : PlaceExamples
-unfolding unicode_width client_of shown_of buffer_of list_of own_of number_of name_of text_of sels_of view_of tabstop_of indentwidth_of options_of with_own with_list_of with_sels with_view joined_by
+unfolding unicode_width client_of shown_of buffer_of list_of own_of number_of name_of text_of sels_of view_of tabstop_of indentwidth_of rest_of with_own with_list_of with_sels with_corner joined_by
 places = search
 
 pub returns : goal.returns
-unfolding drawing_of unicode_width client_of shown_of buffer_of list_of own_of number_of name_of text_of sels_of view_of tabstop_of indentwidth_of options_of with_own with_list_of with_sels with_view joined_by
+unfolding drawing_of unicode_width client_of shown_of buffer_of list_of own_of number_of name_of text_of sels_of view_of tabstop_of indentwidth_of rest_of with_own with_list_of with_sels with_corner joined_by
 returns c =
     let zero : decimal 0 ≡ 48 ∷ [] = decimal_digit 0 (omega arith) in
     let one : decimal 1 ≡ 49 ∷ [] = decimal_digit 1 (omega arith) in

@@ -5,8 +5,8 @@ use Rattle.kak_world.specs.declared.own.Own.{Own}
 use Rattle.kak_world.specs.Flat.{own_of}
 use Rattle.kak_world.specs.Registers.{set_row}
 use Rattle.kak_world.specs.Rows.{row_of}
-use Rattle.kak_world.proofs.WorldLaws.{own_registers}
-use Rattle.insert_prompt.proofs.AcceptLemmas.{typed_strings, kept-set, kept-refused, refused-joined}
+use Rattle.kak_world.proofs.WorldLaws.{own_rest}
+use Rattle.insert_prompt.proofs.AcceptLemmas.{typed_strings, kept-set, kept-refused, refused-acts}
 use Rattle.insert_prompt.proofs.prompts.keep_typed.Goals as goal
 
 pub returns-in-Ok-clause-row : goal.returns-in-Ok-clause-row
@@ -20,11 +20,11 @@ pub returns-in-Ok-clause-typed : goal.returns-in-Ok-clause-typed
 returns-in-Ok-clause-typed c =
     let who = c.args.who in
     let flat = c.args.world.now.flat in
-    let same : own_of who c.set_register.new.self.flat ≡ own_of who flat = ap (own_of who) c.in-Ok.ensures.sets ∙ own_registers who _ flat in
+    let same : own_of who c.set_register.new.self.flat ≡ own_of who flat = ap (own_of who) c.in-Ok.ensures.sets ∙ own_rest who _ flat in
     c.of_vec.ensures ∙ c.into_vec.ensures ∙ ap whole c.leave-typed.ensures.typed ∙ ap (λ (o : Own). whole o.prompt) same
 
 pub refuse-requires : goal.refuse-requires
-refuse-requires c = refused-joined c.in-Err.error c.args.name c.push.new.self c.args.who c.args.world.now.flat c.set_register.new.self.flat c.in-Err.ensures.row (λ e. c.in-Err.ensures.wanting (ap Err e)) ∙ c.requires
+refuse-requires c = refused-acts c.in-Err.error c.args.name c.push.new.self c.args.who c.args.world.now.flat c.set_register.new.self.flat c.in-Err.ensures.row (λ e. c.in-Err.ensures.wanting (ap Err e)) ∙ c.requires
 
 pub returns-in-Err-clause-row : goal.returns-in-Err-clause-row
 returns-in-Err-clause-row c =

@@ -15,4 +15,4 @@ returns-in-Err-TooLong-clause-refused c =
     ap (λ (x : Selected). shares_line (text_of c.args.who flat) x.list) c.sels.ensures.sels
     ∙ subst (λ t. shares_line t (ranges_of t c.sels.result.now.list) ≡ false) c.lines-lines.ensures (false-by _ (λ e. absurd (let no : AlignError.TooLong ≡ AlignError.SameLine = ap (error-of AlignError.TooLong) (sym (ap Err c.in-Err-TooLong.field-0-is) ∙ c.in-Err-TooLong.ensures.same_line.1 e) in cc))) in
     long-fails c.long_refusal.result c.args.who flat _ c.long_refusal.ensures
-    (align-fails c.args.who flat apart (crowded-aligns c.args.who flat c.lines-lines.result.now c.sels.result.now c.tabstop.result c.lines-lines.ensures c.sels.ensures.sels c.tabstop.ensures.value c.sels.ensures.held c.is_stored.ensures (c.in-Err-TooLong.ensures.long.0 (ap Err c.in-Err-TooLong.field-0-is)).1))
+    (align-fails c.args.who flat apart (crowded-aligns c.args.who flat c.lines-lines.result.now c.sels.result.now c.tabstop.result.columns c.lines-lines.ensures c.sels.ensures.sels c.tabstop.ensures.value c.sels.ensures.held c.is_stored.ensures (c.in-Err-TooLong.ensures.long.0 (ap Err c.in-Err-TooLong.field-0-is)).1))

@@ -15,7 +15,7 @@ loop-n-init c =
     let ls : List (List ℕ) = lines_of c.args.lines.now in
     record {
       lines = c.new-drawn.ensures
-          ∙ ap (λ n. drawn_from c.args.tabstop (selected c.args.lines.now c.args.sels.now) (window_seen c.args.window) (length (joined (take c.min-top.result ls))) (take n (drop c.min-top.result ls))) (sym z);
+          ∙ ap (λ n. drawn_from c.args.tabstop.columns (selected c.args.lines.now c.args.sels.now) (window_seen c.args.window) (length (joined (take c.min-top.result ls))) (take n (drop c.min-top.result ls))) (sym z);
       before = tt;
       none = c.new-atoms.ensures;
     }
@@ -25,7 +25,7 @@ loop-n-preserved c = record {
   lines =
       c.in_ok-push.ensures.ok
       ∙ ap₂ (λ a b. a ++ b ∷ []) c.loop-n.invariant.lines c.in_ok-draw_line.ensures.drawn
-      ∙ window-more c.args.tabstop (selected c.args.lines.now c.args.sels.now) (window_seen c.args.window) (lines_of c.args.lines.now) c.min-top.result c.loop-n.n c.loop-n.auto.n (omega (arith, c.line_count-count.ensures.value));
+      ∙ window-more c.args.tabstop.columns (selected c.args.lines.now c.args.sels.now) (window_seen c.args.window) (lines_of c.args.lines.now) c.min-top.result c.loop-n.n c.loop-n.auto.n (omega (arith, c.line_count-count.ensures.value));
   before = ends-next c.loop-n.n c.first_reaching-first.result c.args.sels.now.list (subst (λ list. AllByRecursion (EndsBefore c.loop-n.n) (take c.loop-n.first list) → AllByRecursion (EndsBefore c.loop-n.n) (take c.first_reaching-first.result list)) c.as_slice.ensures.value c.first_reaching-first.ensures.before c.loop-n.invariant.before);
   none = c.in_ok-draw_line.ensures.left;
 }
@@ -36,4 +36,4 @@ returns c =
     let m : c.min-below.result ≡ min (length (lines_of c.args.lines.now)) (c.min-top.result + c.args.window.rows) = c.min-below.ensures ∙ ap₂ (λ n k. min n (c.min-top.result + k)) c.line_count-count.ensures.value c.from.ensures in
     let n : c.loop-n.n ≡ min (length (lines_of c.args.lines.now)) (c.min-top.result + c.args.window.rows) = omega arith in
     c.loop-n.invariant.lines
-    ∙ window-all c.args.tabstop (selected c.args.lines.now c.args.sels.now) (window_seen c.args.window) (lines_of c.args.lines.now) c.min-top.result c.loop-n.n t n
+    ∙ window-all c.args.tabstop.columns (selected c.args.lines.now c.args.sels.now) (window_seen c.args.window) (lines_of c.args.lines.now) c.min-top.result c.loop-n.n t n

@@ -10,7 +10,7 @@ use Rattle.line_painting.proofs.window_lines.draw_lines.Given as goal
 
 abbrev pub invariant-loop-n : goal.invariant-loop-n
 invariant-loop-n l = record {
-  lines : l.drawn ≡ drawn_from l.tabstop (selected l.lines l.sels) (window_seen l.fn.window) (length (joined (take l.top (lines_of l.lines)))) (take (l.n - l.top) (drop l.top (lines_of l.lines)));
+  lines : l.drawn ≡ drawn_from l.fn.tabstop.columns (selected l.lines l.sels) (window_seen l.fn.window) (length (joined (take l.top (lines_of l.lines)))) (take (l.n - l.top) (drop l.top (lines_of l.lines)));
   before : AllByRecursion (EndsBefore l.n) (take l.first l.sels.list);
   none : l.atoms.atoms ≡ [];
 }

@@ -9,6 +9,6 @@ use Rattle.line_painting.proofs.window_lines.push_line.Given as goal
 
 abbrev pub invariant-loop-k : goal.invariant-loop-k
 invariant-loop-k l = record {
-  along : IsAlong l.frame.tabstop (selected l.lines l.sels) (window_seen l.frame.window) (offset l.lines (record { line = l.n; column = 0 })) (chars_of l.line) l.fn.atoms.atoms l.atoms.atoms l.k l.at l.column;
+  along : IsAlong l.frame.tabstop.columns (selected l.lines l.sels) (window_seen l.frame.window) (offset l.lines (record { line = l.n; column = 0 })) (chars_of l.line) l.fn.atoms.atoms l.atoms.atoms l.k l.at l.column;
   small : l.column ≤ 64 * l.at;
 }

@@ -3,7 +3,7 @@ use Rattle.std.specs.Str.{chars}
 use Rattle.unicode.proofs.CategoryComputing.{ucd_category}
 use Rattle.unicode.proofs.DerivedComputing.{ucd_derived}
 use Rattle.unicode_width.proofs.Computing.{unicode_width}
-use Rattle.kak_world.specs.Flat.{client_of, shown_of, buffer_of, list_of, own_of, text_of, sels_of, view_of, tabstop_of, indentwidth_of, options_of, units_of, registers_of, with_own, with_list_of, with_sels, with_units, with_registers}
+use Rattle.kak_world.specs.Flat.{client_of, shown_of, buffer_of, list_of, own_of, text_of, sels_of, view_of, tabstop_of, indentwidth_of, with_own, with_list_of, with_sels, rest_of, with_rest}
 use Rattle.kak_world.specs.Registers.{set_row}
 use Rattle.normal_keys.specs.Actions.{action_of}
 use Rattle.normal_keys.specs.Rows.{row_normal}
@@ -11,15 +11,15 @@ use Rattle.normal_keys.specs.PatternExamples.{PromptingExamples, AgainExamples, 
 use Rattle.normal_keys.proofs.laws.pattern_examples.Goals as goal
 
 prompts : PromptingExamples
-unfolding action_of row_normal client_of shown_of buffer_of list_of own_of text_of sels_of view_of tabstop_of indentwidth_of options_of units_of registers_of with_own with_list_of with_sels with_units with_registers set_row chars lib.Utf8.encode ucd_category ucd_derived unicode_width
+unfolding action_of row_normal client_of shown_of buffer_of list_of own_of text_of sels_of view_of tabstop_of indentwidth_of rest_of with_own with_list_of with_sels with_rest set_row chars lib.Utf8.encode ucd_category ucd_derived unicode_width
 prompts = search
 
 again : AgainExamples
-unfolding action_of row_normal client_of shown_of buffer_of list_of own_of text_of sels_of view_of tabstop_of indentwidth_of options_of units_of registers_of with_own with_list_of with_sels with_units with_registers set_row chars lib.Utf8.encode ucd_category ucd_derived unicode_width
+unfolding action_of row_normal client_of shown_of buffer_of list_of own_of text_of sels_of view_of tabstop_of indentwidth_of rest_of with_own with_list_of with_sels with_rest set_row chars lib.Utf8.encode ucd_category ucd_derived unicode_width
 again = search
 
 remembering : RememberingExamples
-unfolding action_of row_normal client_of shown_of buffer_of list_of own_of text_of sels_of view_of tabstop_of indentwidth_of options_of units_of registers_of with_own with_list_of with_sels with_units with_registers set_row chars lib.Utf8.encode ucd_category ucd_derived unicode_width
+unfolding action_of row_normal client_of shown_of buffer_of list_of own_of text_of sels_of view_of tabstop_of indentwidth_of rest_of with_own with_list_of with_sels with_rest set_row chars lib.Utf8.encode ucd_category ucd_derived unicode_width
 remembering = search
 
 pub returns : goal.returns
