@@ -15,9 +15,10 @@ use Rattle.serde_json.specs.Read.{read}
 use Rattle.key_names.specs.declared.key.Key as key
 use Rattle.key_names.specs.Reading.{read_text}
 use Rattle.drawings.specs.declared.refusal.Refusal.TheVariants.{Parse, Params}
-use Rattle.json_ui.specs.declared.request.LineError.{LineError}
-use Rattle.json_ui.specs.declared.request.LineError.TheVariants.{Refused, NoMemory}
-use Rattle.json_ui.specs.Requests.{item_texts, keys_then, keys_of_texts, keys_request, texts_request, texts_in, request_of, request_in, IsLineError}
+use Rattle.requests.specs.declared.request.LineError.{LineError}
+use Rattle.requests.specs.declared.request.LineError.TheVariants.{Refused, NoMemory}
+use Rattle.json_ui.specs.Requests.{item_texts, keys_then, keys_of_texts, keys_request, texts_request, texts_in, request_of, request_in}
+use Rattle.requests.specs.Reading.{IsLineError}
 use Rattle.json_ui.specs.Parameters.{texts_seen, IsParameterError}
 
 abbrev is_string : Value → Bool

@@ -4,8 +4,8 @@ use Rattle.serde_json.specs.declared.value.Value.{Value}
 use Rattle.serde_json.specs.View.{items_view}
 use Rattle.key_names.specs.declared.key.Key as key
 use Rattle.drawings.specs.declared.refusal.Refusal.TheVariants.{Parse, Key}
-use Rattle.json_ui.specs.declared.request.LineError.{LineError}
-use Rattle.json_ui.specs.declared.request.LineError.TheVariants.{Refused, NoMemory}
+use Rattle.requests.specs.declared.request.LineError.{LineError}
+use Rattle.requests.specs.declared.request.LineError.TheVariants.{Refused, NoMemory}
 use Rattle.serde_json.specs.Data.{Data, Items}
 use Rattle.serde_json.specs.Find.{get, as_array}
 use Rattle.serde_json.specs.Events.{items_len}

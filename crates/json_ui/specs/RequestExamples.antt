@@ -2,7 +2,7 @@
 use Rattle.std.specs.Prelude.{◌≡◌, [], ◌∷◌, Ok, Err, codes}
 use Rattle.key_names.specs.declared.key.Base.TheVariants.{Char, Esc}
 use Rattle.key_names.specs.Reading.{bare}
-use Rattle.json_ui.specs.declared.request.Request.TheVariants.{Nothing, Keys}
+use Rattle.requests.specs.declared.request.Request.TheVariants.{Nothing, Keys, Resize}
 use Rattle.drawings.specs.declared.refusal.Refusal.TheVariants.{Parse, Invalid, Method, Params, Key}
 use Rattle.json_ui.specs.Requests.{read_request}
 
@@ -27,3 +27,12 @@ pub record ReadExamples : Type 0 where
   pub second_key : read_request (codes "{\"jsonrpc\":\"2.0\",\"method\":\"keys\",\"params\":[\"ia\",\"<nope>\"]}") ≡ Err (Key 1)
   -- a parameter that is no string comes before any key
   pub no_string : read_request (codes "{\"jsonrpc\":\"2.0\",\"method\":\"keys\",\"params\":[\"<nope>\",true]}") ≡ Err Params
+  -- rows and columns, each brought into 1 to 1,000
+  pub size : read_request (codes "{\"jsonrpc\":\"2.0\",\"method\":\"resize\",\"params\":[10,80]}") ≡ Ok (Resize 10 80)
+  pub least_and_most : read_request (codes "{\"jsonrpc\":\"2.0\",\"method\":\"resize\",\"params\":[0,1001]}") ≡ Ok (Resize 1 1000)
+  pub no_size : read_request (codes "{\"jsonrpc\":\"2.0\",\"method\":\"resize\"}") ≡ Err Params
+  pub one_number : read_request (codes "{\"jsonrpc\":\"2.0\",\"method\":\"resize\",\"params\":[10]}") ≡ Err Params
+  pub three_numbers : read_request (codes "{\"jsonrpc\":\"2.0\",\"method\":\"resize\",\"params\":[10,80,1]}") ≡ Err Params
+  pub below_zero : read_request (codes "{\"jsonrpc\":\"2.0\",\"method\":\"resize\",\"params\":[-1,80]}") ≡ Err Params
+  pub number_in_quotes : read_request (codes "{\"jsonrpc\":\"2.0\",\"method\":\"resize\",\"params\":[10,\"80\"]}") ≡ Err Params
+  pub no_array : read_request (codes "{\"jsonrpc\":\"2.0\",\"method\":\"resize\",\"params\":10}") ≡ Err Params

@@ -1,18 +1,18 @@
 -- Which request a line is, or why it is refused.
-use Rattle.std.specs.Prelude.{◌≡◌, ℕ, ◌+◌, ◌==◌, ◌||◌, List, [], ◌∷◌, ◌++◌, length, Bool, false, nat_lt, if◌then◌else◌, Option, Some, None, option_map, option_and_then, Result, Ok, Err, codes}
+use Rattle.std.specs.Prelude.{◌≡◌, ℕ, ◌+◌, ◌==◌, ◌||◌, List, [], ◌∷◌, ◌++◌, length, Bool, false, nat_lt, if◌then◌else◌, Option, Some, None, is_some, option_map, option_and_then, Result, Ok, Err, codes}
 use Rattle.std.specs.List.{list_all}
 use Rattle.std.specs.Str.{bytes_eq, chars, is_utf8}
 use Rattle.serde_json.specs.Data.{Data, Items, no_items, item}
-use Rattle.serde_json.specs.Find.{get, as_str, as_array}
+use Rattle.serde_json.specs.Find.{get, at as parameter_at, as_str, as_array, as_number, as_u64}
 use Rattle.serde_json.specs.Read.{read}
 use Rattle.key_names.specs.declared.key.Key as key
 use Rattle.key_names.specs.Reading.{read_text}
-use Rattle.json_ui.specs.declared.request.Request.{Request}
-use Rattle.json_ui.specs.declared.request.Request.TheVariants.{Nothing, Keys}
+use Rattle.requests.specs.declared.request.Request.{Request}
+use Rattle.window_view.specs.Sizes.{within_bounds}
+use Rattle.requests.specs.declared.request.Request.TheVariants.{Nothing, Keys, Resize}
 use Rattle.drawings.specs.declared.refusal.Refusal.{Refusal}
 use Rattle.drawings.specs.declared.refusal.Refusal.TheVariants.{TooLong, Parse, Invalid, Method, Params, Key}
-use Rattle.json_ui.specs.declared.request.LineError.{LineError}
-use Rattle.json_ui.specs.declared.request.LineError.TheVariants.{Refused, NoMemory}
+use Rattle.requests.specs.Reading.{Reads}
 
 -- how many bytes a line may have
 abbrev pub max_line : ℕ
@@ -62,11 +62,33 @@ abbrev pub texts_request : Option (List (List ℕ)) → Result Request Refusal
 texts_request None = Err Params
 texts_request (Some texts) = keys_request (keys_of_texts 0 texts)
 
+-- the whole number from 0 and below 2^64 that a parameter is, counted from 0, if it is one; a number that is written with a
+-- fraction or an exponent is none, and neither is `-0`
+abbrev pub whole_at : ℕ → Data → Option ℕ
+whole_at n parameters = option_and_then as_u64 (option_and_then as_number (parameter_at n parameters))
+
+-- the request of so many rows and columns, if both are numbers
+abbrev pub resize_request : Option ℕ → Option ℕ → Result Request Refusal
+resize_request None columns = Err Params
+resize_request (Some rows) None = Err Params
+resize_request (Some rows) (Some columns) = Ok (Resize (within_bounds rows) (within_bounds columns))
+
+-- the request of an array of two such numbers; of anything else the parameters don't fit
+abbrev pub size_request : Data → Result Request Refusal
+size_request parameters =
+    if is_some (parameter_at 2 parameters) then Err Params else resize_request (whole_at 0 parameters) (whole_at 1 parameters)
+
+-- the same of parameters that may be missing
+abbrev pub size_in : Option Data → Result Request Refusal
+size_in None = Err Params
+size_in (Some parameters) = size_request parameters
+
 -- the request of a method
 abbrev pub method_request : Option (List ℕ) → Data → Result Request Refusal
 method_request None value = Err Invalid
 method_request (Some method) value =
-    if bytes_eq method (codes "keys") then texts_request (texts_in (get (codes "params") value)) else Err Method
+    if bytes_eq method (codes "keys") then texts_request (texts_in (get (codes "params") value))
+    else (if bytes_eq method (codes "resize") then size_in (get (codes "params") value) else Err Method)
 
 -- the request of a JSON value
 abbrev pub value_request : Data → Result Request Refusal
@@ -84,11 +106,6 @@ abbrev pub request_in : List ℕ → Result Request Refusal
 request_in line = if is_utf8 line then request_of (read line) else Err Parse
 
 -- the request of a line, or the first refusal that holds
-abbrev pub read_request : List ℕ → Result Request Refusal
+abbrev pub read_request : Reads
 read_request line =
     if nat_lt max_line (length line) then Err TooLong else (if list_all is_blank line then Ok Nothing else request_in line)
-
--- what an error says of a line's reading
-abbrev pub IsLineError : LineError → Result Request Refusal → Type 0
-IsLineError (Refused refusal) reading = reading ≡ Err refusal
-IsLineError NoMemory reading = Unit {0}

@@ -5,17 +5,19 @@ ghost use Rattle.std.specs.Option.{option_copied};
 ghost use Rattle.std.specs.List.{list_all};
 ghost use Rattle.std.specs.Str.{chars, is_utf8};
 ghost use Rattle.serde_json.specs.View.{view, items_view};
-ghost use Rattle.serde_json.specs.Find.{as_str, get};
+ghost use Rattle.serde_json.specs.Find.{as_str, get, at};
 ghost use Rattle.serde_json.specs.Read.{read};
 ghost use Rattle.key_names.specs.Reading.{read_text};
 ghost use Rattle.json_ui.specs.Parameters.{IsParameterError, IsJsonError, HasFewParameters, texts_seen};
-ghost use Rattle.json_ui.specs.Requests.{is_blank, text_at, is_text, item_texts, texts_in, keys_request, keys_of_texts, texts_request, method_request, value_request, read_request, IsLineError};
+ghost use Rattle.json_ui.specs.Requests.{is_blank, text_at, is_text, item_texts, texts_in, keys_request, keys_of_texts, texts_request, whole_at, size_request, size_in, method_request, value_request, read_request};
+ghost use Rattle.requests.specs.Reading.{IsLineError};
 
-use crate::request::{LineError, Request};
 use drawings::Refusal;
 use key_names::{Key, KeyError, Keys, read_keys};
+use requests::{LineError, Request};
 use serde_json::Value;
 use std::alloc::{AllocError, Global};
+use window_view::within_bounds;
 
 /// How many bytes a line may have.
 pub const MAX_LINE: usize = 1_048_576;
@@ -116,6 +118,51 @@ fn read_parameters(alloc: Global, value: &Value) -> Result<Request, LineError>
     read_array(alloc, items)
 }
 
+// Whether there is a parameter of a number, counted from 0.
+fn has_parameter(parameters: &Value, n: usize) -> bool
+    ensures { result ≡ is_some (at n (view parameters.now)) }
+{
+    match parameters.get(n) {
+        Some(_) => true,
+        None => false,
+    }
+}
+
+// The whole number that a parameter is, counted from 0, if it is one.
+fn whole_at(parameters: &Value, n: usize) -> Option<u64>
+    ensures { result ≡ whole_at n (view parameters.now) }
+{
+    parameters.get(n).and_then(Value::as_u64)
+}
+
+// The request of the parameters of `resize`.
+fn read_size(parameters: &Value) -> Result<Request, LineError>
+    ensures request { IfOk result (λ r. size_request (view parameters.now) ≡ Ok r) }
+    ensures error { IfErr result (λ e. IsLineError e (size_request (view parameters.now))) }
+{
+    if has_parameter(parameters, 2) {
+        return Err(LineError::Refused(Refusal::Params));
+    }
+    let Some(rows) = whole_at(parameters, 0) else {
+        return Err(LineError::Refused(Refusal::Params));
+    };
+    let Some(columns) = whole_at(parameters, 1) else {
+        return Err(LineError::Refused(Refusal::Params));
+    };
+    Ok(Request::Resize(within_bounds(rows), within_bounds(columns)))
+}
+
+// The request of an object whose method is `resize`.
+fn read_resize(value: &Value) -> Result<Request, LineError>
+    ensures request { IfOk result (λ r. size_in (get (codes "params") (view value.now)) ≡ Ok r) }
+    ensures error { IfErr result (λ e. IsLineError e (size_in (get (codes "params") (view value.now)))) }
+{
+    match value.get("params") {
+        Some(parameters) => read_size(parameters),
+        None => Err(LineError::Refused(Refusal::Params)),
+    }
+}
+
 // The request of a JSON value.
 fn read_value(alloc: Global, value: &Value) -> Result<Request, LineError>
     requires { HasFewParameters (view value.now) }
@@ -128,6 +175,7 @@ fn read_value(alloc: Global, value: &Value) -> Result<Request, LineError>
     match text_at(value, "method") {
         None => Err(LineError::Refused(Refusal::Invalid)),
         Some("keys") => read_parameters(alloc, value),
+        Some("resize") => read_resize(value),
         Some(_) => Err(LineError::Refused(Refusal::Method)),
     }
 }

@@ -4,10 +4,11 @@
 
 mod decoding;
 mod examples;
-mod request;
+mod reader;
 
 pub use decoding::{MAX_LINE, decode_line};
 pub use drawings::{Atom, Atoms, Cursor, Drawing, DrawnLine, DrawnLines, Info, InfoBox, Refusal};
 pub use examples::read_examples;
 pub use json_writing::{encode_drawing, encode_refusal};
-pub use request::{LineError, Request};
+pub use reader::JsonReader;
+pub use requests::{LineError, Reader, Request};

@@ -4,16 +4,16 @@ use Rattle.std.specs.Prelude.{if◌then◌else◌, ◌&&◌, ◌==◌}
 use Rattle.std.specs.List.{AllByRecursion}
 use Rattle.std.proofs.lemmas.Bool.{eq-eqb}
 use Rattle.std.proofs.lemmas.List.{take-append-drop}
-use Rattle.session_events.specs.declared.event.Event.{Event}
-use Rattle.session_events.specs.declared.event.Event.TheVariants.{Join, Key as Struck, Refresh, Leave}
 use Rattle.session_events.specs.declared.event.Entry.{Entry}
-use Rattle.session_events.specs.Entries.{is_leave, AreOf}
+use Rattle.session_events.specs.declared.kind.Kind.{Kind}
+use Rattle.session_events.specs.declared.kind.Kind.TheVariants.{Coming, Doing, Drawing, Going}
+use Rattle.session_events.specs.Entries.{kind_of, is_going, is_leave, AreOf}
 use Rattle.session_events.specs.Legal.{Presence, Away, Gone, presence_after, may_make, presence_from, may_make_all, AreLeavings, IsLegal}
 
 -- where a client is, and what it may make, behind entries put together
 pub presence-append : (k : ℕ) (p : Presence) (a b : List Entry) → presence_from k p (a ++ b) ≡ presence_from k (presence_from k p a) b
 presence-append k p [] b = refl
-presence-append k p (e ∷ a) b = presence-append k (if e.who == k then presence_after e.event p else p) a b
+presence-append k p (e ∷ a) b = presence-append k (if e.who == k then presence_after (kind_of e.event) p else p) a b
 
 may-both : (x y z : Bool) → (x && y) ≡ true → (y ≡ true → z ≡ true) → (x && z) ≡ true
 may-both true y z e f = f e
@@ -21,10 +21,10 @@ may-both false y z e f = cc
 
 may-step : (k : ℕ) (e : Entry) (a b : List Entry) (p : Presence) (t : Bool)
     → ((q : Presence) → may_make_all k q a ≡ true → may_make_all k (presence_from k q a) b ≡ true → may_make_all k q (a ++ b) ≡ true)
-    → (if t then may_make p e.event && may_make_all k (presence_after e.event p) a else may_make_all k p a) ≡ true
-    → may_make_all k (presence_from k (if t then presence_after e.event p else p) a) b ≡ true
-    → (if t then may_make p e.event && may_make_all k (presence_after e.event p) (a ++ b) else may_make_all k p (a ++ b)) ≡ true
-may-step k e a b p true next l r = may-both (may_make p e.event) (may_make_all k (presence_after e.event p) a) (may_make_all k (presence_after e.event p) (a ++ b)) l (λ m. next (presence_after e.event p) m r)
+    → (if t then may_make p (kind_of e.event) && may_make_all k (presence_after (kind_of e.event) p) a else may_make_all k p a) ≡ true
+    → may_make_all k (presence_from k (if t then presence_after (kind_of e.event) p else p) a) b ≡ true
+    → (if t then may_make p (kind_of e.event) && may_make_all k (presence_after (kind_of e.event) p) (a ++ b) else may_make_all k p (a ++ b)) ≡ true
+may-step k e a b p true next l r = may-both (may_make p (kind_of e.event)) (may_make_all k (presence_after (kind_of e.event) p) a) (may_make_all k (presence_after (kind_of e.event) p) (a ++ b)) l (λ m. next (presence_after (kind_of e.event) p) m r)
 may-step k e a b p false next l r = next p l r
 
 pub may-append : (k : ℕ) (p : Presence) (a b : List Entry) → may_make_all k p a ≡ true → may_make_all k (presence_from k p a) b ≡ true → may_make_all k p (a ++ b) ≡ true
@@ -33,9 +33,9 @@ may-append k p (e ∷ a) b l r = may-step k e a b p (e.who == k) (λ q m s. may-
 
 -- and what it may make among the last of them
 may-step-behind : (k : ℕ) (e : Entry) (a b : List Entry) (p : Presence) (t : Bool) → ((q : Presence) → may_make_all k q (a ++ b) ≡ true → may_make_all k (presence_from k q a) b ≡ true)
-    → (if t then may_make p e.event && may_make_all k (presence_after e.event p) (a ++ b) else may_make_all k p (a ++ b)) ≡ true
-    → may_make_all k (presence_from k (if t then presence_after e.event p else p) a) b ≡ true
-may-step-behind k e a b p true next m = next (presence_after e.event p) (second (may_make p e.event) (may_make_all k (presence_after e.event p) (a ++ b)) m)
+    → (if t then may_make p (kind_of e.event) && may_make_all k (presence_after (kind_of e.event) p) (a ++ b) else may_make_all k p (a ++ b)) ≡ true
+    → may_make_all k (presence_from k (if t then presence_after (kind_of e.event) p else p) a) b ≡ true
+may-step-behind k e a b p true next m = next (presence_after (kind_of e.event) p) (second (may_make p (kind_of e.event)) (may_make_all k (presence_after (kind_of e.event) p) (a ++ b)) m)
   where
     second : (x y : Bool) → (x && y) ≡ true → y ≡ true
     second true y e = e
@@ -48,21 +48,21 @@ may-behind k p (e ∷ a) b m = may-step-behind k e a b p (e.who == k) (λ q n. m
 
 -- nobody makes anything behind its going
 gone-last : (k : ℕ) (p : Presence) (e f : Entry) (es : List Entry) → e.who ≡ k → f.who ≡ k → is_leave e.event ≡ true → may_make_all k p (e ∷ f ∷ es) ≡ true → ⊥
-gone-last k p e f es x y l m = not-both (may_make p e.event) (may_make_all k (presence_after e.event p) (f ∷ es)) (chosen (e.who == k) (eq-eqb e.who k x) m) (nothing e.event l)
+gone-last k p e f es x y l m = not-both (may_make p (kind_of e.event)) (may_make_all k (presence_after (kind_of e.event) p) (f ∷ es)) (chosen (e.who == k) (eq-eqb e.who k x) m) (nothing (kind_of e.event) l)
   where
-    chosen : (t : Bool) → t ≡ true → (if t then may_make p e.event && may_make_all k (presence_after e.event p) (f ∷ es) else may_make_all k p (f ∷ es)) ≡ true → (may_make p e.event && may_make_all k (presence_after e.event p) (f ∷ es)) ≡ true
+    chosen : (t : Bool) → t ≡ true → (if t then may_make p (kind_of e.event) && may_make_all k (presence_after (kind_of e.event) p) (f ∷ es) else may_make_all k p (f ∷ es)) ≡ true → (may_make p (kind_of e.event) && may_make_all k (presence_after (kind_of e.event) p) (f ∷ es)) ≡ true
     chosen true q m = m
     chosen false q m = cc
 
-    none : (t : Bool) → t ≡ true → (if t then false && may_make_all k (presence_after f.event Gone) es else may_make_all k Gone es) ≡ false
+    none : (t : Bool) → t ≡ true → (if t then false && may_make_all k (presence_after (kind_of f.event) Gone) es else may_make_all k Gone es) ≡ false
     none true q = refl
     none false q = cc
 
-    nothing : (event : Event) → is_leave event ≡ true → may_make_all k (presence_after event p) (f ∷ es) ≡ false
-    nothing Leave l = none (f.who == k) (eq-eqb f.who k y)
-    nothing Join l = cc
-    nothing (Struck key) l = cc
-    nothing (Refresh asked) l = cc
+    nothing : (kind : Kind) → is_going kind ≡ true → may_make_all k (presence_after kind p) (f ∷ es) ≡ false
+    nothing Going l = none (f.who == k) (eq-eqb f.who k y)
+    nothing Coming l = cc
+    nothing Doing l = cc
+    nothing Drawing l = cc
 
     not-both : (a b : Bool) → (a && b) ≡ true → b ≡ false → ⊥
     not-both true true e f = cc

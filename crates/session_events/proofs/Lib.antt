@@ -1,3 +1,4 @@
 pub mod CountingLemmas
 pub mod LegalLemmas
 pub mod MissingLemmas
+pub mod MeaningLemmas

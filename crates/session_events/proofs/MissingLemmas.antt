@@ -3,7 +3,8 @@ use Rattle.std.proofs.Common.{◌≡◌, ℕ, Bool, true, false, ◌||◌, List,
 use Rattle.std.specs.Prelude.{if◌then◌else◌, ◌&&◌, not, ◌==◌}
 use Rattle.std.specs.List.{list_any}
 use Rattle.session_events.specs.declared.event.Entry.{Entry}
-use Rattle.session_events.specs.Missing.{is_drawing, is_drawing_of, is_news, behind_drawing, has_news}
+use Rattle.session_events.specs.Entries.{is_drawing}
+use Rattle.session_events.specs.Missing.{is_drawing_of, is_news, behind_drawing, has_news}
 
 -- whether any of entries put together is of a kind
 any-append : {A : Type 0} (p : A → Bool) (a b : List A) → list_any p (a ++ b) ≡ (list_any p a || list_any p b)

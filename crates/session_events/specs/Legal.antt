@@ -1,10 +1,10 @@
 -- Which histories there can be.
 use Rattle.std.specs.Prelude.{◌≡◌, ℕ, Bool, true, false, not, ◌&&◌, ◌==◌, if◌then◌else◌, List, [], ◌∷◌, drop}
 use Rattle.std.specs.List.{AllByRecursion}
-use Rattle.session_events.specs.declared.event.Event.{Event}
-use Rattle.session_events.specs.declared.event.Event.TheVariants.{Join, Leave}
 use Rattle.session_events.specs.declared.event.Entry.{Entry}
-use Rattle.session_events.specs.Entries.{is_join, is_leave}
+use Rattle.session_events.specs.declared.kind.Kind.{Kind}
+use Rattle.session_events.specs.declared.kind.Kind.TheVariants.{Coming, Going}
+use Rattle.session_events.specs.Entries.{kind_of, is_coming, is_leave}
 use Rattle.session_events.specs.Counting.{AreNeverMore, most_here}
 
 -- Where a client is: it hasn't come yet, it is here, or it has gone.
@@ -17,29 +17,29 @@ abbrev pub is_here : Presence → Bool
 is_here Here = true
 is_here _ = false
 
--- where a client is after an event of its own
-abbrev pub presence_after : Event → Presence → Presence
-presence_after Join p = Here
-presence_after Leave p = Gone
+-- where a client is after an event of its own, of some kind
+abbrev pub presence_after : Kind → Presence → Presence
+presence_after Coming p = Here
+presence_after Going p = Gone
 presence_after _ p = p
 
--- whether a client may make an event: its coming is first and comes once, and nothing comes behind its going
-abbrev pub may_make : Presence → Event → Bool
-may_make Away event = is_join event
-may_make Here event = not (is_join event)
-may_make Gone event = false
+-- whether a client may make an event of some kind: its coming is first and comes once, and nothing comes behind its going
+abbrev pub may_make : Presence → Kind → Bool
+may_make Away kind = is_coming kind
+may_make Here kind = not (is_coming kind)
+may_make Gone kind = false
 
 -- where a client is behind some entries, from where it was before them
 abbrev pub presence_from : ℕ → Presence → List Entry → Presence
 presence_from who p [] = p
-presence_from who p (entry ∷ entries) = presence_from who (if entry.who == who then presence_after entry.event p else p) entries
+presence_from who p (entry ∷ entries) = presence_from who (if entry.who == who then presence_after (kind_of entry.event) p else p) entries
 
 -- whether a client may make all of its events among some entries, one after another
 abbrev pub may_make_all : ℕ → Presence → List Entry → Bool
 may_make_all who p [] = true
 may_make_all who p (entry ∷ entries) =
     if entry.who == who
-    then may_make p entry.event && may_make_all who (presence_after entry.event p) entries
+    then may_make p (kind_of entry.event) && may_make_all who (presence_after (kind_of entry.event) p) entries
     else may_make_all who p entries
 
 -- each entry is a client's going

@@ -1,18 +1,12 @@
 -- What a client of a session has missed.
 use Rattle.std.specs.Prelude.{◌≡◌, ℕ, Bool, true, false, not, ◌&&◌, ◌==◌, if◌then◌else◌, List, [], ◌∷◌, None, Some}
 use Rattle.std.specs.List.{list_any}
-use Rattle.session_events.specs.declared.event.Event.{Event}
-use Rattle.session_events.specs.declared.event.Event.TheVariants.{Refresh}
 use Rattle.session_events.specs.declared.event.Entry.{Entry}
+use Rattle.session_events.specs.Entries.{is_drawing}
 use Rattle.session_events.specs.Legal.{Away, is_here, presence_from}
 use Rattle.session_events.specs.Seats.{Seated}
 use Rattle.session_events.specs.declared.live.Missed.{Missed}
 use Rattle.session_events.specs.declared.live.Missed.TheVariants.{Nothing, Something, Broken}
-
--- an event is a drawing, whether or not it was asked for
-abbrev pub is_drawing : Event → Bool
-is_drawing (Refresh asked) = true
-is_drawing _ = false
 
 -- an entry is that client's drawing
 abbrev pub is_drawing_of : ℕ → Entry → Bool

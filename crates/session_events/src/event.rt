@@ -1,7 +1,7 @@
 //! What happens in a session, and what it gives.
 
-ghost use Rattle.std.specs.Prelude.{◌≡◌, None, false};
-ghost use Rattle.session_events.specs.Entries.{is_join, is_leave};
+ghost use Rattle.std.specs.Prelude.{◌≡◌};
+ghost use Rattle.session_events.specs.Meaning.{no_output};
 
 use byte_texts::Octets;
 use drawings::Drawing;
@@ -15,6 +15,8 @@ pub enum Event {
     Join,
     /// The client strikes a key.
     Key(Key),
+    /// The windows of the client have so many rows and columns from now on; each number is brought into 1 to 1,000.
+    Resize(u16, u16),
     /// The client is drawn; the flag says whether it asked to be.
     Refresh(bool),
     /// The client goes.
@@ -65,25 +67,11 @@ pub struct Output {
 impl Output {
     /// Nothing to draw, and no leave.
     pub fn nothing() -> Output
-        ensures { result ≡ record { drawing = None; leaving = false } }
+        ensures { result ≡ no_output }
     {
         Output {
             drawing: None,
             leaving: false,
         }
     }
-}
-
-/// Whether an event is a client's coming.
-pub fn is_join(event: Event) -> bool
-    ensures { result ≡ is_join event }
-{
-    matches!(event, Event::Join)
-}
-
-/// Whether an event is a client's going.
-pub fn is_leave(event: Event) -> bool
-    ensures { result ≡ is_leave event }
-{
-    matches!(event, Event::Leave)
 }

@@ -6,15 +6,17 @@
 pub mod event;
 pub mod examples;
 pub mod fault;
+pub mod kind;
 pub mod laws;
 pub mod limits;
 pub mod live;
 pub mod news;
 pub mod seat;
 
-pub use event::{Answered, Answers, Entry, Event, Output, is_join, is_leave};
+pub use event::{Answered, Answers, Entry, Event, Output};
 pub use fault::StepFault;
+pub use kind::{Kind, is_drawing, is_join, is_leave, kind_of};
 pub use limits::MAX_ENTRIES;
 pub use live::{LiveSeat, Missed};
-pub use news::{has_news, is_drawing};
+pub use news::has_news;
 pub use seat::{Seat, Seats};

@@ -1,16 +1,10 @@
 //! What stands behind a client's last drawing.
 
 ghost use Rattle.std.specs.Prelude.{◌≡◌};
-ghost use Rattle.session_events.specs.Missing.{is_drawing, has_news};
+ghost use Rattle.session_events.specs.Missing.{has_news};
 
-use crate::event::{Entry, Event};
-
-/// Whether an event is a drawing, asked for or not.
-pub fn is_drawing(event: Event) -> bool
-    ensures { result ≡ is_drawing event }
-{
-    matches!(event, Event::Refresh(_))
-}
+use crate::event::Entry;
+use crate::kind::is_drawing;
 
 /// Whether something to be drawn stands behind a client's last drawing. It looks back no further than to that drawing, or to the
 /// last entry that is something to be drawn.
@@ -19,7 +13,7 @@ pub fn has_news(history: &[Entry], who: u32) -> bool
 {
     let mut rest = history;
     while let Some((entry, before)) = rest.split_last() {
-        if !is_drawing(entry.event) {
+        if !is_drawing(&entry.event) {
             return true;
         }
         if entry.who == who {

@@ -30,16 +30,16 @@ pub trait Seat {
     ghost kept: { Self → Kept };
 
     /// Takes one event of the client, which is joined then, unless it left.
-    fn step(&mut self, alloc: Global, event: Event) -> Result<Output, StepFault>
+    fn step(&mut self, alloc: Global, event: &Event) -> Result<Output, StepFault>
         ensures meaning { IsMeaning gives }
         ensures same { IsSameSeat (seated self.old) (seated self.new) }
         ensures kept { kept self.new ≡ kept self.old }
         ensures legal { IsLegalSeat (seated self.new) }
-        ensures joined { OnOk result (is_leave event ≡ false → IsIn (seated self.new)) }
+        ensures joined { OnOk result (is_leave event.now ≡ false → IsIn (seated self.new)) }
         ensures stays { OnErr result (IsIn (seated self.old) → IsIn (seated self.new)) }
-        ensures ok { IfOk result (λ output. Steps gives (seated self.old) (seated self.new) event output) }
+        ensures ok { IfOk result (λ output. Steps gives (seated self.old) (seated self.new) event.now output) }
         ensures err { OnErr result (Sees gives (seated self.old) (seated self.new)) }
-        ensures why { IfErr result (λ fault. Refuses crowded fault (seated self.new) event) }
+        ensures why { IfErr result (λ fault. Refuses crowded fault (seated self.new) event.now) }
         ensures whole { StaysUnbroken result (seated self.new) }
         ensures marked { IfSome (seated self.old).mark (λ at. (seated self.new).mark ≡ Some at) }
         ensures broken { IfSome (seated self.old).mark (λ at. result ≡ Err (Broken at)) };

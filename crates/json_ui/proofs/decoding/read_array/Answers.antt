@@ -1,5 +1,5 @@
 use Rattle.std.proofs.Common.{Ok, sym, ap, ◌∙◌}
-use Rattle.json_ui.specs.declared.request.Request.TheVariants.{Keys}
+use Rattle.requests.specs.declared.request.Request.TheVariants.{Keys}
 use Rattle.json_ui.specs.Requests.{keys_request}
 use Rattle.json_ui.proofs.ParameterLemmas.{texts_request-none, texts_request-strings}
 use Rattle.json_ui.proofs.decoding.read_array.Goals as goal

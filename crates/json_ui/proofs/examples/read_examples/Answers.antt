@@ -22,4 +22,12 @@ returns c = record {
   last_counts = refl;
   second_key = refl;
   no_string = refl;
+  size = refl;
+  least_and_most = refl;
+  no_size = refl;
+  one_number = refl;
+  three_numbers = refl;
+  below_zero = refl;
+  number_in_quotes = refl;
+  no_array = refl;
 }

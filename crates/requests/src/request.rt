@@ -1,7 +1,7 @@
 //! What a line asks for, or why it asks for nothing.
 
 ghost use Rattle.std.specs.Prelude.{◌≡◌};
-ghost use Rattle.json_ui.specs.declared.request.LineError.TheVariants.{NoMemory};
+ghost use Rattle.requests.specs.declared.request.LineError.TheVariants.{NoMemory};
 
 use drawings::Refusal;
 use key_names::Keys;
@@ -15,6 +15,8 @@ pub enum Request {
     Nothing,
     /// These keys are pressed.
     Keys(Keys),
+    /// The windows of the client have so many rows and columns from now on, each number from 1 to 1,000.
+    Resize(u16, u16),
 }
 
 /// Why a line gives no request.
