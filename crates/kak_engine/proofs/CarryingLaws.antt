@@ -20,7 +20,8 @@ use Rattle.command_set.specs.Finishing.{row_finish}
 use Rattle.session_events.specs.declared.event.Answered.{Answered}
 use Rattle.kak_engine.specs.Answering.{as_read, as_put}
 use Rattle.kak_engine.specs.Asking.{Asked}
-use Rattle.kak_engine.specs.Doing.{DoingEnd, Fine, Failed, GivenUp, Moment, Outcome, Part, DoingPlace, Go, in_world, next_after, and_then, each, unit_of, with_unit, go_on, run_command, run_read, taken_as, next_as, asking, go_back, by_making, by_reading, by_writing, granted, do_ask, row_body, depth_of, do_within, Do}
+use Rattle.kak_engine.specs.Course.{Task, RunsCommand, UsesPattern, ShowsFile, NotesFile}
+use Rattle.kak_engine.specs.Doing.{DoingEnd, Fine, Failed, GivenUp, Moment, Outcome, Part, DoingPlace, Go, in_world, next_after, and_then, each, unit_of, with_unit, go_on, task_row, beginning, run_task, run_command, run_read, taken_as, next_as, asking, go_back, by_making, by_reading, by_writing, granted, do_ask, row_body, depth_of, do_within, Do}
 
 -- A relation of worlds before and after that holds of every row which may come in a step behind that of its key.
 pub record IsCarried (who : ℕ) (R : Flat → Flat → Type 0) : Type 0 where
@@ -61,7 +62,7 @@ keeps-row who R c go p end m all k = c.behind m.world end.world (go_on go p end 
 
 pub keeps-command : (who : ℕ) (R : Flat → Flat → Type 0) → IsCarried who R → (go : Go) (p : DoingPlace) (command : Command) → KeepsAll R go → Keeps R (run_command go who p command)
 keeps-command who R c go p command all m =
-    keeps-unit who R c (λ n. go_on go p (row_command command who n.world) n) (λ n. keeps-row who R c go p (row_command command who n.world) n all (c.commands command n.world)) m
+    keeps-unit who R c (run_task go who p (RunsCommand command)) (λ n. keeps-row who R c go p (row_command command who n.world) (beginning who (RunsCommand command) n) all (c.commands command n.world)) m
 
 pub keeps-commands : (who : ℕ) (R : Flat → Flat → Type 0) → IsCarried who R → (go : Go) (p : DoingPlace) (commands : List Command) → KeepsAll R go → Keeps R (each (run_command go who p) commands)
 keeps-commands who R c go p [] all m = c.same m.world
@@ -79,19 +80,19 @@ keeps-next : (who : ℕ) (R : Flat → Flat → Type 0) → IsCarried who R → 
 keeps-next who R c kind part [] k m = c.same m.world
 keeps-next who R c kind part (answer ∷ later) k m = keeps-taken who R c (kind answer) part later k m
 
-keeps-back : (who : ℕ) (R : Flat → Flat → Type 0) → IsCarried who R → {A : Type 0} (go : Go) (p : DoingPlace) (what : A → Flat → Asked) (row : A → Flat → RowEnd) → KeepsAll R go → ((x : A) (flat : Flat) → R flat (row x flat).world)
-    → (x : A) → Keeps R (go_back go p what row x)
-keeps-back who R c go p what row all k x m = keeps-row who R c go p (row x m.world) (asking (what x m.world) m) all (k x m.world)
+keeps-back : (who : ℕ) (R : Flat → Flat → Type 0) → IsCarried who R → {A : Type 0} (go : Go) (p : DoingPlace) (what : A → Flat → Asked) (task : A → Task) → KeepsAll R go → ((x : A) (flat : Flat) → R flat (task_row (task x) who flat).world)
+    → (x : A) → Keeps R (go_back go who p what task x)
+keeps-back who R c go p what task all k x m = keeps-row who R c go p (task_row (task x) who m.world) (beginning who (task x) (asking (what x m.world) m)) all (k x m.world)
 
 keeps-ask : (who : ℕ) (R : Flat → Flat → Type 0) → IsCarried who R → (go : Go) (p : DoingPlace) (ask : Ask) → KeepsAll R go → Keeps R (do_ask go who p ask)
 keeps-ask who R c go p Nothing all m = c.same m.world
 keeps-ask who R c go p (Commands text) all m = keeps-read who R c go p (commands_told text) all m
 keeps-ask who R c go p (Make wanted) all m =
-    keeps-next who R c _ (go_back go p (by_making (encode_utf8_all wanted.pattern)) (λ made flat. row_finish wanted.then made who flat)) m.answers (keeps-back who R c go p (by_making (encode_utf8_all wanted.pattern)) (λ made flat. row_finish wanted.then made who flat) all (λ made flat. c.finishes wanted.then made flat)) m
+    keeps-next who R c _ (go_back go who p (by_making (encode_utf8_all wanted.pattern)) (UsesPattern wanted.then)) m.answers (keeps-back who R c go p (by_making (encode_utf8_all wanted.pattern)) (UsesPattern wanted.then) all (λ made flat. c.finishes wanted.then made flat)) m
 keeps-ask who R c go p (Read name) all m =
-    keeps-next who R c as_read (go_back go p (by_reading name) (λ read flat. row_read name read who flat)) m.answers (keeps-back who R c go p (by_reading name) (λ read flat. row_read name read who flat) all (λ read flat. c.reads name read flat)) m
+    keeps-next who R c as_read (go_back go who p (by_reading name) (ShowsFile name)) m.answers (keeps-back who R c go p (by_reading name) (ShowsFile name) all (λ read flat. c.reads name read flat)) m
 keeps-ask who R c go p (Write saving) all m =
-    keeps-next who R c as_put (go_back go p (by_writing saving) (λ put flat. row_saved saving put who flat)) m.answers (keeps-back who R c go p (by_writing saving) (λ put flat. row_saved saving put who flat) all (λ put flat. c.saves saving put flat)) m
+    keeps-next who R c as_put (go_back go who p (by_writing saving) (NotesFile saving)) m.answers (keeps-back who R c go p (by_writing saving) (NotesFile saving) all (λ put flat. c.saves saving put flat)) m
 keeps-ask who R c go p Leave all m = c.leave m.world
 
 keeps-body : (who : ℕ) (R : Flat → Flat → Type 0) → IsCarried who R → (go : Go) (p : DoingPlace) (row : Row) → KeepsAll R go → Keeps R (row_body go who p row)

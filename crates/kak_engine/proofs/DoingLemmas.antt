@@ -11,15 +11,14 @@ use Rattle.kak_world.proofs.WorldLaws.{units_units}
 use Rattle.kak_world.specs.Rows.{Row, Asks, Fails, GivesUp, RowEnd}
 use Rattle.command_set.specs.Reading.{commands_told}
 use Rattle.command_set.specs.Rows.{row_command}
-use Rattle.command_set.specs.Files.{row_read, row_saved}
-use Rattle.command_set.specs.Finishing.{row_finish}
 use Rattle.command_set.proofs.CommandLaws.{command_units}
 use Rattle.command_set.proofs.FileLaws.{read_falls, saved_falls}
 use Rattle.command_set.proofs.FinishLaws.{finish_falls}
 use Rattle.session_events.specs.declared.event.Answered.{Answered}
 use Rattle.kak_engine.specs.Answering.{as_read, as_put}
 use Rattle.kak_engine.specs.Asking.{Asked}
-use Rattle.kak_engine.specs.Doing.{DoingEnd, Fine, Failed, GivenUp, Moment, Outcome, Part, DoingPlace, Go, in_world, next_after, and_then, each, unit_of, go_on, run_command, run_read, taken_as, next_as, asking, go_back, by_making, by_reading, by_writing, row_body, depth_of, do_within, Do}
+use Rattle.kak_engine.specs.Course.{Task, RunsCommand, UsesPattern, ShowsFile, NotesFile}
+use Rattle.kak_engine.specs.Doing.{DoingEnd, Fine, Failed, GivenUp, Moment, Outcome, Part, DoingPlace, Go, in_world, next_after, and_then, each, unit_of, task_row, beginning, run_task, run_command, run_read, taken_as, next_as, asking, go_back, by_making, by_reading, by_writing, row_body, depth_of, do_within, Do}
 use Rattle.kak_engine.proofs.CarryingLaws.{KeepsAll, keeps-command, carried-within}
 use Rattle.kak_engine.proofs.KeepingLaws.{TakesUnits, units-carried}
 use Rattle.kak_engine.proofs.StageLemmas.{few-stages}
@@ -30,12 +29,12 @@ AreOne bound f g = (p : DoingPlace) (row : Row) (m : Moment) → depth_of row m.
 
 -- a command takes a unit, so that what it asks for may nest less deep
 command-one : (f g : Go) (who : ℕ) (p : DoingPlace) (command : Command) (m : Moment) (units : ℕ) → AreOne (3 * units) f g
-    → unit_of units (λ n. go_on f p (row_command command who n.world) n) m ≡ unit_of units (λ n. go_on g p (row_command command who n.world) n) m
+    → unit_of units (run_task f who p (RunsCommand command)) m ≡ unit_of units (run_task g who p (RunsCommand command)) m
 command-one f g who p command m zero one = refl
 command-one f g who p command m (suc left) one =
     let end : RowEnd = row_command command who (with_units left m.world) in
     let same : units_of end.world ≡ left = command_units command who (with_units left m.world) ∙ units_units left m.world in
-    one p end.row (in_world end.world (in_world (with_units left m.world) m)) (omega (arith, same, few-stages end.row))
+    one p end.row (in_world end.world (beginning who (RunsCommand command) (in_world (with_units left m.world) m))) (omega (arith, same, few-stages end.row))
 
 behind-one : (e : DoingEnd) (x y : Part) (m : Moment) → x m ≡ y m → next_after e x m ≡ next_after e y m
 behind-one Fine x y m h = h
@@ -61,13 +60,13 @@ taken-one : {A : Type 0} (o : Option A) (x y : A → Part) (later : List Answere
 taken-one (Some a) x y later m h = h a
 taken-one None x y later m h = refl
 
-next-one : {A : Type 0} (f g : Go) (p : DoingPlace) (kind : Answered → Option A) (what : A → Flat → Asked) (row : A → Flat → RowEnd) (answers : List Answered) (m : Moment) → AreOne (3 * units_of m.world + 1) f g
-    → ((a : A) → depth_of (row a m.world).row (row a m.world).world < 3 * units_of m.world + 1)
-    → next_as kind (go_back f p what row) answers m ≡ next_as kind (go_back g p what row) answers m
-next-one f g p kind what row [] m one falls = refl
-next-one f g p kind what row (answer ∷ later) m one falls =
-    taken-one (kind answer) (go_back f p what row) (go_back g p what row) later m
-    (λ a. one p (row a m.world).row (in_world (row a m.world).world (asking (what a m.world) (record m { answers = later }))) (falls a))
+next-one : {A : Type 0} (f g : Go) (who : ℕ) (p : DoingPlace) (kind : Answered → Option A) (what : A → Flat → Asked) (task : A → Task) (answers : List Answered) (m : Moment) → AreOne (3 * units_of m.world + 1) f g
+    → ((a : A) → depth_of (task_row (task a) who m.world).row (task_row (task a) who m.world).world < 3 * units_of m.world + 1)
+    → next_as kind (go_back f who p what task) answers m ≡ next_as kind (go_back g who p what task) answers m
+next-one f g who p kind what task [] m one falls = refl
+next-one f g who p kind what task (answer ∷ later) m one falls =
+    taken-one (kind answer) (go_back f who p what task) (go_back g who p what task) later m
+    (λ a. one p (task_row (task a) who m.world).row (in_world (task_row (task a) who m.world).world (beginning who (task a) (asking (what a m.world) (record m { answers = later })))) (falls a))
 
 -- what a row asks for
 body-one : (f g : Go) (who : ℕ) (p : DoingPlace) (row : Row) (m : Moment) → KeepsAll TakesUnits f → AreOne (depth_of row m.world) f g → row_body f who p row m ≡ row_body g who p row m
@@ -76,9 +75,9 @@ body-one f g who p GivesUp m falls one = refl
 body-one f g who p (Asks Nothing) m falls one = refl
 body-one f g who p (Asks Leave) m falls one = refl
 body-one f g who p (Asks (Commands text)) m falls one = read-one f g who p (commands_told text) m falls (λ q row n low. one q row n (omega (arith, low)))
-body-one f g who p (Asks (Make wanted)) m falls one = next-one f g p _ (by_making (encode_utf8_all wanted.pattern)) (λ made flat. row_finish wanted.then made who flat) m.answers m one (λ made. finish_falls wanted.then made who m.world)
-body-one f g who p (Asks (Read name)) m falls one = next-one f g p as_read (by_reading name) (λ read flat. row_read name read who flat) m.answers m one (λ read. read_falls name read who m.world)
-body-one f g who p (Asks (Write saving)) m falls one = next-one f g p as_put (by_writing saving) (λ put flat. row_saved saving put who flat) m.answers m one (λ put. saved_falls saving put who m.world)
+body-one f g who p (Asks (Make wanted)) m falls one = next-one f g who p _ (by_making (encode_utf8_all wanted.pattern)) (UsesPattern wanted.then) m.answers m one (λ made. finish_falls wanted.then made who m.world)
+body-one f g who p (Asks (Read name)) m falls one = next-one f g who p as_read (by_reading name) (ShowsFile name) m.answers m one (λ read. read_falls name read who m.world)
+body-one f g who p (Asks (Write saving)) m falls one = next-one f g who p as_put (by_writing saving) (NotesFile saving) m.answers m one (λ put. saved_falls saving put who m.world)
 
 -- two bounds that are above how deep a row may nest
 within-one : (a b who : ℕ) (p : DoingPlace) (row : Row) (m : Moment) → depth_of row m.world < a → depth_of row m.world < b → do_within a who p row m ≡ do_within b who p row m

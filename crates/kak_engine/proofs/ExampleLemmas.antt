@@ -4,17 +4,17 @@ use Rattle.kak_files.specs.declared.files.FileRead.TheVariants as file
 use Rattle.kak_files.specs.Exchanges.{Read as WasRead}
 use Rattle.kak_world.specs.declared.ask.Ask.TheVariants.{Nothing, Make, Read as ToRead, Write}
 use Rattle.kak_world.specs.Rows.{Asks}
-use Rattle.command_set.specs.Files.{row_read}
 use Rattle.session_turns.specs.Growth.{Begins}
 use Rattle.session_events.specs.declared.event.Answered.TheVariants.{Read, NotThere, Wrote, WriteFailed, Built, Refused}
-use Rattle.kak_engine.specs.Asking.{Asked, OfFile}
-use Rattle.kak_engine.specs.Doing.{Outcome, top}
+use Rattle.kak_engine.specs.Asking.{OfFile}
+use Rattle.kak_engine.specs.Course.{ShowsFile, Happened, WasAsked}
+use Rattle.kak_engine.specs.Doing.{Outcome, Do, top}
 use Rattle.kak_engine.specs.Examples.{Examples}
 use Rattle.kak_engine.specs.Seen.{moment_of}
 use Rattle.kak_engine.proofs.DoingLemmas.{Do-body}
-use Rattle.kak_engine.proofs.EndLemmas.{grows-end}
+use Rattle.kak_engine.proofs.AskingLaws.{grows-task, grows-do}
 
-none-begins : (what : Asked) (rest l : List Asked) → l ≡ [] → l ≡ what ∷ rest → ⊥
+none-begins : (what : Happened) (rest l : List Happened) → l ≡ [] → l ≡ what ∷ rest → ⊥
 none-begins what rest [] e f = let no : [] ≡ what ∷ rest = f in cc
 none-begins what rest (x ∷ l) e f = let no : x ∷ l ≡ [] = e in cc
 
@@ -29,7 +29,7 @@ examples = record {
   unwritten = λ who saving flat later. Do-body who top (Asks (Write saving)) (moment_of [] (WriteFailed ∷ later) flat);
   not_written = λ who saving flat later. Do-body who top (Asks (Write saving)) (moment_of [] (NotThere ∷ later) flat);
   begun = λ who name bytes flat.
-      subst (λ (q : Outcome). Begins q.moment.asked (OfFile (WasRead name (file.Bytes bytes)) ∷ [])) (sym (Do-body who top (Asks (ToRead name)) (moment_of [] (Read bytes ∷ []) flat)))
-      (grows-end who (row_read name (file.Bytes bytes) who flat) (moment_of (OfFile (WasRead name (file.Bytes bytes)) ∷ []) [] flat));
-  unasked = λ who answers what flat b. none-begins what b.0 _ (ap (λ (q : Outcome). q.moment.asked) (Do-body who top (Asks Nothing) (moment_of [] answers flat))) b.1;
+      subst (λ (q : Outcome). Begins q.moment.course (WasAsked (OfFile (WasRead name (file.Bytes bytes))) ∷ [])) (sym (Do-body who top (Asks (ToRead name)) (moment_of [] (Read bytes ∷ []) flat)))
+      (grows-task (Do who) who top (ShowsFile name (file.Bytes bytes)) (grows-do who) (moment_of (WasAsked (OfFile (WasRead name (file.Bytes bytes))) ∷ []) [] flat));
+  unasked = λ who answers what flat b. none-begins what b.0 _ (ap (λ (q : Outcome). q.moment.course) (Do-body who top (Asks Nothing) (moment_of [] answers flat))) b.1;
 }

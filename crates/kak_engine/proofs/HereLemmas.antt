@@ -3,10 +3,10 @@ use Rattle.std.proofs.Common.{◌≡◌, ℕ, ◌+◌, ◌<◌, ◌≤◌, Bool,
 use Rattle.std.specs.Prelude.{if◌then◌else◌, not, ◌==◌, filter}
 use Rattle.std.proofs.lemmas.List.{map-append, length-map}
 use Rattle.session_events.specs.declared.event.Event.{Event}
-use Rattle.session_events.specs.declared.event.Event.TheVariants.{Join, Key as Struck, Refresh, Leave}
+use Rattle.session_events.specs.declared.event.Event.TheVariants.{Join, Key as Struck, Resize, Refresh, Leave}
 use Rattle.session_events.specs.declared.event.Answered.{Answered}
 use Rattle.session_events.specs.declared.event.Entry.{Entry}
-use Rattle.session_events.specs.Entries.{is_join, entry_with}
+use Rattle.session_events.specs.Entries.{kind_of, is_join, entry_with}
 use Rattle.session_events.specs.Counting.{here_after, here_from, here_among, AreNeverMore, most_here}
 use Rattle.session_events.proofs.CountingLemmas.{here-few, never-more, few-behind}
 use Rattle.kak_world.specs.declared.clients.Client.{Client}
@@ -14,7 +14,7 @@ use Rattle.kak_world.specs.declared.world.TheConstants.{MAX_CLIENTS}
 use Rattle.kak_world.specs.Flat.{Flat, opening, is_of, joined_by, left_by_client}
 use Rattle.kak_world.specs.Keeping.{whos_of}
 use Rattle.kak_engine.specs.Steps.{after_entry, after_event, run_from, run}
-use Rattle.kak_engine.proofs.KeepingLaws.{keeps_key, keeps_refresh}
+use Rattle.kak_engine.proofs.KeepingLaws.{keeps_key, keeps_resize, keeps_refresh}
 
 whos-come : (who : ℕ) (flat : Flat) → whos_of (joined_by who flat).clients ≡ whos_of flat.clients ++ who ∷ []
 unfolding joined_by
@@ -33,9 +33,10 @@ whos-go : (who : ℕ) (flat : Flat) → whos_of (left_by_client who flat).client
 unfolding left_by_client
 whos-go who flat = whos-left who flat.clients
 
-whos-after : (who : ℕ) (event : Event) (answers : List Answered) (flat : Flat) → whos_of (after_event who event answers flat).clients ≡ here_after who event (whos_of flat.clients)
+whos-after : (who : ℕ) (event : Event) (answers : List Answered) (flat : Flat) → whos_of (after_event who event answers flat).clients ≡ here_after who (kind_of event) (whos_of flat.clients)
 whos-after who Join answers flat = whos-come who flat
 whos-after who (Struck key) answers flat = (keeps_key who key answers flat).whos
+whos-after who (Resize rows columns) answers flat = (keeps_resize who rows columns flat).whos
 whos-after who (Refresh asked) answers flat = (keeps_refresh who flat).whos
 whos-after who Leave answers flat = whos-go who flat
 
@@ -50,7 +51,7 @@ here-count history = sym (ap length (whos-run opening history)) ∙ length-map (
 -- one entry more leaves no more clients here than may be, where who comes finds room
 pub few-more : (history : List Entry) (who : ℕ) (event : Event) (answers : List Answered) → AreNeverMore most_here [] history → (is_join event ≡ true → length (run history).clients < MAX_CLIENTS) → AreNeverMore most_here [] (history ++ entry_with who event answers ∷ [])
 few-more history who event answers few seat =
-    never-more most_here [] history (entry_with who event answers) few (here-few who event (here_among history) most_here (few-behind most_here [] history few) (λ j. less (here-count history) (seat j)))
+    never-more most_here [] history (entry_with who event answers) few (here-few who (kind_of event) (here_among history) most_here (few-behind most_here [] history few) (λ j. less (here-count history) (seat j)))
   where
     less : {a b : ℕ} → a ≡ b → b < MAX_CLIENTS → a + 1 ≤ most_here
     less e l = omega (arith, e, l)

@@ -127,15 +127,9 @@ opening-same exchanges (Some old) (Some new) l = ap (λ o. opened o new.spare) l
 opening-same exchanges None (Some new) l = absurd l
 opening-same exchanges (Some old) None l = absurd l
 
--- an event behind which memory was wanting, and one that was cut short before the outside was asked
-pub cut-behind : (who : ℕ) (event : Event) (answers : List Answered) (flat : Flat) (x y : Outside) → IsHonest answers (asked_by who event answers flat) x y → IsStepCutShort who event flat x y
-cut-behind who event answers flat x y h = record { answers = answers; asked = asked_by who event answers flat; begins = ([], sym (append-nil (asked_by who event answers flat))); honest = h }
-
+-- an event that was cut short before the outside was asked
 pub cut-before : (who : ℕ) (event : Event) (flat : Flat) (x y : Outside) → y ≡ x → IsStepCutShort who event flat x y
 cut-before who event flat x y same = record { answers = []; asked = []; begins = (asked_by who event [] flat, refl); honest = honest-same x y same }
-
-pub cut-still : (who : ℕ) (event : Event) (flat : Flat) (o : Outside) → IsStepCutShort who event flat o o
-cut-still who event flat o = cut-before who event flat o o refl
 
 -- no event was begun
 pub none-begun : (history : List Entry) (x y : Outside) → y ≡ x → IsBegunBehind history x y

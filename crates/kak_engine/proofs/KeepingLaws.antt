@@ -1,15 +1,17 @@
 -- No key makes a client come or go, and what a row asks for takes no unit back.
-use Rattle.std.proofs.Common.{◌≡◌, ℕ, suc, ◌≤◌, ◌<◌, ◌+◌, ◌*◌, Bool, true, false, List, refl, ◌∙◌, arith}
+use Rattle.std.proofs.Common.{◌≡◌, ℕ, suc, ◌≤◌, ◌<◌, ◌+◌, ◌*◌, Bool, true, false, List, refl, ap, ◌∙◌, arith}
 use Rattle.std.specs.Prelude.{if◌then◌else◌}
 use Rattle.key_names.specs.declared.key.Key.{Key}
+use Rattle.window_view.specs.Sizes.{sized}
 use Rattle.kak_world.specs.declared.own.Mode.{Mode}
 use Rattle.kak_world.specs.declared.own.Mode.TheVariants.{Normal, Insert, Prompt}
 use Rattle.kak_world.specs.declared.own.StatusText.TheVariants.{Quiet, Refused}
+use Rattle.kak_world.specs.declared.world.Rest.{Rest}
 use Rattle.kak_world.specs.Dropping.{KeepsJoined}
-use Rattle.kak_world.specs.Flat.{Flat, is_joined, is_client_leaving, mode_of, units_of, with_own, with_units}
-use Rattle.kak_world.specs.Keeping.{KeepsClients}
-use Rattle.kak_world.proofs.KeepingLaws.{keeps_same, keeps_after, keeps_own, keeps_units, keeps_view, keeps_commits}
-use Rattle.kak_world.proofs.WorldLaws.{units_own, units_units}
+use Rattle.kak_world.specs.Flat.{Flat, is_joined, is_client_leaving, mode_of, units_of, with_own, with_units, takes_turn, step_ended, with_rest}
+use Rattle.kak_world.specs.Keeping.{whos_of, KeepsClients}
+use Rattle.kak_world.proofs.KeepingLaws.{keeps_same, keeps_after, keeps_own, keeps_units, keeps_corner, keeps_commits}
+use Rattle.kak_world.proofs.WorldLaws.{units_in, rest_own, units_units, joined_rest}
 use Rattle.normal_keys.proofs.KeepingLaws.{keeps_normal}
 use Rattle.insert_prompt.proofs.KeepingLaws.{keeps_insert, keeps_prompt}
 use Rattle.command_set.proofs.CommandLaws.{command_units, keeps_command}
@@ -17,19 +19,46 @@ use Rattle.command_set.proofs.FileLaws.{read_falls, keeps_read, saved_falls, kee
 use Rattle.command_set.proofs.FinishLaws.{finish_falls, keeps_finish}
 use Rattle.draw_model.specs.Drawings.{after_following}
 use Rattle.session_events.specs.declared.event.Answered.{Answered}
-use Rattle.kak_engine.specs.Doing.{DoingEnd, Fine, Failed, GivenUp, Outcome, DoingPlace, go_on, Do, row_in, row_key, top, strike}
-use Rattle.kak_engine.specs.Steps.{told, begun, first_moment, ends_group, group_ended, key_ended, struck, after_key, noted_drawn}
+use Rattle.kak_engine.specs.declared.engine.TheConstants.{MAX_UNITS}
+use Rattle.kak_engine.specs.Course.{RunsKey}
+use Rattle.kak_engine.specs.Doing.{DoingEnd, Fine, Failed, GivenUp, Outcome, DoingPlace, beginning, run_task, Do, row_in, row_key, top, strike}
+use Rattle.kak_engine.specs.Steps.{told, begun, first_moment, ends_group, group_ended, key_ended, struck, after_key, shown_to, noted_drawn, resized}
+use Rattle.kak_engine.specs.Laws.{KeepsPresence}
 use Rattle.kak_engine.proofs.CarryingLaws.{IsCarried, Keeps, keeps-unit, keeps-row, carried-do}
 
 -- a change that keeps the clients keeps who has joined
 pub clients-joined : (old new : Flat) → KeepsClients old new → KeepsJoined old new
-clients-joined old new k = record { whos = k.whos; joined = λ who j. k.joined who ∙ j }
+clients-joined old new k = record { whos = k.whos; joined = λ who j. k.joined who ∙ j; turn = k.turn }
 
 joined-still : (flat : Flat) → KeepsJoined flat flat
-joined-still flat = record { whos = refl; joined = λ who j. j }
+joined-still flat = record { whos = refl; joined = λ who j. j; turn = refl }
 
 joined-behind : (a b c : Flat) → KeepsJoined a b → KeepsJoined b c → KeepsJoined a c
-joined-behind a b c f g = record { whos = g.whos ∙ f.whos; joined = λ who j. g.joined who (f.joined who j) }
+joined-behind a b c f g = record { whos = g.whos ∙ f.whos; joined = λ who j. g.joined who (f.joined who j); turn = g.turn ∙ f.turn }
+
+-- whoever's turn it is
+joined-present : (old new : Flat) → KeepsJoined old new → KeepsPresence old new
+joined-present old new k = record { whos = k.whos; joined = k.joined }
+
+clients-present : (old new : Flat) → KeepsClients old new → KeepsPresence old new
+clients-present old new k = joined-present old new (clients-joined old new k)
+
+present-behind : (a b c : Flat) → KeepsPresence a b → KeepsPresence b c → KeepsPresence a c
+present-behind a b c f g = record { whos = g.whos ∙ f.whos; joined = λ who j. g.joined who (f.joined who j) }
+
+whos-rest : (f : Rest → Rest) (flat : Flat) → whos_of (with_rest f flat).clients ≡ whos_of flat.clients
+unfolding with_rest
+whos-rest f flat = refl
+
+-- a turn that is taken, and a step that is over
+present-rest : (f : Rest → Rest) (flat : Flat) → KeepsPresence flat (with_rest f flat)
+present-rest f flat = record { whos = whos-rest f flat; joined = λ k j. joined_rest k f flat ∙ j }
+
+present-turn : (who : ℕ) (flat : Flat) → KeepsPresence flat (takes_turn who flat)
+present-turn who flat = present-rest _ flat
+
+present-ended : (flat : Flat) → KeepsPresence flat (step_ended flat)
+present-ended flat = present-rest _ flat
 
 pub joined-carried : (who : ℕ) → IsCarried who KeepsJoined
 joined-carried who = record {
@@ -67,7 +96,7 @@ units-carried who = record {
   same = λ flat. no-units (units_of flat);
   behind = λ a b c f g. after-units (units_of a) (units_of b) (units_of c) f g;
   unit = λ left flat e. after-unit _ left _ (units_units left flat) e;
-  leave = λ flat. same-units _ _ (units_own who (λ o. record o { leaving = true }) flat);
+  leave = λ flat. same-units _ _ (ap units_in (rest_own who (λ o. record o { leaving = true }) flat));
   commands = λ command flat. same-units _ _ (command_units command who flat);
   finishes = λ wanted made flat. falls-units _ _ _ (finish_falls wanted made who flat);
   reads = λ name read flat. falls-units _ _ _ (read_falls name read who flat);
@@ -84,18 +113,19 @@ keeps_row key who flat = clients-joined flat _ (keeps-row_in (mode_of who flat) 
 
 pub keeps_strike : (who : ℕ) (p : DoingPlace) (key : Key) → Keeps KeepsJoined (strike who p key)
 keeps_strike who p key m =
-    keeps-unit who KeepsJoined (joined-carried who) (λ n. go_on (Do who) p (row_key key who n.world) n)
-    (λ n. keeps-row who KeepsJoined (joined-carried who) (Do who) p (row_key key who n.world) n (carried-do who KeepsJoined (joined-carried who)) (keeps_row key who n.world)) m
+    keeps-unit who KeepsJoined (joined-carried who) (run_task (Do who) who p (RunsKey key))
+    (λ n. keeps-row who KeepsJoined (joined-carried who) (Do who) p (row_key key who n.world) (beginning who (RunsKey key) n) (carried-do who KeepsJoined (joined-carried who)) (keeps_row key who n.world)) m
 
 keeps-told : (who : ℕ) (e : DoingEnd) (flat : Flat) → KeepsClients flat (told who e flat)
 keeps-told who Fine flat = keeps_same flat
 keeps-told who (Failed text) flat = keeps_own who (λ o. record o { status = Refused text }) flat
 keeps-told who (GivenUp text) flat = keeps_own who (λ o. record o { status = Refused text }) flat
 
-keeps-begun : (who : ℕ) (flat : Flat) → KeepsClients flat (begun who flat)
+keeps-begun : (who : ℕ) (flat : Flat) → KeepsPresence flat (begun who flat)
 keeps-begun who flat =
     let quiet : Flat = with_own who (λ o. record o { status = Quiet }) flat in
-    keeps_after flat quiet (begun who flat) (keeps_own who (λ o. record o { status = Quiet }) flat) (keeps_units 4096 quiet)
+    let ready : Flat = with_units MAX_UNITS quiet in
+    present-behind flat ready (begun who flat) (clients-present flat ready (keeps_after flat quiet ready (keeps_own who (λ o. record o { status = Quiet }) flat) (keeps_units MAX_UNITS quiet))) (present-turn who ready)
 
 keeps-group : (mode : Mode) (who : ℕ) (flat : Flat) → KeepsClients flat (ends_group mode who flat)
 keeps-group Insert who flat = keeps_same flat
@@ -103,29 +133,39 @@ keeps-group Normal who flat = keeps_commits who flat
 keeps-group Prompt who flat = keeps_commits who flat
 
 -- what comes behind a key that was run
-keeps-ended : (who : ℕ) (o : Outcome) → KeepsClients o.moment.world (key_ended who o)
+keeps-ended : (who : ℕ) (o : Outcome) → KeepsPresence o.moment.world (key_ended who o)
 keeps-ended who o =
     let flat : Flat = o.moment.world in
     let said : Flat = told who o.end flat in
     let settled : Flat = group_ended who said in
-    keeps_after flat settled (key_ended who o) (keeps_after flat said settled (keeps-told who o.end flat) (keeps-group (mode_of who said) who said)) (keeps_units 0 settled)
+    present-behind flat settled (key_ended who o) (clients-present flat settled (keeps_after flat said settled (keeps-told who o.end flat) (keeps-group (mode_of who said) who said))) (present-ended settled)
 
-keeps-chosen : (t : Bool) (old a b : Flat) → KeepsJoined old a → KeepsJoined old b → KeepsJoined old (if t then a else b)
+keeps-chosen : (t : Bool) (old a b : Flat) → KeepsPresence old a → KeepsPresence old b → KeepsPresence old (if t then a else b)
 keeps-chosen true old a b f g = f
 keeps-chosen false old a b f g = g
 
 -- a key
-pub keeps_key : (who : ℕ) (key : Key) (answers : List Answered) (flat : Flat) → KeepsJoined flat (after_key who key answers flat)
+pub keeps_key : (who : ℕ) (key : Key) (answers : List Answered) (flat : Flat) → KeepsPresence flat (after_key who key answers flat)
 unfolding after_key
 keeps_key who key answers flat =
     let o : Outcome = struck who key answers flat in
-    keeps-chosen (is_client_leaving who flat) flat flat (key_ended who o) (joined-still flat)
-    (joined-behind flat (begun who flat) (key_ended who o) (clients-joined flat (begun who flat) (keeps-begun who flat))
-    (joined-behind (begun who flat) o.moment.world (key_ended who o) (keeps_strike who top key (first_moment who flat answers)) (clients-joined o.moment.world (key_ended who o) (keeps-ended who o))))
+    keeps-chosen (is_client_leaving who flat) flat flat (key_ended who o) (joined-present flat flat (joined-still flat))
+    (present-behind flat (begun who flat) (key_ended who o) (keeps-begun who flat)
+    (present-behind (begun who flat) o.moment.world (key_ended who o) (joined-present (begun who flat) o.moment.world (keeps_strike who top key (first_moment who flat answers))) (keeps-ended who o)))
+
+-- a resize
+pub keeps_resize : (who rows columns : ℕ) (flat : Flat) → KeepsPresence flat (resized who rows columns flat)
+keeps_resize who rows columns flat = clients-present flat _ (keeps_own who (λ o. record o { size = sized rows columns }) flat)
 
 -- a refresh
-pub keeps_refresh : (who : ℕ) (flat : Flat) → KeepsClients flat (noted_drawn who (after_following who flat))
-keeps_refresh who flat = keeps_after flat (after_following who flat) (noted_drawn who (after_following who flat)) (keeps_view who _ flat) (keeps_own who (λ o. record o { drawn = true }) (after_following who flat))
+pub keeps_refresh : (who : ℕ) (flat : Flat) → KeepsPresence flat (noted_drawn who (shown_to who flat))
+keeps_refresh who flat =
+    let turned : Flat = takes_turn who flat in
+    let followed : Flat = after_following who turned in
+    let noted : Flat = with_own who (λ o. record o { drawn = true }) followed in
+    present-behind flat noted (step_ended noted)
+    (present-behind flat turned noted (present-turn who flat) (clients-present turned noted (keeps_after turned followed noted (keeps_corner who _ turned) (keeps_own who (λ o. record o { drawn = true }) followed))))
+    (present-ended noted)
 
 pub joined_key : (k who : ℕ) (key : Key) (answers : List Answered) (flat : Flat) → is_joined k flat ≡ true → is_joined k (after_key who key answers flat) ≡ true
 joined_key k who key answers flat j = (keeps_key who key answers flat).joined k j

@@ -7,11 +7,12 @@ use Rattle.std.proofs.lemmas.Bool.{eqb-true, eq-eqb, leb-true, leb-false}
 use Rattle.kak_world.specs.declared.world.TheConstants.{MAX_CLIENTS}
 use Rattle.kak_world.specs.Flat.{Flat, is_here as is_among, is_joined}
 use Rattle.session_events.specs.declared.event.Event.{Event}
-use Rattle.session_events.specs.declared.event.Event.TheVariants.{Join, Key as Struck, Refresh, Leave}
 use Rattle.session_events.specs.declared.event.Answered.{Answered}
 use Rattle.session_events.specs.declared.event.Entry.{Entry}
 use Rattle.session_events.specs.declared.fault.StepFault.{StepFault}
-use Rattle.session_events.specs.Entries.{is_join, is_leave, entry_with, has_joined}
+use Rattle.session_events.specs.declared.kind.Kind.{Kind}
+use Rattle.session_events.specs.declared.kind.Kind.TheVariants.{Coming, Doing, Drawing, Going}
+use Rattle.session_events.specs.Entries.{kind_of, is_coming, is_going, is_join, is_leave, entry_with, has_joined}
 use Rattle.session_events.specs.Legal.{Presence, Away, Here, Gone, is_here, presence_after, may_make, presence_from, may_make_all, IsLegal, KeepsLimit, AreLeavings}
 use Rattle.session_events.proofs.LegalLemmas.{presence-append, may-append}
 use Rattle.kak_engine.specs.Steps.{run, is_session_full}
@@ -59,11 +60,11 @@ allowed history limit who event e =
 
 -- a client that never joined hasn't come
 never-step : (k : ℕ) (e : Event) (h : List Entry) (t b : Bool) → is_join e ≡ b → (may_make_all k Away h ≡ true → has_joined k h ≡ false → presence_from k Away h ≡ Away)
-    → (if t then is_join e && may_make_all k (presence_after e Away) h else may_make_all k Away h) ≡ true
+    → (if t then is_join e && may_make_all k (presence_after (kind_of e) Away) h else may_make_all k Away h) ≡ true
     → ((t && is_join e) || has_joined k h) ≡ false
-    → presence_from k (if t then presence_after e Away else Away) h ≡ Away
+    → presence_from k (if t then presence_after (kind_of e) Away else Away) h ≡ Away
 never-step k e h true true i next l j = let no : (true || has_joined k h) ≡ false = subst (λ q. (q || has_joined k h) ≡ false) i j in cc
-never-step k e h true false i next l j = let no : (false && may_make_all k (presence_after e Away) h) ≡ true = subst (λ q. (q && may_make_all k (presence_after e Away) h) ≡ true) i l in cc
+never-step k e h true false i next l j = let no : (false && may_make_all k (presence_after (kind_of e) Away) h) ≡ true = subst (λ q. (q && may_make_all k (presence_after (kind_of e) Away) h) ≡ true) i l in cc
 never-step k e h false b i next l j = next l j
 
 pub never-came : (k : ℕ) (h : List Entry) → may_make_all k Away h ≡ true → has_joined k h ≡ false → presence_from k Away h ≡ Away
@@ -71,15 +72,15 @@ never-came k [] l j = refl
 never-came k (e ∷ h) l j = never-step k e.event h (e.who == k) (is_join e.event) refl (λ m n. never-came k h m n) l j
 
 -- a client that is here may go on, and one that never came may come
-here-may : (p : Presence) (event : Event) → is_here p ≡ true → is_join event ≡ false → may_make p event ≡ true
-here-may Away event h j = cc
-here-may Here event h j = rw j refl
-here-may Gone event h j = cc
+here-may : (p : Presence) (kind : Kind) → is_here p ≡ true → is_coming kind ≡ false → may_make p kind ≡ true
+here-may Away kind h j = cc
+here-may Here kind h j = rw j refl
+here-may Gone kind h j = cc
 
-one-may : (k who : ℕ) (p : Presence) (event : Event) (answers : List Answered) → (who ≡ k → may_make p event ≡ true) → may_make_all k p (entry_with who event answers ∷ []) ≡ true
+one-may : (k who : ℕ) (p : Presence) (event : Event) (answers : List Answered) → (who ≡ k → may_make p (kind_of event) ≡ true) → may_make_all k p (entry_with who event answers ∷ []) ≡ true
 one-may k who p event answers m = by (who == k) refl
   where
-    by : (t : Bool) → (who == k) ≡ t → (if t then may_make p event && true else true) ≡ true
+    by : (t : Bool) → (who == k) ≡ t → (if t then may_make p (kind_of event) && true else true) ≡ true
     by true e = rw (m (eqb-true who k e)) refl
     by false e = refl
 
@@ -89,9 +90,9 @@ pub lives-more : (h : List Entry) (limit who : ℕ) (event : Event) (answers : L
 lives-more h limit who event answers l a k =
     may-append k Away h (entry_with who event answers ∷ []) (l k) (one-may k who (presence_from k Away h) event answers (λ e. by e (is_join event) refl))
   where
-    by : who ≡ k → (t : Bool) → is_join event ≡ t → may_make (presence_from k Away h) event ≡ true
+    by : who ≡ k → (t : Bool) → is_join event ≡ t → may_make (presence_from k Away h) (kind_of event) ≡ true
     by e true j = rw (never-came k h (l k) (subst (λ q. has_joined q h ≡ false) e (a.fresh j))) j
-    by e false j = here-may (presence_from k Away h) event (subst (λ q. is_here (presence_from q Away h) ≡ true) e (a.joined j)) j
+    by e false j = here-may (presence_from k Away h) (kind_of event) (subst (λ q. is_here (presence_from q Away h) ≡ true) e (a.joined j)) j
 
 -- behind the limit there are leavings alone
 leavings-append : (a b : List Entry) → AreLeavings a → AreLeavings b → AreLeavings (a ++ b)
@@ -119,34 +120,37 @@ within-more h limit who event answers w a = by (nat_le limit (length h)) (is_lea
         short lt = omega (arith, lt, length-append h (entry_with who event answers ∷ []))
 
 -- where a client is behind one entry more
-pub presence-more : (k who : ℕ) (h : List Entry) (event : Event) (answers : List Answered) → presence_from k Away (h ++ entry_with who event answers ∷ []) ≡ (if who == k then presence_after event (presence_from k Away h) else presence_from k Away h)
+pub presence-more : (k who : ℕ) (h : List Entry) (event : Event) (answers : List Answered) → presence_from k Away (h ++ entry_with who event answers ∷ []) ≡ (if who == k then presence_after (kind_of event) (presence_from k Away h) else presence_from k Away h)
 presence-more k who h event answers = presence-append k Away h (entry_with who event answers ∷ [])
 
 -- an event that isn't refused can be run
 pub can-run : (history : List Entry) (limit who : ℕ) (event : Event) (flat : Flat) → flat ≡ run history → ((k : ℕ) → is_joined k flat ≡ is_here (presence_from k Away history)) → ((k : ℕ) → is_among k flat.clients ≡ is_here (presence_from k Away history)) → IsLegal limit history
-    → refused_by history limit who event ≡ None → CanRun event who flat
-can-run history limit who event flat same known here legal e = by event (allowed history limit who event e)
+    → refused_by history limit who event ≡ None → CanRun (kind_of event) who flat
+can-run history limit who event flat same known here legal e = by (kind_of event) a.joined a.fresh a.seat
   where
-    by : (event : Event) → IsAllowed history limit who event → CanRun event who flat
-    by Join a = record {
-      away = here who ∙ ap is_here (never-came who history (legal.lives who) (a.fresh refl));
-      few = subst (λ f. length f.clients < MAX_CLIENTS) (sym same) (a.seat refl);
+    a : IsAllowed history limit who event
+    a = allowed history limit who event e
+
+    by : (kind : Kind) → (is_coming kind ≡ false → is_here (presence_from who Away history) ≡ true) → (is_coming kind ≡ true → has_joined who history ≡ false) → (is_coming kind ≡ true → length (run history).clients < MAX_CLIENTS) → CanRun kind who flat
+    by Coming joined fresh seat = record {
+      away = here who ∙ ap is_here (never-came who history (legal.lives who) (fresh refl));
+      few = subst (λ f. length f.clients < MAX_CLIENTS) (sym same) (seat refl);
     }
-    by (Struck key) a = known who ∙ a.joined refl
-    by (Refresh asked) a = known who ∙ a.joined refl
-    by Leave a = known who ∙ a.joined refl
+    by Doing joined fresh seat = known who ∙ joined refl
+    by Drawing joined fresh seat = known who ∙ joined refl
+    by Going joined fresh seat = known who ∙ joined refl
 
 -- a client that made an event, and didn't leave by it, is here
 pub in-behind : (history new : List Entry) (limit who : ℕ) (event : Event) (answers : List Answered) → refused_by history limit who event ≡ None → new ≡ history ++ entry_with who event answers ∷ [] → is_leave event ≡ false → is_here (presence_from who Away new) ≡ true
 in-behind history new limit who event answers e k stays =
     ap (λ h. is_here (presence_from who Away h)) k ∙ ap is_here (presence-more who who history event answers) ∙ own (who == who) (eq-eqb who who refl)
   where
-    by : (event : Event) → is_leave event ≡ false → IsAllowed history limit who event → is_here (presence_after event (presence_from who Away history)) ≡ true
-    by Join stays a = refl
-    by (Struck key) stays a = a.joined refl
-    by (Refresh asked) stays a = a.joined refl
-    by Leave stays a = cc
+    by : (kind : Kind) → is_going kind ≡ false → (is_coming kind ≡ false → is_here (presence_from who Away history) ≡ true) → is_here (presence_after kind (presence_from who Away history)) ≡ true
+    by Coming stays joined = refl
+    by Doing stays joined = joined refl
+    by Drawing stays joined = joined refl
+    by Going stays joined = cc
 
-    own : (t : Bool) → t ≡ true → is_here (if t then presence_after event (presence_from who Away history) else presence_from who Away history) ≡ true
-    own true f = by event stays (allowed history limit who event e)
+    own : (t : Bool) → t ≡ true → is_here (if t then presence_after (kind_of event) (presence_from who Away history) else presence_from who Away history) ≡ true
+    own true f = by (kind_of event) stays (allowed history limit who event e).joined
     own false f = cc

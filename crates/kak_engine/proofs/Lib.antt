@@ -6,12 +6,17 @@ pub mod EndLemmas
 pub mod ExampleLemmas
 pub mod HereLemmas
 pub mod HonestLemmas
+pub mod JoinedLemmas
 pub mod KeepingLaws
 pub mod KeyLemmas
+pub mod LeftLemmas
 pub mod LegalLemmas
 pub mod LoopLemmas
 pub mod PresenceLemmas
 pub mod RunLemmas
 pub mod SeatingLemmas
+pub mod WhyLemmas
 pub mod StageLemmas
 pub mod Walks
+pub mod TurnLemmas
+pub mod SizeLemmas

@@ -8,13 +8,15 @@ use Rattle.kak_files.specs.Exchanges.{Exchange}
 use Rattle.kak_world.specs.declared.world.TheConstants.{MAX_CLIENTS}
 use Rattle.kak_world.specs.Flat.{Flat, opening, is_here as is_among, is_joined}
 use Rattle.session_events.specs.declared.event.Event.{Event}
-use Rattle.session_events.specs.declared.event.Event.TheVariants.{Join, Key as Struck, Refresh, Leave}
+use Rattle.session_events.specs.declared.event.Event.TheVariants.{Join, Key as Struck, Resize, Refresh, Leave}
 use Rattle.session_events.specs.declared.event.Answered.{Answered}
 use Rattle.session_events.specs.declared.event.Entry.{Entry}
-use Rattle.session_events.specs.Entries.{is_join, is_leave, entry_of, entry_with}
+use Rattle.session_events.specs.declared.kind.Kind.{Kind}
+use Rattle.session_events.specs.declared.kind.Kind.TheVariants.{Coming, Doing, Drawing, Going}
+use Rattle.session_events.specs.Entries.{kind_of, is_going, is_join, is_leave, entry_of, entry_with}
 use Rattle.session_events.specs.Legal.{Away, is_here, presence_from, AreLeavings, IsLegal}
 use Rattle.kak_engine.specs.Asking.{Asked, files_in}
-use Rattle.kak_engine.specs.Steps.{after_entry, after_event, asked_by, asked_from, asked_in, exchanges, run_from, run, AreAskedFor, AllAskedFrom, AllAsked, IsStepCutShort}
+use Rattle.kak_engine.specs.Steps.{after_entry, after_event, asked_by, asked_from, asked_in, exchanges, run_from, run, AreAskedFor, AllAskedFrom, AllAsked, IsStepLeft}
 use Rattle.kak_engine.specs.Held.{EngineStands, CanRun, refused_at, refused_by}
 use Rattle.kak_engine.specs.Honesty.{Outside, IsUntouched, IsHonest, IsKept}
 use Rattle.kak_engine.proofs.HereLemmas.{few-more}
@@ -44,7 +46,7 @@ refused-none None history limit who event e = e
 refused-none (Some at) history limit who event e = cc
 
 -- an event that such an engine doesn't refuse can be run
-pub can-step : (flat : Flat) (history : List Entry) (mark : Option ℕ) (limit : ℕ) (shelf : Shelf) (who : ℕ) (event : Event) → EngineStands flat history mark limit shelf → refused_at mark history limit who event ≡ None → CanRun event who flat
+pub can-step : (flat : Flat) (history : List Entry) (mark : Option ℕ) (limit : ℕ) (shelf : Shelf) (who : ℕ) (event : Event) → EngineStands flat history mark limit shelf → refused_at mark history limit who event ≡ None → CanRun (kind_of event) who flat
 can-step flat history mark limit shelf who event s r =
     let free : mark ≡ None = mark-none mark history limit who event r in
     can-run history limit who event flat (s.world free) (s.known free) (s.here free) s.legal (refused-none mark history limit who event r)
@@ -89,8 +91,8 @@ stands-more before now history new mark limit x y who event answers s r came n a
     let came_after : is_join event ≡ true → is_joined who (after_event who event answers before) ≡ true = (λ j. ap (is_joined who) (sym n) ∙ came j) in
     record {
       world = λ m. n ∙ ap (after_event who event answers) same ∙ sym (run-more history who event answers) ∙ ap run (sym k);
-      known = λ m q. ap (is_joined q) n ∙ joined-after q who event answers before (s.known free q ∙ sym (s.here free q)) came_after ∙ ap (there_after event (who == q)) (s.known free q) ∙ behind q;
-      here = λ m q. ap (λ f. is_among q f.clients) n ∙ here-after q who event answers before ∙ ap (there_after event (who == q)) (s.here free q) ∙ behind q;
+      known = λ m q. ap (is_joined q) n ∙ joined-after q who event answers before (s.known free q ∙ sym (s.here free q)) came_after ∙ ap (there_after (kind_of event) (who == q)) (s.known free q) ∙ behind q;
+      here = λ m q. ap (λ f. is_among q f.clients) n ∙ here-after q who event answers before ∙ ap (there_after (kind_of event) (who == q)) (s.here free q) ∙ behind q;
       few = λ m. subst (λ f. length f.clients ≤ MAX_CLIENTS) (sym n) (few-after who event answers before (can-step before history mark limit x.shelf who event s r) (s.few free));
       kept = λ m. subst (λ (e : List Exchange). IsKept e y.shelf) (all same) (kept-more answers (exchanges history) (asked_by who event answers before) x y (s.kept free) honest);
       legal = subst (IsLegal limit) (sym k) (record {
@@ -102,8 +104,8 @@ stands-more before now history new mark limit x y who event answers s r came n a
       marked = subst (λ (m : Option ℕ). IfSome m (λ at. at ≡ length new)) (sym free) tt;
     }
   where
-    behind : (q : ℕ) → there_after event (who == q) (is_here (presence_from q Away history)) ≡ is_here (presence_from q Away new)
-    behind q = sym (presence-after event (who == q) (presence_from q Away history)) ∙ ap is_here (sym (presence-more q who history event answers)) ∙ ap (λ h. is_here (presence_from q Away h)) (sym k)
+    behind : (q : ℕ) → there_after (kind_of event) (who == q) (is_here (presence_from q Away history)) ≡ is_here (presence_from q Away new)
+    behind q = sym (presence-after (kind_of event) (who == q) (presence_from q Away history)) ∙ ap is_here (sym (presence-more q who history event answers)) ∙ ap (λ h. is_here (presence_from q Away h)) (sym k)
 
     all : before ≡ run history → exchanges history ++ files_in (asked_by who event answers before) ≡ exchanges new
     all same =
@@ -120,14 +122,15 @@ left-stands before now history new mark limit shelf who Leave s r goes n k =
     stands-more before now history new mark limit o o who Leave [] s r (λ j. let no : false ≡ true = j in cc) n refl (honest-none o) k
 left-stands before now history new mark limit shelf who Join s r goes n k = cc
 left-stands before now history new mark limit shelf who (Struck key) s r goes n k = cc
+left-stands before now history new mark limit shelf who (Resize rows columns) s r goes n k = cc
 left-stands before now history new mark limit shelf who (Refresh asked) s r goes n k = cc
 
 -- who leaves has joined
-pub leaver-joined : (who : ℕ) (event : Event) (flat : Flat) → is_leave event ≡ true → CanRun event who flat → is_joined who flat ≡ true
-leaver-joined who Leave flat goes can = can
-leaver-joined who Join flat goes can = cc
-leaver-joined who (Struck key) flat goes can = cc
-leaver-joined who (Refresh asked) flat goes can = cc
+pub leaver-joined : (who : ℕ) (kind : Kind) (flat : Flat) → is_going kind ≡ true → CanRun kind who flat → is_joined who flat ≡ true
+leaver-joined who Going flat goes can = can
+leaver-joined who Coming flat goes can = cc
+leaver-joined who Doing flat goes can = cc
+leaver-joined who Drawing flat goes can = cc
 
 -- an engine that broke
 pub stands-broken : (flat now : Flat) (history new : List Entry) (mark : Option ℕ) (limit at : ℕ) (x y : Shelf) → EngineStands flat history mark limit x → new ≡ history → at ≡ length new → EngineStands now new (Some at) limit y
@@ -138,6 +141,6 @@ pub in-more : (history new : List Entry) (mark : Option ℕ) (limit who : ℕ) (
 in-more history new mark limit who event answers r = in-behind history new limit who event answers (refused-none mark history limit who event r)
 
 -- an event that was cut short, on the world that the history led to
-pub cut-known : (flat : Flat) (history : List Entry) (mark : Option ℕ) (limit : ℕ) (shelf : Shelf) (who : ℕ) (event : Event) (x y : Outside) → EngineStands flat history mark limit shelf → refused_at mark history limit who event ≡ None
-    → IsStepCutShort who event flat x y → IsStepCutShort who event (run history) x y
-cut-known flat history mark limit shelf who event x y s r cut = subst (λ f. IsStepCutShort who event f x y) (s.world (mark-none mark history limit who event r)) cut
+pub left-known : (flat new : Flat) (history : List Entry) (mark : Option ℕ) (limit : ℕ) (shelf : Shelf) (who : ℕ) (event : Event) (x y : Outside) → EngineStands flat history mark limit shelf → refused_at mark history limit who event ≡ None
+    → IsStepLeft who event flat new x y → IsStepLeft who event (run history) new x y
+left-known flat new history mark limit shelf who event x y s r cut = subst (λ f. IsStepLeft who event f new x y) (s.world (mark-none mark history limit who event r)) cut

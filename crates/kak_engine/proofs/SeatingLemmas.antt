@@ -12,7 +12,9 @@ use Rattle.session_events.specs.declared.event.Entry.{Entry}
 use Rattle.session_events.specs.declared.event.Output.{Output}
 use Rattle.session_events.specs.declared.fault.StepFault.{StepFault}
 use Rattle.session_events.specs.declared.fault.StepFault.TheVariants.{Broken, NoClient, Joined, HistoryFull, Full, NoMemory}
-use Rattle.session_events.specs.Entries.{is_leave, entry_with, others_of}
+use Rattle.session_events.specs.declared.event.Event.TheVariants.{Join, Key as Struck, Resize, Refresh, Leave}
+use Rattle.session_events.specs.Entries.{kind_of, is_leave, is_drawing, entry_with, others_of}
+use Rattle.session_events.specs.Meaning.{may_let_go, IsMeaning}
 use Rattle.session_events.specs.Seats.{Steps, StaysUnbroken}
 use Rattle.kak_engine.specs.Asking.{Asked}
 use Rattle.kak_engine.specs.Steps.{output_of, asked_by, asked_in, answers_in, run, given_by, IsStepCutShort, IsBegunBehind}
@@ -28,6 +30,24 @@ taken o = Ok o
 
 abbrev faulty : StepFault → Result Output StepFault
 faulty f = Err f
+
+-- what entries give is what they may give in any session
+pub given-meaning : IsMeaning given_by
+given-meaning = record { undrawn = undrawn; stays = stays }
+  where
+    undrawn : (before : List Entry) (who : ℕ) (event : Event) (answers : List Answered) → is_drawing event ≡ false → (given_by before (entry_with who event answers)).drawing ≡ None
+    undrawn before who Join answers d = refl
+    undrawn before who (Struck key) answers d = refl
+    undrawn before who (Resize rows columns) answers d = refl
+    undrawn before who (Refresh asked) answers d = cc
+    undrawn before who Leave answers d = refl
+
+    stays : (before : List Entry) (who : ℕ) (event : Event) (answers : List Answered) → may_let_go (kind_of event) ≡ false → (given_by before (entry_with who event answers)).leaving ≡ false
+    stays before who Join answers s = refl
+    stays before who (Struck key) answers s = cc
+    stays before who (Resize rows columns) answers s = cc
+    stays before who (Refresh asked) answers s = refl
+    stays before who Leave answers s = refl
 
 -- the entries of others are the same behind one more of the client's own
 others-own : (who : ℕ) (h : List Entry) (event : Event) (answers : List Answered) → others_of who (h ++ entry_with who event answers ∷ []) ≡ others_of who h

@@ -15,7 +15,7 @@ use Rattle.kak_world.specs.declared.ask.Saving.{Saving}
 use Rattle.kak_world.specs.declared.own.Mode.{Mode}
 use Rattle.kak_world.specs.declared.own.Mode.TheVariants.{Normal, Insert, Prompt}
 use Rattle.kak_world.specs.Flat.{Flat, mode_of, units_of, with_own, with_units}
-use Rattle.kak_world.specs.Rows.{Row, Asks, Fails, GivesUp, RowEnd, error_text, stages_of}
+use Rattle.kak_world.specs.Rows.{Row, Asks, Fails, GivesUp, RowEnd, does, error_text, stages_of}
 use Rattle.normal_keys.specs.Rows.{row_normal}
 use Rattle.insert_prompt.specs.Rows.{row_insert, row_prompt}
 use Rattle.command_set.specs.Reading.{commands_told}
@@ -25,6 +25,7 @@ use Rattle.command_set.specs.Finishing.{row_finish}
 use Rattle.session_events.specs.declared.event.Answered.{Answered}
 use Rattle.kak_engine.specs.Answering.{as_made, as_read, as_put}
 use Rattle.kak_engine.specs.Asking.{Asked, OfPattern, OfFile}
+use Rattle.kak_engine.specs.Course.{Task, RunsKey, RunsCommand, UsesPattern, ShowsFile, NotesFile, GrantsLeave, Happened, WasAsked, Began}
 
 -- How doing something ended: well, with an error, or given up. Errors and giving up have a status text.
 pub data DoingEnd : Type 0 where
@@ -33,12 +34,12 @@ pub data DoingEnd : Type 0 where
   GivenUp : List ℕ → DoingEnd
 
 -- a moment of a step: the world, the outside's answers that are still to come, whether each so far was of the kind that
--- was asked for, and what the outside was asked for so far, in order
+-- was asked for, and what happened so far, in order
 pub record Moment : Type 0 where
   pub world : Flat
   pub answers : List Answered
   pub fit : Bool
-  pub asked : List Asked
+  pub course : List Happened
 
 -- the moment after something, and how it ended
 pub record Outcome : Type 0 where
@@ -99,9 +100,39 @@ with_unit part m = unit_of (units_of m.world) part m
 abbrev pub go_on : Go → DoingPlace → RowEnd → Part
 go_on go p end m = go p end.row (in_world end.world m)
 
+-- the row of a key, by the mode of the client
+abbrev pub row_in : Mode → Key → ℕ → Flat → RowEnd
+row_in Normal key who flat = row_normal key who flat
+row_in Insert key who flat = row_insert key who flat
+row_in Prompt key who flat = row_prompt key who flat
+
+abbrev pub row_key : Key → ℕ → Flat → RowEnd
+row_key key who flat = row_in (mode_of who flat) key who flat
+
+-- the client is granted to leave
+abbrev pub granted : ℕ → Flat → Flat
+granted who flat = with_own who (λ o. record o { leaving = true }) flat
+
+-- the row of a task
+abbrev pub task_row : Task → ℕ → Flat → RowEnd
+task_row (RunsKey key) who flat = row_key key who flat
+task_row (RunsCommand command) who flat = row_command command who flat
+task_row (UsesPattern wanted made) who flat = row_finish wanted made who flat
+task_row (ShowsFile name read) who flat = row_read name read who flat
+task_row (NotesFile saving put) who flat = row_saved saving put who flat
+task_row GrantsLeave who flat = does (granted who flat)
+
+-- a moment at which a task of a client begins
+abbrev pub beginning : ℕ → Task → Moment → Moment
+beginning who task m = record m { course = m.course ++ Began who task m.world ∷ [] }
+
+-- a task: its row, and what that asks for
+abbrev pub run_task : Go → ℕ → DoingPlace → Task → Part
+run_task go who p task m = go_on go p (task_row task who m.world) (beginning who task m)
+
 -- one command, which takes a unit
 abbrev pub run_command : Go → ℕ → DoingPlace → Command → Part
-run_command go who p command m = with_unit (λ n. go_on go p (row_command command who n.world) n) m
+run_command go who p command m = with_unit (run_task go who p (RunsCommand command)) m
 
 -- the commands of a text, one after another up to the first error; or why the text has none
 abbrev pub run_read : Go → ℕ → DoingPlace → Result (List Command) EditError → Part
@@ -124,11 +155,11 @@ next_as kind part (answer ∷ later) m = taken_as (kind answer) part later m
 
 -- a moment behind one thing more that the outside was asked for
 abbrev pub asking : Asked → Moment → Moment
-asking what m = record m { asked = m.asked ++ what ∷ [] }
+asking what m = record m { course = m.course ++ WasAsked what ∷ [] }
 
--- the row that goes on with an answer, behind what the outside was asked for by it
-abbrev pub go_back : {A : Type 0} → Go → DoingPlace → (A → Flat → Asked) → (A → Flat → RowEnd) → A → Part
-go_back go p what row answer m = go_on go p (row answer m.world) (asking (what answer m.world) m)
+-- the task that goes on with an answer, behind what the outside was asked for by it
+abbrev pub go_back : {A : Type 0} → Go → ℕ → DoingPlace → (A → Flat → Asked) → (A → Task) → A → Part
+go_back go who p what task answer m = run_task go who p (task answer) (asking (what answer m.world) m)
 
 -- what the outside was asked for where a pattern is made, a file is read, and one is written
 abbrev pub by_making : List ℕ → Option (List ℕ) → Flat → Asked
@@ -140,18 +171,14 @@ by_reading name read flat = OfFile (WasRead name read)
 abbrev pub by_writing : Saving → Put → Flat → Asked
 by_writing saving put flat = OfFile (Written saving.file (saved_bytes saving flat) put)
 
--- the client is granted to leave
-abbrev pub granted : ℕ → Flat → Flat
-granted who flat = with_own who (λ o. record o { leaving = true }) flat
-
 -- what an ask leads to
 abbrev pub do_ask : Go → ℕ → DoingPlace → Ask → Part
 do_ask go who p Nothing m = done_as Fine m
 do_ask go who p (Commands text) m = run_text go who p text m
-do_ask go who p (Make wanted) m = next_as (as_made (encode_utf8_all wanted.pattern)) (go_back go p (by_making (encode_utf8_all wanted.pattern)) (λ made flat. row_finish wanted.then made who flat)) m.answers m
-do_ask go who p (Read name) m = next_as as_read (go_back go p (by_reading name) (λ read flat. row_read name read who flat)) m.answers m
-do_ask go who p (Write saving) m = next_as as_put (go_back go p (by_writing saving) (λ put flat. row_saved saving put who flat)) m.answers m
-do_ask go who p Leave m = done_as Fine (in_world (granted who m.world) m)
+do_ask go who p (Make wanted) m = next_as (as_made (encode_utf8_all wanted.pattern)) (go_back go who p (by_making (encode_utf8_all wanted.pattern)) (UsesPattern wanted.then)) m.answers m
+do_ask go who p (Read name) m = next_as as_read (go_back go who p (by_reading name) (ShowsFile name)) m.answers m
+do_ask go who p (Write saving) m = next_as as_put (go_back go who p (by_writing saving) (NotesFile saving)) m.answers m
+do_ask go who p Leave m = done_as Fine (in_world (granted who m.world) (beginning who GrantsLeave m))
 
 -- what comes after a row
 abbrev pub row_body : Go → ℕ → DoingPlace → Row → Part
@@ -172,15 +199,6 @@ depth_of row flat = 3 * units_of flat + stages_of row
 unfoldable pub Do : ℕ → Go
 Do who p row m = do_within (suc (depth_of row m.world)) who p row m
 
--- the row of a key, by the mode of the client
-abbrev pub row_in : Mode → Key → ℕ → Flat → RowEnd
-row_in Normal key who flat = row_normal key who flat
-row_in Insert key who flat = row_insert key who flat
-row_in Prompt key who flat = row_prompt key who flat
-
-abbrev pub row_key : Key → ℕ → Flat → RowEnd
-row_key key who flat = row_in (mode_of who flat) key who flat
-
 -- the run of a key, which takes a unit
 abbrev pub strike : ℕ → DoingPlace → Key → Part
-strike who p key m = with_unit (λ n. go_on (Do who) p (row_key key who n.world) n) m
+strike who p key m = with_unit (run_task (Do who) who p (RunsKey key)) m

@@ -1,4 +1,4 @@
--- Worked examples of rows that ask the outside for something.
+-- Worked examples of rows that ask the outside for something, and of windows of other sizes.
 use Rattle.std.specs.Prelude.{◌≡◌, ℕ, Bool, true, false, List, [], ◌∷◌, Some, None, encode_utf8_all}
 use Rattle.kak_files.specs.declared.files.FileRead.TheVariants as file
 use Rattle.kak_files.specs.Exchanges.{Exchange, Read as WasRead, Written}
@@ -6,15 +6,19 @@ use Rattle.kak_ports.specs.declared.sink.Put.TheVariants as put
 use Rattle.kak_world.specs.declared.ask.Ask.TheVariants.{Nothing, Make, Read as ToRead, Write}
 use Rattle.kak_world.specs.declared.ask.Saving.{Saving}
 use Rattle.kak_world.specs.declared.purpose.PatternUse.{PatternUse}
-use Rattle.kak_world.specs.Flat.{Flat}
+use Rattle.kak_world.specs.Flat.{Flat, view_of}
+use Rattle.kak_world.specs.Examples.{two_joined}
 use Rattle.kak_world.specs.Rows.{Asks}
-use Rattle.command_set.specs.Files.{row_read, saved_bytes, row_saved}
-use Rattle.command_set.specs.Finishing.{row_finish}
+use Rattle.command_set.specs.Files.{saved_bytes}
 use Rattle.session_turns.specs.Growth.{Begins}
 use Rattle.session_events.specs.declared.event.Answered.{Answered}
 use Rattle.session_events.specs.declared.event.Answered.TheVariants.{Read, NotThere, Wrote, WriteFailed, Built, Refused}
-use Rattle.kak_engine.specs.Asking.{Asked, OfPattern, OfFile, files_in}
-use Rattle.kak_engine.specs.Doing.{Fine, done_as, go_on, Do, top}
+use Rattle.session_events.specs.declared.event.Event.TheVariants.{Resize}
+use Rattle.session_events.specs.Meaning.{no_output}
+use Rattle.kak_engine.specs.Steps.{after_event, output_of}
+use Rattle.kak_engine.specs.Asking.{OfPattern, OfFile, files_in}
+use Rattle.kak_engine.specs.Course.{UsesPattern, ShowsFile, NotesFile, Happened, WasAsked}
+use Rattle.kak_engine.specs.Doing.{Fine, done_as, run_task, Do, top}
 use Rattle.kak_engine.specs.Seen.{moment_of}
 
 pub record Examples : Type 0 where
@@ -23,29 +27,37 @@ pub record Examples : Type 0 where
   -- a row that asks for a pattern takes the next answer: one that was built is made use of, and stands among what was asked for
   pub built : (who : ℕ) (wanted : PatternUse) (flat : Flat) (later : List Answered)
       → Do who top (Asks (Make wanted)) (moment_of [] (Built ∷ later) flat)
-      ≡ go_on (Do who) top (row_finish wanted.then (Some (encode_utf8_all wanted.pattern)) who flat) (moment_of (OfPattern (encode_utf8_all wanted.pattern) true ∷ []) later flat)
+      ≡ run_task (Do who) who top (UsesPattern wanted.then (Some (encode_utf8_all wanted.pattern))) (moment_of (WasAsked (OfPattern (encode_utf8_all wanted.pattern) true) ∷ []) later flat)
   -- one that was refused is told
   pub refused : (who : ℕ) (wanted : PatternUse) (flat : Flat) (later : List Answered)
       → Do who top (Asks (Make wanted)) (moment_of [] (Refused ∷ later) flat)
-      ≡ go_on (Do who) top (row_finish wanted.then None who flat) (moment_of (OfPattern (encode_utf8_all wanted.pattern) false ∷ []) later flat)
+      ≡ run_task (Do who) who top (UsesPattern wanted.then None) (moment_of (WasAsked (OfPattern (encode_utf8_all wanted.pattern) false) ∷ []) later flat)
   -- with no answer, or one of another kind, the answers don't fit what was asked for
   pub wanting : (who : ℕ) (wanted : PatternUse) (flat : Flat)
-      → Do who top (Asks (Make wanted)) (moment_of [] [] flat) ≡ done_as Fine (record { world = flat; answers = []; fit = false; asked = [] })
+      → Do who top (Asks (Make wanted)) (moment_of [] [] flat) ≡ done_as Fine (record { world = flat; answers = []; fit = false; course = [] })
   pub another : (who : ℕ) (wanted : PatternUse) (flat : Flat) (later : List Answered)
-      → Do who top (Asks (Make wanted)) (moment_of [] (Wrote ∷ later) flat) ≡ done_as Fine (record { world = flat; answers = Wrote ∷ later; fit = false; asked = [] })
+      → Do who top (Asks (Make wanted)) (moment_of [] (Wrote ∷ later) flat) ≡ done_as Fine (record { world = flat; answers = Wrote ∷ later; fit = false; course = [] })
   -- a row that asks for a file goes on with what it was read as, which stands among what was asked for
   pub read : (who : ℕ) (name bytes : List ℕ) (flat : Flat) (later : List Answered)
       → Do who top (Asks (ToRead name)) (moment_of [] (Read bytes ∷ later) flat)
-      ≡ go_on (Do who) top (row_read name (file.Bytes bytes) who flat) (moment_of (OfFile (WasRead name (file.Bytes bytes)) ∷ []) later flat)
+      ≡ run_task (Do who) who top (ShowsFile name (file.Bytes bytes)) (moment_of (WasAsked (OfFile (WasRead name (file.Bytes bytes))) ∷ []) later flat)
   -- and one that has a file written goes on with whether it was
   pub unwritten : (who : ℕ) (saving : Saving) (flat : Flat) (later : List Answered)
       → Do who top (Asks (Write saving)) (moment_of [] (WriteFailed ∷ later) flat)
-      ≡ go_on (Do who) top (row_saved saving put.Failed who flat) (moment_of (OfFile (Written saving.file (saved_bytes saving flat) put.Failed) ∷ []) later flat)
+      ≡ run_task (Do who) who top (NotesFile saving put.Failed) (moment_of (WasAsked (OfFile (Written saving.file (saved_bytes saving flat) put.Failed)) ∷ []) later flat)
   -- what is answered where a file is read says nothing of one that is written
   pub not_written : (who : ℕ) (saving : Saving) (flat : Flat) (later : List Answered)
-      → Do who top (Asks (Write saving)) (moment_of [] (NotThere ∷ later) flat) ≡ done_as Fine (record { world = flat; answers = NotThere ∷ later; fit = false; asked = [] })
-  -- where memory was wanting behind a file that was read, that read is a beginning of what the row asks for
+      → Do who top (Asks (Write saving)) (moment_of [] (NotThere ∷ later) flat) ≡ done_as Fine (record { world = flat; answers = NotThere ∷ later; fit = false; course = [] })
+  -- where memory was wanting behind a file that was read, that read is a beginning of what happens
   pub begun : (who : ℕ) (name bytes : List ℕ) (flat : Flat)
-      → Begins (Do who top (Asks (ToRead name)) (moment_of [] (Read bytes ∷ []) flat)).moment.asked (OfFile (WasRead name (file.Bytes bytes)) ∷ [])
-  -- and whatever is answered, nothing is a beginning of what a row asks for that asks for nothing
-  pub unasked : (who : ℕ) (answers : List Answered) (what : Asked) (flat : Flat) → Begins (Do who top (Asks Nothing) (moment_of [] answers flat)).moment.asked (what ∷ []) → ⊥
+      → Begins (Do who top (Asks (ToRead name)) (moment_of [] (Read bytes ∷ []) flat)).moment.course (WasAsked (OfFile (WasRead name (file.Bytes bytes))) ∷ [])
+  -- and whatever is answered, nothing is a beginning of what happens behind a row that asks for nothing
+  pub unasked : (who : ℕ) (answers : List Answered) (what : Happened) (flat : Flat) → Begins (Do who top (Asks Nothing) (moment_of [] answers flat)).moment.course (what ∷ []) → ⊥
+
+-- of two clients, 7 and 9, the first has windows of another size
+pub record SizeExamples : Type 0 where
+  pub rows_and_columns : view_of 7 (after_event 7 (Resize 10 40) [] two_joined) ≡ record { top = 0; left = 0; rows = 10; columns = 40 }
+  pub least_and_most : view_of 7 (after_event 7 (Resize 0 5000) [] two_joined) ≡ record { top = 0; left = 0; rows = 1; columns = 1000 }
+  pub last_counts : view_of 7 (after_event 7 (Resize 2 3) [] (after_event 7 (Resize 10 40) [] two_joined)) ≡ record { top = 0; left = 0; rows = 2; columns = 3 }
+  pub other_stays : view_of 9 (after_event 7 (Resize 10 40) [] two_joined) ≡ record { top = 0; left = 0; rows = 24; columns = 80 }
+  pub gives_nothing : output_of 7 (Resize 10 40) [] two_joined ≡ no_output

@@ -3,26 +3,29 @@ use Rattle.std.specs.Prelude.{◌≡◌, ◌≤◌, ◌<◌, ◌+◌, ℕ, true,
 use Rattle.std.specs.declared.option.Option.{Option}
 use Rattle.std.specs.declared.result.Result.{Result}
 use Rattle.session_events.specs.declared.event.Event.{Event}
-use Rattle.session_events.specs.declared.event.Event.TheVariants.{Join}
 use Rattle.session_events.specs.declared.event.Entry.{Entry}
 use Rattle.session_events.specs.declared.event.Output.{Output}
 use Rattle.session_events.specs.declared.fault.StepFault.{StepFault}
 use Rattle.session_events.specs.declared.fault.StepFault.TheVariants.{Broken, NoClient, Joined, HistoryFull, Full, NoMemory}
 use Rattle.session_events.specs.declared.event.Answered.{Answered}
+use Rattle.session_events.specs.declared.kind.Kind.{Kind}
+use Rattle.session_events.specs.declared.kind.Kind.TheVariants.{Coming}
 use Rattle.session_events.specs.Entries.{entry_with, is_join, is_leave, has_joined}
 use Rattle.session_events.specs.Legal.{Away, presence_from, is_here, IsLegal}
 use Rattle.kak_files.specs.Files.{Shelf}
 use Rattle.kak_world.specs.declared.world.TheConstants.{MAX_CLIENTS}
-use Rattle.kak_world.specs.Flat.{Flat, is_here as is_among, is_joined}
-use Rattle.kak_engine.specs.Steps.{run, output_of, asked_by, exchanges, is_session_full, AreAskedFor, AllAsked, IsStepCutShort}
+use Rattle.kak_world.specs.Flat.{Flat, opening, is_here as is_among, is_joined}
+use Rattle.kak_engine.specs.Steps.{run, output_of, asked_by, exchanges, is_session_full, AreAskedFor, AllAsked, IsStepCutShort, IsStepLeft}
 use Rattle.kak_engine.specs.Honesty.{Outside, IsHonest, IsKept}
 
--- an engine: its history, the number of entries that stood when it broke, if it did, how many it may have, and its outside
+-- an engine: its history, the number of entries that stood when it broke, if it did, how many it may have, its outside, and
+-- the world inside it, of which the buffers' texts are
 pub record HeldEngine : Type 0 where
   pub history : List Entry
   pub mark : Option ℕ
   pub limit : ℕ
   pub outside : Outside
+  pub inside : Flat
 
 -- An engine that isn't broken has the world that its history leads to, in which those clients are, and have joined, that
 -- have come and not gone, and no more than there may be. What was exchanged with its files in its history is what led to
@@ -73,9 +76,9 @@ pub record CanCome (who : ℕ) (flat : Flat) : Type 0 where
   pub away : is_among who flat.clients ≡ false
   pub few : length flat.clients < MAX_CLIENTS
 
--- an event can be run: who joins may come, and all other events are of one that is there
-abbrev pub CanRun : Event → ℕ → Flat → Type 0
-CanRun Join who flat = CanCome who flat
+-- an event of some kind can be run: who joins may come, and all other events are of one that is there
+abbrev pub CanRun : Kind → ℕ → Flat → Type 0
+CanRun Coming who flat = CanCome who flat
 CanRun _ who flat = is_joined who flat ≡ true
 
 -- An event of a client was taken: its entry was added with what the outside answered, which is what was asked for, and the
@@ -86,6 +89,14 @@ pub record TakesEvent (who : ℕ) (event : Event) (old new : HeldEngine) (output
   pub gives : output ≡ output_of who event answers (run old.history)
   pub asked : AreAskedFor who event answers (run old.history)
   pub honest : IsHonest answers (asked_by who event answers (run old.history)) old.outside new.outside
+
+-- an engine to which nothing happened
+abbrev pub new_engine : Outside → ℕ → HeldEngine
+new_engine outside limit = record { history = []; mark = None; limit = limit; outside = outside; inside = opening }
+
+-- an event of a client was begun, and memory was wanting: the world inside is left by it
+abbrev pub LeavesInside : ℕ → Event → HeldEngine → HeldEngine → Type 0
+LeavesInside who event old new = IsStepLeft who event (run old.history) new.inside old.outside new.outside
 
 -- an event of a client was begun, and memory was wanting: in it the outside was asked for a beginning of what it asks for
 abbrev pub CutsEvent : ℕ → Event → HeldEngine → HeldEngine → Type 0

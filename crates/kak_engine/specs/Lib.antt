@@ -1,11 +1,14 @@
 pub mod Answering
 pub mod Asking
 pub mod Noting
+pub mod Course
 pub mod Doing
+pub mod Wanting
 pub mod Steps
 pub mod Honesty
 pub mod Seen
 pub mod Held
+pub mod Joined
 pub mod Seating
 pub mod Laws
 pub mod Examples

@@ -1,12 +1,12 @@
 -- What the seats of an engine keep: what the outside was asked for since they were made, and that it was honest.
-use Rattle.std.specs.Prelude.{◌≡◌, ℕ, List, [], None, Some}
+use Rattle.std.specs.Prelude.{◌≡◌, ℕ, List, None, Some}
 use Rattle.std.specs.declared.option.Option.{Option}
 use Rattle.session_events.specs.declared.event.Entry.{Entry}
 use Rattle.session_events.specs.Entries.{others_of}
 use Rattle.session_events.specs.Seats.{Seated}
 use Rattle.kak_engine.specs.Steps.{asked_in, answers_in, IsBegunBehind}
 use Rattle.kak_engine.specs.Honesty.{Outside, IsHonest}
-use Rattle.kak_engine.specs.Held.{HeldEngine}
+use Rattle.kak_engine.specs.Held.{HeldEngine, new_engine}
 
 -- The seats of an engine.
 pub record EngineSeated : Type 0 where
@@ -20,7 +20,7 @@ pub record EngineSeated : Type 0 where
 -- seats at an engine to which nothing happened
 abbrev pub new_seats : Outside → ℕ → ℕ → EngineSeated
 new_seats outside limit who = record {
-  engine = record { history = []; mark = None; limit = limit; outside = outside };
+  engine = new_engine outside limit;
   who = who;
   first = outside;
 }

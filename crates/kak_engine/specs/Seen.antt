@@ -7,7 +7,8 @@ use Rattle.session_turns.specs.Growth.{Begins}
 use Rattle.session_events.specs.declared.event.Answered.{Answered}
 use Rattle.kak_engine.specs.declared.doing.Ending.{Ending}
 use Rattle.kak_engine.specs.declared.doing.Ending.TheVariants as code
-use Rattle.kak_engine.specs.Asking.{Asked}
+use Rattle.kak_engine.specs.Course.{Happened, asks_in}
+use Rattle.kak_engine.specs.Wanting.{IsLeftBy}
 use Rattle.kak_engine.specs.Doing.{DoingEnd, Fine, Failed, GivenUp, Moment, Part, budget_spent}
 use Rattle.kak_engine.specs.Honesty.{Outside, IsHonest}
 
@@ -18,8 +19,8 @@ end_seen (code.Failed text) = Failed text
 end_seen code.GivenUp = GivenUp budget_spent
 
 -- a moment of a step whose answers so far were of the kind that was asked for
-abbrev pub moment_of : List Asked → List Answered → Flat → Moment
-moment_of asked answers flat = record { world = flat; answers = answers; fit = true; asked = asked }
+abbrev pub moment_of : List Happened → List Answered → Flat → Moment
+moment_of course answers flat = record { world = flat; answers = answers; fit = true; course = course }
 
 -- a step under way: the world, what the outside answered so far, and the outside
 pub record UnderWay : Type 0 where
@@ -30,22 +31,24 @@ pub record UnderWay : Type 0 where
 abbrev pub under_way : Flat → List Answered → Outside → UnderWay
 under_way world had outside = record { world = world; had = had; outside = outside }
 
--- A part was done: the outside answered what it was asked for and nothing else, whatever answers are still to come, and
--- was honest in it.
+-- A part was done: this happened in it, whatever answers are still to come. The outside answered what it was asked for and
+-- nothing else, and was honest in it.
 pub record Does (part : Part) (old new : UnderWay) (end : DoingEnd) : Type 0 where
   pub used : List Answered
-  pub asked : List Asked
+  pub course : List Happened
   pub kept : new.had ≡ old.had ++ used
-  pub leads : (before : List Asked) (later : List Answered) → part (moment_of before (used ++ later) old.world) ≡ record { moment = moment_of (before ++ asked) later new.world; end = end }
-  pub honest : IsHonest used asked old.outside new.outside
+  pub leads : (before : List Happened) (later : List Answered) → part (moment_of before (used ++ later) old.world) ≡ record { moment = moment_of (before ++ course) later new.world; end = end }
+  pub honest : IsHonest used (asks_in course) old.outside new.outside
+  pub left : IsLeftBy (λ x. x ≡ old.world) course new.world
 
--- A part was begun, and memory was wanting: what the outside was asked for in it is a beginning of what the part asks for
--- with the answers that came, and the outside was honest in it.
+-- A part was begun, and memory was wanting: what happened is a beginning of what happens in the part with the answers that
+-- came, the outside was honest in it, and the world is left by it.
 pub record IsCutShort (part : Part) (old new : UnderWay) : Type 0 where
   pub used : List Answered
-  pub asked : List Asked
-  pub begins : (before : List Asked) → Begins (part (moment_of before used old.world)).moment.asked (before ++ asked)
-  pub honest : IsHonest used asked old.outside new.outside
+  pub course : List Happened
+  pub begins : (before : List Happened) → Begins (part (moment_of before used old.world)).moment.course (before ++ course)
+  pub honest : IsHonest used (asks_in course) old.outside new.outside
+  pub left : IsLeftBy (λ x. x ≡ old.world) course new.world
 
 -- unless memory was wanting, the part was done and ended as was answered; else it was cut short
 abbrev pub PartEnds : Result Ending AllocError → Part → UnderWay → UnderWay → Type 0

@@ -1,5 +1,5 @@
 -- The steps of a session: what each entry of its history does to the world, and what it gives its client.
-use Rattle.std.specs.Prelude.{◌≡◌, ℕ, Bool, true, false, not, ◌&&◌, nat_le, if◌then◌else◌, List, [], ◌∷◌, ◌++◌, length, None, Some, ⊤}
+use Rattle.std.specs.Prelude.{◌≡◌, ◌⊎◌, ℕ, Bool, true, false, not, ◌&&◌, nat_le, if◌then◌else◌, List, [], ◌∷◌, ◌++◌, length, Some, ⊤}
 use Rattle.kak_files.specs.Exchanges.{Exchange}
 use Rattle.session_turns.specs.Growth.{Begins}
 use Rattle.key_names.specs.declared.key.Key.{Key}
@@ -7,17 +7,22 @@ use Rattle.kak_world.specs.declared.own.Mode.{Mode}
 use Rattle.kak_world.specs.declared.own.Mode.TheVariants.{Normal, Insert, Prompt}
 use Rattle.kak_world.specs.declared.own.StatusText.TheVariants.{Quiet, Refused}
 use Rattle.kak_world.specs.declared.world.TheConstants.{MAX_CLIENTS}
-use Rattle.kak_world.specs.Flat.{Flat, opening, joined_by, left_by_client, mode_of, is_client_leaving, with_own, with_units}
+use Rattle.kak_world.specs.Flat.{Flat, opening, joined_by, left_by_client, mode_of, is_client_leaving, with_own, with_units, takes_turn, step_ended}
 use Rattle.kak_world.specs.Changing.{commits}
+use Rattle.window_view.specs.Sizes.{sized}
 use Rattle.draw_model.specs.Drawings.{drawing_of, after_following}
+use Rattle.kak_engine.specs.declared.engine.TheConstants.{MAX_UNITS}
 use Rattle.session_events.specs.declared.event.Event.{Event}
-use Rattle.session_events.specs.declared.event.Event.TheVariants.{Join, Key as Struck, Refresh, Leave}
+use Rattle.session_events.specs.declared.event.Event.TheVariants.{Join, Key as Struck, Resize, Refresh, Leave}
 use Rattle.session_events.specs.declared.event.Answered.{Answered}
 use Rattle.session_events.specs.declared.event.Entry.{Entry}
 use Rattle.session_events.specs.declared.event.Output.{Output}
 use Rattle.session_events.specs.Entries.{is_join}
 use Rattle.session_events.specs.Legal.{Away, is_here, presence_from}
+use Rattle.session_events.specs.Meaning.{no_output}
 use Rattle.kak_engine.specs.Asking.{Asked, files_in}
+use Rattle.kak_engine.specs.Course.{Happened, asks_in}
+use Rattle.kak_engine.specs.Wanting.{IsLeftBy}
 use Rattle.kak_engine.specs.Doing.{DoingEnd, Fine, Failed, GivenUp, Moment, Outcome, strike, top}
 use Rattle.kak_engine.specs.Honesty.{Outside, IsHonest}
 
@@ -31,13 +36,13 @@ told who Fine flat = flat
 told who (Failed text) flat = refused who text flat
 told who (GivenUp text) flat = refused who text flat
 
--- the world when a key begins: its client has no status, and the step has 4,096 units
+-- the world when a key begins: its client has no status, the step has all of its units, and it is the client's turn
 abbrev pub begun : ℕ → Flat → Flat
-begun who flat = with_units 4096 (with_own who (λ o. record o { status = Quiet }) flat)
+begun who flat = takes_turn who (with_units MAX_UNITS (with_own who (λ o. record o { status = Quiet }) flat))
 
 -- the moment when a key begins
 abbrev pub first_moment : ℕ → Flat → List Answered → Moment
-first_moment who flat answers = record { world = begun who flat; answers = answers; fit = true; asked = [] }
+first_moment who flat answers = record { world = begun who flat; answers = answers; fit = true; course = [] }
 
 -- what is pending of a client whose key ends in a mode: outside insert mode it is committed
 abbrev pub ends_group : Mode → ℕ → Flat → Flat
@@ -48,9 +53,9 @@ ends_group Prompt who flat = commits who flat
 abbrev pub group_ended : ℕ → Flat → Flat
 group_ended who flat = ends_group (mode_of who flat) who flat
 
--- the world when a key ends, with no units left between steps
+-- the world when a key ends, and the step with it
 abbrev pub key_ended : ℕ → Outcome → Flat
-key_ended who o = with_units 0 (group_ended who (told who o.end o.moment.world))
+key_ended who o = step_ended (group_ended who (told who o.end o.moment.world))
 
 -- the run of a key that its client's step began
 abbrev pub struck : ℕ → Key → List Answered → Flat → Outcome
@@ -61,33 +66,51 @@ unfoldable pub after_key : ℕ → Key → List Answered → Flat → Flat
 after_key who key answers flat =
     if is_client_leaving who flat then flat else key_ended who (struck who key answers flat)
 
--- what the outside is asked for by a key, in order
-unfoldable pub asked_by_key : ℕ → Key → List Answered → Flat → List Asked
-asked_by_key who key answers flat =
-    if is_client_leaving who flat then [] else (struck who key answers flat).moment.asked
+-- what happens in a key, in order
+unfoldable pub course_of_key : ℕ → Key → List Answered → Flat → List Happened
+course_of_key who key answers flat =
+    if is_client_leaving who flat then [] else (struck who key answers flat).moment.course
 
--- what the outside is asked for by an event; nothing but a key asks it for anything
+-- what happens in an event; in none but a key the outside is asked for anything, or a task begins
+abbrev pub course_of : ℕ → Event → List Answered → Flat → List Happened
+course_of who (Struck key) answers flat = course_of_key who key answers flat
+course_of who _ answers flat = []
+
+-- what the outside is asked for by an event, in order
 abbrev pub asked_by : ℕ → Event → List Answered → Flat → List Asked
-asked_by who (Struck key) answers flat = asked_by_key who key answers flat
-asked_by who _ answers flat = []
+asked_by who event answers flat = asks_in (course_of who event answers flat)
 
--- a client was drawn
+-- the world as a client is shown it: it is the client's turn, and its window has followed its cursor
+abbrev pub shown_to : ℕ → Flat → Flat
+shown_to who flat = after_following who (takes_turn who flat)
+
+-- a client was drawn, and the step is over
 abbrev pub noted_drawn : ℕ → Flat → Flat
-noted_drawn who flat = with_own who (λ o. record o { drawn = true }) flat
+noted_drawn who flat = step_ended (with_own who (λ o. record o { drawn = true }) flat)
+
+-- the world in which a client's windows have so many rows and columns, each brought into 1 to 1,000; where they stand stays
+abbrev pub resized : ℕ → ℕ → ℕ → Flat → Flat
+resized who rows columns flat = with_own who (λ o. record o { size = sized rows columns }) flat
 
 -- the world after an event of a client
 abbrev pub after_event : ℕ → Event → List Answered → Flat → Flat
 after_event who Join answers flat = joined_by who flat
 after_event who (Struck key) answers flat = after_key who key answers flat
-after_event who (Refresh asked) answers flat = noted_drawn who (after_following who flat)
+after_event who (Resize rows columns) answers flat = resized who rows columns flat
+after_event who (Refresh asked) answers flat = noted_drawn who (shown_to who flat)
 after_event who Leave answers flat = left_by_client who flat
+
+-- whether a client is granted to leave by a key, by which it wasn't before
+abbrev pub may_leave_by : ℕ → Key → List Answered → Flat → Bool
+may_leave_by who key answers flat = is_client_leaving who (after_key who key answers flat) && not (is_client_leaving who flat)
 
 -- what an event gives its client: a drawing where it is a refresh, and whether the client may leave from now on
 abbrev pub output_of : ℕ → Event → List Answered → Flat → Output
-output_of who Join answers flat = record { drawing = None; leaving = false }
-output_of who (Struck key) answers flat = record { drawing = None; leaving = is_client_leaving who (after_key who key answers flat) && not (is_client_leaving who flat) }
-output_of who (Refresh asked) answers flat = record { drawing = Some (drawing_of who (after_following who flat)); leaving = false }
-output_of who Leave answers flat = record { drawing = None; leaving = false }
+output_of who Join answers flat = no_output
+output_of who (Struck key) answers flat = record no_output { leaving = may_leave_by who key answers flat }
+output_of who (Resize rows columns) answers flat = no_output
+output_of who (Refresh asked) answers flat = record no_output { drawing = Some (drawing_of who (shown_to who flat)) }
+output_of who Leave answers flat = no_output
 
 abbrev pub after_entry : Entry → Flat → Flat
 after_entry entry flat = after_event entry.who entry.event entry.answers flat
@@ -159,6 +182,22 @@ pub record IsStepCutShort (who : ℕ) (event : Event) (flat : Flat) (before now 
   pub asked : List Asked
   pub begins : Begins (asked_by who event answers flat) asked
   pub honest : IsHonest answers asked before now
+
+-- the world is left so by an event in which this happened and that has no entry
+abbrev pub IsLeftByEvent : Event → ℕ → List Happened → Flat → Flat → Type 0
+IsLeftByEvent (Struck key) who course old new = IsLeftBy (λ x. (x ≡ old) ⊎ (x ≡ begun who old)) course new
+IsLeftByEvent (Refresh asked) who course old new = new ≡ shown_to who old
+IsLeftByEvent _ who course old new = new ≡ old
+
+-- An event of a client was begun, and memory was wanting: what happened in it is a beginning of what happens in the event with
+-- the answers that came, and the outside was honest in that. The world is left so by it, or it is the one after the event, when
+-- all of it happened.
+pub record IsStepLeft (who : ℕ) (event : Event) (old new : Flat) (before now : Outside) : Type 0 where
+  pub answers : List Answered
+  pub course : List Happened
+  pub begins : Begins (course_of who event answers old) course
+  pub honest : IsHonest answers (asks_in course) before now
+  pub left : IsLeftByEvent event who course old new ⊎ ((course ≡ course_of who event answers old) × (new ≡ after_event who event answers old))
 
 -- Behind a history an event was begun that has no entry, since memory was wanting for it: of a client that is here then, or a
 -- coming. (A coming asks for nothing, so that it stands for none, too.)

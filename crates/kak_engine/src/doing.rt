@@ -1,11 +1,14 @@
 //! Keys and commands, and what they ask for.
 #![tactic(auto, using(kak_world::proofs::WorldLaws::world_laws))]
 
-ghost use Rattle.std.specs.Prelude.{◌≡◌, true, IfOk, IsErr, OnOk};
-ghost use Rattle.kak_world.specs.Flat.{Flat, is_joined};
+ghost use Rattle.std.specs.Prelude.{◌≡◌, true, IfOk, IsErr, IsErrOf, OnOk};
+ghost use Rattle.kak_world.specs.declared.ask.EditError.TheVariants.{NoMemory};
+ghost use Rattle.kak_world.specs.Flat.{acts};
 ghost use Rattle.kak_world.specs.Rows.{GivesRow, RowEnd, Asks};
 ghost use Rattle.kak_world.specs.declared.ask.Ask.TheVariants.{Make, Read, Write};
 ghost use Rattle.kak_engine.specs.Doing.{Do, each, strike as strike_part, granted, row_key, run_text, run_command as one, go_on as rest_of, end_by_error, top};
+ghost use Rattle.kak_engine.specs.Course.{RunsKey};
+ghost use Rattle.kak_engine.specs.Wanting.{IsPartOfTask};
 ghost use Rattle.kak_engine.specs.Seen.{PartEnds, end_seen, under_way};
 
 use crate::asking::{made_told, make, put_told, read_told, write};
@@ -34,8 +37,9 @@ pub enum Ending {
 
 // The row of a key, by the mode of its client.
 fn run_row(alloc: Global, world: &mut World, who: u32, key: Key) -> Result<Ask, EditError>
-    requires { is_joined who world.old.flat ≡ true }
+    requires { acts who world.old.flat ≡ true }
     ensures row { GivesRow result world.new.flat (row_key key who world.old.flat) }
+    ensures wanting { IsErrOf result NoMemory → IsPartOfTask (RunsKey key) who world.old.flat world.new.flat }
 {
     let mode = world.own(who).mode;
     match mode {
@@ -58,7 +62,7 @@ fn ending_of(alloc: Global, error: EditError) -> Result<Ending, AllocError>
 
 // Grants a client to leave.
 fn grant_leave(world: &mut World, who: u32)
-    requires { is_joined who world.old.flat ≡ true }
+    requires { acts who world.old.flat ≡ true }
     ensures { world.new.flat ≡ granted who world.old.flat }
 {
     world.own_mut(who).leaving = true;
@@ -74,8 +78,8 @@ fn go_on<O: Outside>(
     who: u32,
     row: Result<Ask, EditError>,
 ) -> Result<Ending, AllocError>
-    requires { OnOk row (is_joined who world.old.flat ≡ true) }
-    ensures does { (before : Flat) (end : RowEnd) → GivesRow row world.old.flat end → PartEnds result (λ m. rest_of (Do who) top end m) (under_way before answers.old (O.seen outside.old)) (under_way world.new.flat answers.new (O.seen outside.new)) }
+    requires { OnOk row (acts who world.old.flat ≡ true) }
+    ensures does { (end : RowEnd) → GivesRow row world.old.flat end → PartEnds result (λ m. rest_of (Do who) top end m) (under_way world.old.flat answers.old (O.seen outside.old)) (under_way world.new.flat answers.new (O.seen outside.new)) }
 {
     match row {
         Ok(ask) => do_ask(alloc, world, outside, answers, who, ask),
@@ -93,7 +97,7 @@ fn do_ask<O: Outside>(
     who: u32,
     ask: Ask,
 ) -> Result<Ending, AllocError>
-    requires { is_joined who world.old.flat ≡ true }
+    requires { acts who world.old.flat ≡ true }
     ensures does { PartEnds result (λ m. Do who top (Asks ask) m) (under_way world.old.flat answers.old (O.seen outside.old)) (under_way world.new.flat answers.new (O.seen outside.new)) }
 {
     match ask {
@@ -119,7 +123,7 @@ fn make_and_use<O: Outside>(
     who: u32,
     wanted: PatternUse,
 ) -> Result<Ending, AllocError>
-    requires { is_joined who world.old.flat ≡ true }
+    requires { acts who world.old.flat ≡ true }
     ensures does { PartEnds result (λ m. Do who top (Asks (Make wanted)) m) (under_way world.old.flat answers.old (O.seen outside.old)) (under_way world.new.flat answers.new (O.seen outside.new)) }
 {
     let made = make(alloc, outside, wanted.pattern.as_slice())?;
@@ -138,7 +142,7 @@ fn read_and_show<O: Outside>(
     who: u32,
     name: Utf8Text,
 ) -> Result<Ending, AllocError>
-    requires { is_joined who world.old.flat ≡ true }
+    requires { acts who world.old.flat ≡ true }
     ensures does { PartEnds result (λ m. Do who top (Asks (Read name)) m) (under_way world.old.flat answers.old (O.seen outside.old)) (under_way world.new.flat answers.new (O.seen outside.new)) }
 {
     let read = outside.read(alloc, name.as_str())?;
@@ -157,7 +161,7 @@ fn write_and_note<O: Outside>(
     who: u32,
     saving: Saving,
 ) -> Result<Ending, AllocError>
-    requires { is_joined who world.old.flat ≡ true }
+    requires { acts who world.old.flat ≡ true }
     ensures does { PartEnds result (λ m. Do who top (Asks (Write saving)) m) (under_way world.old.flat answers.old (O.seen outside.old)) (under_way world.new.flat answers.new (O.seen outside.new)) }
 {
     let put = write(alloc, world, outside, &saving)?;
@@ -176,7 +180,7 @@ fn run_one<O: Outside>(
     who: u32,
     command: &Command,
 ) -> Result<Ending, AllocError>
-    requires { is_joined who world.old.flat ≡ true }
+    requires { acts who world.old.flat ≡ true }
     ensures does { PartEnds result (λ m. one (Do who) who top command.now m) (under_way world.old.flat answers.old (O.seen outside.old)) (under_way world.new.flat answers.new (O.seen outside.new)) }
 {
     if !world.take_unit() {
@@ -196,7 +200,7 @@ fn run_each<O: Outside>(
     who: u32,
     commands: &[Command],
 ) -> Result<Ending, AllocError>
-    requires { is_joined who world.old.flat ≡ true }
+    requires { acts who world.old.flat ≡ true }
     ensures does { PartEnds result (λ m. each (one (Do who) who top) commands.now m) (under_way world.old.flat answers.old (O.seen outside.old)) (under_way world.new.flat answers.new (O.seen outside.new)) }
 {
     for command in commands {
@@ -219,7 +223,7 @@ fn run_text<O: Outside>(
     who: u32,
     text: &[char],
 ) -> Result<Ending, AllocError>
-    requires { is_joined who world.old.flat ≡ true }
+    requires { acts who world.old.flat ≡ true }
     ensures does { PartEnds result (λ m. run_text (Do who) who top text.now m) (under_way world.old.flat answers.old (O.seen outside.old)) (under_way world.new.flat answers.new (O.seen outside.new)) }
 {
     match read(alloc, text) {
@@ -228,7 +232,7 @@ fn run_text<O: Outside>(
     }
 }
 
-/// Runs a key of a client, which stays joined. What the outside answers is added to the answers. An `Err` comes only for
+/// Runs a key of a client whose turn it is, and stays. What the outside answers is added to the answers. An `Err` comes only for
 /// want of memory; the world may then have been changed in part.
 pub fn strike<O: Outside>(
     alloc: Global,
@@ -238,9 +242,9 @@ pub fn strike<O: Outside>(
     who: u32,
     key: Key,
 ) -> Result<Ending, AllocError>
-    requires { is_joined who world.old.flat ≡ true }
+    requires { acts who world.old.flat ≡ true }
     ensures does { PartEnds result (λ m. strike_part who top key m) (under_way world.old.flat answers.old (O.seen outside.old)) (under_way world.new.flat answers.new (O.seen outside.new)) }
-    ensures joined { OnOk result (is_joined who world.new.flat ≡ true) }
+    ensures acts { OnOk result (acts who world.new.flat ≡ true) }
 {
     if !world.take_unit() {
         return Ok(Ending::GivenUp);

@@ -1,31 +1,38 @@
 //! The engine: the world, and the history that led to it.
 #![tactic(auto, using(kak_world::proofs::WorldLaws::world_laws, crate::proofs::KeepingLaws::joined_key))]
 
-ghost use Rattle.std.specs.Prelude.{◌≡◌, ◌<◌, ◌≤◌, ◌^◌, [], ◌∷◌, ◌++◌, length, true, None, Some, Err, IfOk, IfErr, IfSome, OnErr, OnOk, IsOk, false, ◌&&◌, ◌+◌, not, vec_len, vec_capacity};
+ghost use Rattle.std.specs.Prelude.{◌≡◌, ◌<◌, ◌≤◌, ◌^◌, [], ◌∷◌, ◌++◌, length, true, None, Some, Err, IfOk, IfErr, IfSome, OnErr, OnOk, IsOk, false, ◌+◌, vec_len, vec_capacity};
+ghost use Rattle.std.specs.Ordering.{nat_cmp};
+ghost use Rattle.std.specs.BTreeSet.{contains};
 ghost use Rattle.text_model.specs.Texts.{line_count};
-ghost use Rattle.kak_world.specs.Flat.{is_here, is_joined, is_client_leaving, text_of, sels_of};
+ghost use Rattle.kak_world.specs.Flat.{is_here, is_joined, acts, is_client_leaving, text_of, sels_of};
 ghost use Rattle.kak_world.specs.Settled.{AllListsSettled};
 ghost use Rattle.kak_world.specs.declared.world.TheConstants.{MAX_CLIENTS};
-ghost use Rattle.kak_engine.specs.Steps.{after_key, after_event, output_of, asked_by, exchanges, run, begun, told, refused, group_ended, noted_drawn, AreAskedFor, AllAsked, IsStepCutShort};
+ghost use Rattle.kak_engine.specs.Steps.{after_key, may_leave_by, after_event, output_of, asked_by, exchanges, run, begun, told, refused, group_ended, shown_to, noted_drawn, resized, AreAskedFor, AllAsked, IsStepLeft};
 ghost use Rattle.kak_engine.specs.Seen.{end_seen};
 ghost use Rattle.kak_engine.specs.Honesty.{IsUntouched, IsHonest, IsKept};
-ghost use Rattle.kak_engine.specs.Held.{event_refusal, refused_by, marked_after, marked_by, CanRun, TakesEvent, CutsEvent};
+ghost use Rattle.kak_engine.specs.Held.{new_engine, event_refusal, refused_by, marked_after, marked_by, CanRun, TakesEvent, CutsEvent, LeavesInside};
 ghost use Rattle.session_events.specs.declared.event.Event.TheVariants.{Leave, Key as Struck};
 ghost use Rattle.session_events.specs.declared.fault.StepFault.TheVariants.{NoMemory};
-ghost use Rattle.session_events.specs.Entries.{entry_of, is_join, is_leave, has_joined};
+ghost use Rattle.session_events.specs.Entries.{entry_of, kind_of, is_join, is_leave, has_joined};
 ghost use Rattle.session_events.specs.Legal.{Away, is_here as is_in, presence_from, IsLegal};
-ghost use Rattle.draw_model.specs.Drawings.{drawing_of, after_following};
+ghost use Rattle.draw_model.specs.Drawings.{drawing_of};
 
 use crate::doing::{Ending, strike};
+use crate::joined::{is_known, note_coming};
 use crate::outside::Outside;
-use draw_model::{draw, follow_cursor};
 use drawings::Drawing;
 use kak_text::Chars;
-use kak_world::{BUDGET_SPENT, MAX_CLIENTS, Mode, StatusText, World};
+use kak_world::{EditError, MAX_CLIENTS, Mode, StatusText, World};
 use key_names::Key;
 use session_events::{Answers, Entry, Event, Output, StepFault, is_join, is_leave};
 use std::alloc::{AllocError, Global};
+use std::collections::BTreeSet;
 use std::marker::Model;
+use window_view::Size;
+
+/// How many units a key has: each command, and each further run of a count, takes one.
+pub const MAX_UNITS: u32 = 4_096;
 
 /// No engine could be made, since memory was wanting; its outside is given back.
 #[derive(Drop, Debug)]
@@ -33,13 +40,14 @@ pub struct NoEngine<O> {
     pub outside: O,
 }
 
-/// The engine. Contracts see its history, its mark, its limit and what its outside is seen as. The world follows from the
-/// history.
+/// The engine. Contracts see its history, its mark, its limit, what its outside is seen as, and the world inside it, which
+/// follows from the history where the engine isn't broken.
 #[derive(Drop, Debug)]
 pub struct Engine<O: Outside> {
     world: World,
     outside: O,
     history: Vec<Entry>,
+    joined: BTreeSet<u32>,
     limit: u64,
     mark: Option<u64>,
 }
@@ -47,17 +55,18 @@ pub struct Engine<O: Outside> {
 impl<O: Outside> Model for Engine<O> {
     ghost use Rattle.std.specs.Prelude.{vec_len, vec_capacity};
     ghost use Rattle.kak_engine.specs.Held.{HeldEngine, EngineStands, KeepsPlaces};
+    ghost use Rattle.kak_engine.specs.Joined.{KnowsJoined};
 
     ghost Value = { HeldEngine };
 
-    ghost view = { λ e. record { history = e.history.items; mark = e.mark; limit = e.limit; outside = O.seen e.outside } };
+    ghost view = { λ e. record { history = e.history.items; mark = e.mark; limit = e.limit; outside = O.seen e.outside; inside = e.world.flat } };
 
-    ghost invariant = { λ e. EngineStands e.world.flat e.history.items e.mark e.limit (O.seen e.outside).shelf × KeepsPlaces e.mark e.world.flat (vec_len e.history) (vec_capacity e.history) };
+    ghost invariant = { λ e. EngineStands e.world.flat e.history.items e.mark e.limit (O.seen e.outside).shelf × KeepsPlaces e.mark e.world.flat (vec_len e.history) (vec_capacity e.history) × KnowsJoined e.mark e.joined e.history.items };
 }
 
 // Tells a client why its key was refused.
 fn refuse(world: &mut World, who: u32, text: Chars)
-    requires { is_joined who world.old.flat ≡ true }
+    requires { acts who world.old.flat ≡ true }
     ensures { world.new.flat ≡ refused who text world.old.flat }
 {
     world.own_mut(who).status = StatusText::Refused(text);
@@ -65,14 +74,15 @@ fn refuse(world: &mut World, who: u32, text: Chars)
 
 // Tells a client what went wrong with its key, if anything did.
 fn tell(alloc: Global, world: &mut World, who: u32, ending: Ending) -> Result<(), AllocError>
-    requires { is_joined who world.old.flat ≡ true }
-    ensures { OnOk result (world.new.flat ≡ told who (end_seen ending) world.old.flat) }
+    requires { acts who world.old.flat ≡ true }
+    ensures tells { OnOk result (world.new.flat ≡ told who (end_seen ending) world.old.flat) }
+    ensures err { OnErr result (world.new.flat ≡ world.old.flat) }
 {
     match ending {
         Ending::Fine => {}
         Ending::Failed(text) => refuse(world, who, text),
         Ending::GivenUp => {
-            let text = Chars::from_str(alloc, BUDGET_SPENT)?;
+            let text = EditError::BudgetSpent.text(alloc)?;
             refuse(world, who, text);
         }
     }
@@ -81,7 +91,7 @@ fn tell(alloc: Global, world: &mut World, who: u32, ending: Ending) -> Result<()
 
 // Ends what is pending of a client whose key ends: outside insert mode it is committed.
 fn end_group(world: &mut World, who: u32)
-    requires { is_joined who world.old.flat ≡ true }
+    requires { acts who world.old.flat ≡ true }
     ensures { world.new.flat ≡ group_ended who world.old.flat }
 {
     let mode = world.own(who).mode;
@@ -92,13 +102,15 @@ fn end_group(world: &mut World, who: u32)
     }
 }
 
-// The world when a key of a client begins.
+// Begins a key of a client, whose turn it is then.
 fn begin(world: &mut World, who: u32)
     requires { is_joined who world.old.flat ≡ true }
-    ensures { world.new.flat ≡ begun who world.old.flat }
+    ensures begins { world.new.flat ≡ begun who world.old.flat }
+    ensures acts { acts who world.new.flat ≡ true }
 {
     world.own_mut(who).status = StatusText::Quiet;
-    world.set_units(4096);
+    world.set_units(MAX_UNITS);
+    world.enter(who);
 }
 
 // Runs a key of a client that wasn't granted to leave.
@@ -116,13 +128,13 @@ fn run_struck<O: Outside>(
     ensures leads { OnOk result (world.new.flat ≡ after_key who key answers.new world.old.flat) }
     ensures asked { OnOk result (AreAskedFor who (Struck key) answers.new world.old.flat) }
     ensures honest { OnOk result (IsHonest answers.new (asked_by who (Struck key) answers.new world.old.flat) (O.seen outside.old) (O.seen outside.new)) }
-    ensures cut { OnErr result (IsStepCutShort who (Struck key) world.old.flat (O.seen outside.old) (O.seen outside.new)) }
+    ensures cut { OnErr result (IsStepLeft who (Struck key) world.old.flat world.new.flat (O.seen outside.old) (O.seen outside.new)) }
 {
     begin(world, who);
     let ending = strike(alloc, world, outside, answers, who, key)?;
     tell(alloc, world, who, ending)?;
     end_group(world, who);
-    world.set_units(0);
+    world.end_step();
     Ok(())
 }
 
@@ -138,10 +150,10 @@ fn run_key<O: Outside>(
     requires joined { is_joined who world.old.flat ≡ true }
     requires fresh { answers.old ≡ [] }
     ensures leads { OnOk result (world.new.flat ≡ after_key who key answers.new world.old.flat) }
-    ensures leaving { IfOk result (λ leaving. leaving ≡ (is_client_leaving who (after_key who key answers.new world.old.flat) && not (is_client_leaving who world.old.flat))) }
+    ensures leaving { IfOk result (λ leaving. leaving ≡ may_leave_by who key answers.new world.old.flat) }
     ensures asked { OnOk result (AreAskedFor who (Struck key) answers.new world.old.flat) }
     ensures honest { OnOk result (IsHonest answers.new (asked_by who (Struck key) answers.new world.old.flat) (O.seen outside.old) (O.seen outside.new)) }
-    ensures cut { OnErr result (IsStepCutShort who (Struck key) world.old.flat (O.seen outside.old) (O.seen outside.new)) }
+    ensures cut { OnErr result (IsStepLeft who (Struck key) world.old.flat world.new.flat (O.seen outside.old) (O.seen outside.new)) }
 {
     let own = world.own(who);
     if own.leaving {
@@ -152,15 +164,25 @@ fn run_key<O: Outside>(
     Ok(own.leaving)
 }
 
-// Lets a client's window follow its cursor, and gives what it is shown.
+// Gives a client's windows so many rows and columns, each brought into 1 to 1,000. Takes no memory.
+fn resize(world: &mut World, who: u32, rows: u16, columns: u16)
+    requires { is_joined who world.old.flat ≡ true }
+    ensures { world.new.flat ≡ resized who rows columns world.old.flat }
+{
+    world.own_mut(who).size = Size::new_within(rows, columns);
+}
+
+// Lets a client's window follow its cursor, and gives what it is shown. It is its turn meanwhile.
 fn redraw(alloc: Global, world: &mut World, who: u32) -> Result<Drawing, AllocError>
     requires { is_joined who world.old.flat ≡ true }
-    ensures draws { IfOk result (λ d. d ≡ drawing_of who (after_following who world.old.flat)) }
-    ensures follows { OnOk result (world.new.flat ≡ noted_drawn who (after_following who world.old.flat)) }
+    ensures draws { IfOk result (λ d. d ≡ drawing_of who (shown_to who world.old.flat)) }
+    ensures follows { OnOk result (world.new.flat ≡ noted_drawn who (shown_to who world.old.flat)) }
+    ensures err { OnErr result (world.new.flat ≡ shown_to who world.old.flat) }
 {
-    follow_cursor(world, who);
-    let drawing = draw(alloc, world, who)?;
+    world.enter(who);
+    let drawing = draw_model::redraw(alloc, world, who)?;
     world.own_mut(who).drawn = true;
+    world.end_step();
     Ok(drawing)
 }
 
@@ -171,16 +193,16 @@ fn run_event<O: Outside>(
     outside: &mut O,
     answers: &mut Answers,
     who: u32,
-    event: Event,
+    event: &Event,
 ) -> Result<Output, AllocError>
-    requires runs { CanRun event who world.old.flat }
+    requires runs { CanRun (kind_of event.now) who world.old.flat }
     requires fresh { answers.old ≡ [] }
-    ensures gives { IfOk result (λ output. output ≡ output_of who event answers.new world.old.flat) }
-    ensures leads { OnOk result (world.new.flat ≡ after_event who event answers.new world.old.flat) }
-    ensures asked { OnOk result (AreAskedFor who event answers.new world.old.flat) }
-    ensures honest { OnOk result (IsHonest answers.new (asked_by who event answers.new world.old.flat) (O.seen outside.old) (O.seen outside.new)) }
-    ensures joined { OnOk result (is_join event ≡ true → is_joined who world.new.flat ≡ true) }
-    ensures cut { OnErr result (IsStepCutShort who event world.old.flat (O.seen outside.old) (O.seen outside.new)) }
+    ensures gives { IfOk result (λ output. output ≡ output_of who event.now answers.new world.old.flat) }
+    ensures leads { OnOk result (world.new.flat ≡ after_event who event.now answers.new world.old.flat) }
+    ensures asked { OnOk result (AreAskedFor who event.now answers.new world.old.flat) }
+    ensures honest { OnOk result (IsHonest answers.new (asked_by who event.now answers.new world.old.flat) (O.seen outside.old) (O.seen outside.new)) }
+    ensures joined { OnOk result (is_join event.now ≡ true → is_joined who world.new.flat ≡ true) }
+    ensures cut { OnErr result (IsStepLeft who event.now world.old.flat world.new.flat (O.seen outside.old) (O.seen outside.new)) }
 {
     match event {
         Event::Join => {
@@ -189,8 +211,12 @@ fn run_event<O: Outside>(
         }
         Event::Key(key) => Ok(Output {
             drawing: None,
-            leaving: run_key(alloc, world, outside, answers, who, key)?,
+            leaving: run_key(alloc, world, outside, answers, who, *key)?,
         }),
+        Event::Resize(rows, columns) => {
+            resize(world, who, *rows, *columns);
+            Ok(Output::nothing())
+        }
         Event::Refresh(_) => Ok(Output {
             drawing: Some(redraw(alloc, world, who)?),
             leaving: false,
@@ -202,30 +228,25 @@ fn run_event<O: Outside>(
     }
 }
 
-// Whether a client has joined before.
-fn has_joined(history: &[Entry], who: u32) -> bool
-    ensures { result ≡ has_joined who history.now }
-{
-    history.iter().any(|entry| entry.who == who && matches!(entry.event, Event::Join))
-}
-
 // Why an event of a client is refused by an engine that isn't broken, if it is.
 fn refusal_by(
     world: &World,
+    joined: &BTreeSet<u32>,
     history: &[Entry],
     limit: u64,
     who: u32,
-    event: Event,
+    event: &Event,
 ) -> Option<StepFault>
     requires world { world.now.flat ≡ run history.now }
     requires known { is_joined who world.now.flat ≡ is_in (presence_from who Away history.now) }
-    ensures { result ≡ refused_by history.now limit who event }
+    requires numbers { contains nat_cmp joined.now who ≡ has_joined who history.now }
+    ensures { result ≡ refused_by history.now limit who event.now }
 {
     let joins = is_join(event);
     if !joins && !world.is_joined(who) {
         return Some(StepFault::NoClient(who));
     }
-    if joins && has_joined(history, who) {
+    if joins && is_known(joined, who) {
         return Some(StepFault::Joined(who));
     }
     if !is_leave(event) && history.len() as u64 >= limit {
@@ -263,19 +284,19 @@ fn run_with_places<O: Outside>(
     answers: &mut Answers,
     history: &mut Vec<Entry>,
     who: u32,
-    event: Event,
+    event: &Event,
 ) -> Result<Output, AllocError>
-    requires runs { CanRun event who world.old.flat }
+    requires runs { CanRun (kind_of event.now) who world.old.flat }
     requires fresh { answers.old ≡ [] }
     requires few { length world.old.flat.clients ≤ MAX_CLIENTS }
-    ensures gives { IfOk result (λ output. output ≡ output_of who event answers.new world.old.flat) }
-    ensures leads { OnOk result (world.new.flat ≡ after_event who event answers.new world.old.flat) }
-    ensures asked { OnOk result (AreAskedFor who event answers.new world.old.flat) }
-    ensures honest { OnOk result (IsHonest answers.new (asked_by who event answers.new world.old.flat) (O.seen outside.old) (O.seen outside.new)) }
-    ensures joined { OnOk result (is_join event ≡ true → is_joined who world.new.flat ≡ true) }
+    ensures gives { IfOk result (λ output. output ≡ output_of who event.now answers.new world.old.flat) }
+    ensures leads { OnOk result (world.new.flat ≡ after_event who event.now answers.new world.old.flat) }
+    ensures asked { OnOk result (AreAskedFor who event.now answers.new world.old.flat) }
+    ensures honest { OnOk result (IsHonest answers.new (asked_by who event.now answers.new world.old.flat) (O.seen outside.old) (O.seen outside.new)) }
+    ensures joined { OnOk result (is_join event.now ≡ true → is_joined who world.new.flat ≡ true) }
     ensures places { OnOk result (vec_len history.new + 1 + length world.new.flat.clients ≤ vec_capacity history.new) }
     ensures same { history.new.items ≡ history.old.items }
-    ensures cut { OnErr result (IsStepCutShort who event world.old.flat (O.seen outside.old) (O.seen outside.new)) }
+    ensures cut { OnErr result (IsStepLeft who event.now world.old.flat world.new.flat (O.seen outside.old) (O.seen outside.new)) }
 {
     let output = run_event(alloc, world, outside, answers, who, event)?;
     history.reserve(1 + world.client_count())?;
@@ -287,7 +308,7 @@ impl<O: Outside> Engine<O> {
     /// hold what they held when they were made, where that is told.
     pub fn new(alloc: Global, outside: O, limit: u64) -> Result<Engine<O>, NoEngine<O>>
         requires { IsUntouched (O.seen outside).shelf.told }
-        ensures new { IfOk result (λ e. e ≡ record { history = []; mark = None; limit = limit; outside = O.seen outside }) }
+        ensures new { IfOk result (λ e. e ≡ new_engine (O.seen outside) limit) }
         ensures none { IfErr result (λ none. none.outside ≡ outside) }
     {
         match World::new(alloc) {
@@ -295,6 +316,7 @@ impl<O: Outside> Engine<O> {
                 world,
                 outside,
                 history: Vec::new(alloc),
+                joined: BTreeSet::new(alloc),
                 limit,
                 mark: None,
             }),
@@ -314,6 +336,7 @@ impl<O: Outside> Engine<O> {
             world: _,
             outside,
             history: _,
+            joined: _,
             limit: _,
             mark: _,
         } = self;
@@ -349,6 +372,13 @@ impl<O: Outside> Engine<O> {
         self.world.lists_are_held();
     }
 
+    /// A law: where the engine isn't broken, the world inside it is the run of its history.
+    pub fn inside_is_run(&self)
+        ensures { self.now.mark ≡ None → self.now.inside ≡ run self.now.history }
+    {
+        let _ = &self.world;
+    }
+
     /// How many entries there are.
     pub fn count(&self) -> u64
         ensures { result ≡ length self.now.history }
@@ -376,41 +406,53 @@ impl<O: Outside> Engine<O> {
 
     /// How many selections a client has on the text that it sees. The engine isn't broken, and the client is here. An error is
     /// want of memory.
-    pub fn sels(&self, _alloc: Global, who: u32) -> Result<u64, AllocError>
+    pub fn sels(&self, alloc: Global, who: u32) -> Result<u64, AllocError>
         requires whole { self.now.mark ≡ None }
         requires here { is_in (presence_from who Away self.now.history) ≡ true }
         ensures { IfOk result (λ count. count ≡ length (sels_of who (run self.now.history)).list) }
     {
-        Ok(self.world.sels(who).len() as u64)
+        Ok(self.world.sel_count(alloc, who)? as u64)
     }
 
     // Why an event of a client is refused, if it is.
-    fn refusal(&self, who: u32, event: Event) -> Option<StepFault>
-        ensures refused { result ≡ event_refusal self.now who event }
+    fn refusal(&self, who: u32, event: &Event) -> Option<StepFault>
+        ensures refused { result ≡ event_refusal self.now who event.now }
         ensures legal { IsLegal self.now.limit self.now.history }
     {
         if let Some(at) = self.mark {
             return Some(StepFault::Broken(at));
         }
-        refusal_by(&self.world, self.history.as_slice(), self.limit, who, event)
+        refusal_by(
+            &self.world,
+            &self.joined,
+            self.history.as_slice(),
+            self.limit,
+            who,
+            event,
+        )
     }
 
     // Runs an event that is not refused, and keeps its entry. It can't fail where a client leaves.
-    fn run_and_keep(&mut self, alloc: Global, who: u32, event: Event) -> Result<Output, AllocError>
-        requires allowed { event_refusal self.old who event ≡ None }
-        ensures takes { IfOk result (λ output. TakesEvent who event self.old self.new output) }
+    fn run_and_keep(&mut self, alloc: Global, who: u32, event: &Event) -> Result<Output, AllocError>
+        requires allowed { event_refusal self.old who event.now ≡ None }
+        ensures takes { IfOk result (λ output. TakesEvent who event.now self.old self.new output) }
         ensures marked { OnOk result (self.new.mark ≡ self.old.mark) }
-        ensures joined { OnOk result (is_leave event ≡ false → is_in (presence_from who Away self.new.history) ≡ true) }
+        ensures joined { OnOk result (is_leave event.now ≡ false → is_in (presence_from who Away self.new.history) ≡ true) }
         ensures err { OnErr result (self.new.history ≡ self.old.history) }
-        ensures cut { OnErr result (CutsEvent who event self.old self.new) }
+        ensures cut { OnErr result (CutsEvent who event.now self.old self.new) }
+        ensures left { OnErr result (LeavesInside who event.now self.old self.new) }
         ensures breaks { OnErr result (self.new.mark ≡ marked_by self.old.mark (length self.old.history)) }
-        ensures leaves { is_leave event ≡ true → IsOk result }
+        ensures leaves { is_leave event.now ≡ true → IsOk result }
         ensures limit { self.new.limit ≡ self.old.limit }
         ensures legal { IsLegal self.new.limit self.new.history }
     {
         if is_leave(event) {
             return Ok(keep_leaving(alloc, &mut self.world, &mut self.history, who));
         }
+        let Ok(()) = note_coming(&mut self.joined, who, event) else {
+            self.mark = Some(self.history.len() as u64);
+            return Err(AllocError);
+        };
         let mut answers = Answers::new(alloc);
         let ran = run_with_places(
             alloc,
@@ -425,7 +467,7 @@ impl<O: Outside> Engine<O> {
             Ok(output) => {
                 self.history.push_reserved(Entry {
                     who,
-                    event,
+                    event: *event,
                     answers,
                 });
                 Ok(output)
@@ -440,15 +482,18 @@ impl<O: Outside> Engine<O> {
     /// Takes one event of a client. On Ok it stands as the last entry of the history, with what the outside answered, and the
     /// output is what it gives on the world that the history led to; unless it left, the client is here. Refusals are tested
     /// in the order `Broken`, `NoClient`, `Joined`, `HistoryFull`, `Full`; they change nothing. `NoMemory` adds no entry, and
-    /// breaks the engine; the outside was then asked for a beginning of what the event asks for. A client's going never wants
-    /// memory.
-    pub fn step(&mut self, alloc: Global, who: u32, event: Event) -> Result<Output, StepFault>
-        ensures refused { IfSome (event_refusal self.old who event) (λ fault. (result ≡ Err fault) × (self.new.outside ≡ self.old.outside)) }
-        ensures answered { event_refusal self.old who event ≡ None → IfErr result (λ fault. (fault ≡ NoMemory) × (is_leave event ≡ false)) }
-        ensures takes { IfOk result (λ output. TakesEvent who event self.old self.new output) }
-        ensures joined { OnOk result (is_leave event ≡ false → is_in (presence_from who Away self.new.history) ≡ true) }
+    /// breaks the engine; the outside was then asked for a beginning of what the event asks for, and the world inside is as it was
+    /// part of the way through the last task that began in the event, or behind that task or the whole event; where none began, it
+    /// is as before. A client's going never wants memory.
+    pub fn step(&mut self, alloc: Global, who: u32, event: &Event) -> Result<Output, StepFault>
+        ensures refused { IfSome (event_refusal self.old who event.now) (λ fault. (result ≡ Err fault) × (self.new.outside ≡ self.old.outside)) }
+        ensures answered { event_refusal self.old who event.now ≡ None → IfErr result (λ fault. (fault ≡ NoMemory) × (is_leave event.now ≡ false)) }
+        ensures takes { IfOk result (λ output. TakesEvent who event.now self.old self.new output) }
+        ensures joined { OnOk result (is_leave event.now ≡ false → is_in (presence_from who Away self.new.history) ≡ true) }
         ensures err { OnErr result (self.new.history ≡ self.old.history) }
-        ensures cut { event_refusal self.old who event ≡ None → OnErr result (CutsEvent who event self.old self.new) }
+        ensures cut { event_refusal self.old who event.now ≡ None → OnErr result (CutsEvent who event.now self.old self.new) }
+        ensures left { event_refusal self.old who event.now ≡ None → OnErr result (LeavesInside who event.now self.old self.new) }
+        ensures stays { IfSome (event_refusal self.old who event.now) (λ fault. self.new.inside ≡ self.old.inside) }
         ensures mark { self.new.mark ≡ marked_after result self.old }
         ensures limit { self.new.limit ≡ self.old.limit }
         ensures legal { IsLegal self.new.limit self.new.history }

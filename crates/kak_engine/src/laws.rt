@@ -1,6 +1,8 @@
 //! The laws of the definitions: each is the contract of a function that does nothing.
-ghost use Rattle.kak_engine.specs.Examples.{Examples};
-ghost use Rattle.kak_engine.specs.Laws.{BoundEndsNoStep, KeysKeepClients, OtherClientsStay};
+ghost use Rattle.std.specs.Prelude.{◌≡◌};
+ghost use Rattle.kak_engine.specs.Examples.{Examples, SizeExamples};
+ghost use Rattle.kak_engine.specs.declared.engine.TheConstants.{MAX_UNITS};
+ghost use Rattle.kak_engine.specs.Laws.{BoundEndsNoStep, KeysKeepClients, OtherClientsStay, ResizesChangeSizes, StepsEnd};
 
 /// The bound on nesting ends no step by itself: with a bound above how deep a row may
 /// nest by its units and stages, more of it makes no difference.
@@ -18,7 +20,28 @@ pub fn others_stay()
     ensures { OtherClientsStay }
 {}
 
+/// A resize gives the windows of its client so many rows and columns, each brought into 1 to 1,000, and changes nothing else.
+pub fn resizes_change_sizes()
+    ensures { ResizesChangeSizes }
+{}
+
+/// The limit, in numbers.
+pub fn limits()
+    ensures { MAX_UNITS ≡ 4096 }
+{}
+
+/// Behind each history no step is under way: it is nobody's turn, and no unit is left.
+pub fn steps_end()
+    ensures { StepsEnd }
+{}
+
 /// Worked examples of rows that ask the outside for something.
 pub fn worked_examples()
     ensures { Examples }
+{}
+
+/// Worked examples of windows of other sizes.
+#[tactic(auto, unfolding(kak_world::specs::Flat::client_of, kak_world::specs::Flat::shown_of, kak_world::specs::Flat::buffer_of, kak_world::specs::Flat::list_of, kak_world::specs::Flat::own_of, kak_world::specs::Flat::view_of, kak_world::specs::Flat::with_own, kak_world::specs::Flat::joined_by))]
+pub fn size_examples()
+    ensures { SizeExamples }
 {}

@@ -5,13 +5,14 @@ pub mod asking;
 pub mod doing;
 pub mod engine;
 pub mod files_and_patterns;
+mod joined;
 pub mod laws;
 pub mod none;
 pub mod outside;
 pub mod seat;
 pub mod trace;
 
-pub use engine::{Engine, NoEngine};
+pub use engine::{Engine, MAX_UNITS, NoEngine};
 pub use files_and_patterns::FilesAndPatterns;
 pub use none::NoOutside;
 pub use outside::Outside;

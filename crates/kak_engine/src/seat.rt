@@ -81,7 +81,7 @@ impl<O: Outside> Seat for EngineSeats<O> {
 
     ghost kept = { λ s. s.first };
 
-    fn step(&mut self, alloc: Global, event: Event) -> Result<Output, StepFault> {
+    fn step(&mut self, alloc: Global, event: &Event) -> Result<Output, StepFault> {
         self.engine.step(alloc, self.who, event)
     }
 }

@@ -3,18 +3,18 @@ use Rattle.kak_engine.proofs.KeyLemmas.{after-struck, asked-struck, honest-struc
 use Rattle.kak_engine.proofs.engine.run_struck.Goals as goal
 
 pub returns-clause-leads : goal.returns-clause-leads
-returns-clause-leads g c = after-struck c.args.who c.args.key c.args.world.now.flat c.begin.new.world.flat c.tell.new.world.flat c.end_group.new.world.flat c.set_units.new.self.flat _ _ _ c.in_ok-ending.ending
-    c.requires.stays c.begin.ensures c.requires.fresh c.in_ok-ending.ensures.does c.in_ok-tell.ensures c.end_group.ensures c.set_units.ensures
+returns-clause-leads g c = after-struck c.args.who c.args.key c.args.world.now.flat c.begin.new.world.flat c.tell.new.world.flat c.end_group.new.world.flat c.end_step.new.self.flat _ _ _ c.in_ok-ending.ending
+    c.requires.stays c.begin.ensures.begins c.requires.fresh c.in_ok-ending.ensures.does c.in_ok-tell.ensures.tells c.end_group.ensures c.end_step.ensures
 
 pub returns-clause-asked : goal.returns-clause-asked
-returns-clause-asked g c = asked-struck c.args.who c.args.key c.args.world.now.flat c.begin.new.world.flat _ _ _ c.in_ok-ending.ending c.requires.stays c.begin.ensures c.requires.fresh c.in_ok-ending.ensures.does
+returns-clause-asked g c = asked-struck c.args.who c.args.key c.args.world.now.flat c.begin.new.world.flat _ _ _ c.in_ok-ending.ending c.requires.stays c.begin.ensures.begins c.requires.fresh c.in_ok-ending.ensures.does
 
 pub returns-clause-honest : goal.returns-clause-honest
-returns-clause-honest g c = honest-struck c.args.who c.args.key c.args.world.now.flat c.begin.new.world.flat _ _ _ c.in_ok-ending.ending c.requires.stays c.begin.ensures c.requires.fresh c.in_ok-ending.ensures.does
+returns-clause-honest g c = honest-struck c.args.who c.args.key c.args.world.now.flat c.begin.new.world.flat _ _ _ c.in_ok-ending.ending c.requires.stays c.begin.ensures.begins c.requires.fresh c.in_ok-ending.ensures.does
 
 pub returns-in_err-ending-clause-cut : goal.returns-in_err-ending-clause-cut
-returns-in_err-ending-clause-cut g c = on_any c.from_residual.result _ (cut-struck c.args.who c.args.key c.args.world.now.flat c.begin.new.world.flat _ _ _ c.requires.stays c.begin.ensures c.in_err-ending.ensures.does)
+returns-in_err-ending-clause-cut g c = on_any c.from_residual.result _ (cut-struck c.args.who c.args.key c.args.world.now.flat c.begin.new.world.flat _ _ _ c.requires.stays c.begin.ensures.begins c.in_err-ending.ensures.does)
 
 pub returns-in_err-tell-clause-cut : goal.returns-in_err-tell-clause-cut
 returns-in_err-tell-clause-cut g c =
-    on_any c.from_residual-in_err-tell.result _ (cut-told c.args.who c.args.key c.args.world.now.flat c.begin.new.world.flat _ _ _ c.in_ok-ending.ending c.requires.stays c.begin.ensures c.requires.fresh c.in_ok-ending.ensures.does)
+    on_any c.from_residual-in_err-tell.result _ (cut-told c.args.who c.args.key c.args.world.now.flat c.begin.new.world.flat c.tell.new.world.flat _ _ _ c.in_ok-ending.ending c.requires.stays c.begin.ensures.begins c.requires.fresh c.in_err-tell.ensures.err c.in_ok-ending.ensures.does)

@@ -1,0 +1,36 @@
+-- What happens in a step, in order: what the outside is asked for, and which tasks begin.
+use Rattle.std.specs.Prelude.{ℕ, List, [], ◌∷◌}
+use Rattle.std.specs.declared.option.Option.{Option}
+use Rattle.key_names.specs.declared.key.Key.{Key}
+use Rattle.kak_words.specs.declared.parts.Command.{Command}
+use Rattle.kak_files.specs.declared.files.FileRead.{FileRead}
+use Rattle.kak_ports.specs.declared.sink.Put.{Put}
+use Rattle.kak_world.specs.declared.ask.Saving.{Saving}
+use Rattle.kak_world.specs.declared.purpose.Use.{Use}
+use Rattle.kak_world.specs.Flat.{Flat}
+use Rattle.kak_engine.specs.Asking.{Asked}
+
+-- a task, which has a row
+pub data Task : Type 0 where
+  -- a key is run
+  RunsKey : Key → Task
+  -- a command is run
+  RunsCommand : Command → Task
+  -- a use is made of the pattern of a text, or it is told that the pattern was refused
+  UsesPattern : Use → Option (List ℕ) → Task
+  -- it is gone on with a file that was to be read, and with one that was to be written
+  ShowsFile : List ℕ → FileRead → Task
+  NotesFile : Saving → Put → Task
+  -- a client is granted to leave
+  GrantsLeave : Task
+
+-- one thing that happens in a step: the outside is asked for something, or a task of a client begins in a world
+pub data Happened : Type 0 where
+  WasAsked : Asked → Happened
+  Began : ℕ → Task → Flat → Happened
+
+-- what the outside was asked for in it, in order
+abbrev pub asks_in : List Happened → List Asked
+asks_in [] = []
+asks_in (WasAsked what ∷ later) = what ∷ asks_in later
+asks_in (Began who task flat ∷ later) = asks_in later
