@@ -3,27 +3,23 @@ use Rattle.std.proofs.Common.{◌≡◌, ℕ, ◌<◌, inl, Bool, true, false, �
 use Rattle.std.specs.Prelude.{if◌then◌else◌, ◌&&◌, ◌==◌}
 use Rattle.std.specs.Io.KnownBytes.{Appends}
 use Rattle.std.proofs.KnownBytes.{Appends-nil, Consumes-nil}
-use Rattle.std.proofs.lemmas.Bool.{eq-eqb}
 use Rattle.kak_ports.specs.Ports.{Inlet, Outlet}
 use Rattle.session_turns.specs.Histories.{own, answers}
 use Rattle.session_turns.specs.Turns.{Opening, plays, phase_size}
 use Rattle.session_turns.specs.Headline.{Stands, IsServed, Refused, Lost}
-use Rattle.session_turns.proofs.HistoryLemmas.{own-append, answers_behind-others, leave-own}
+use Rattle.session_turns.proofs.HistoryLemmas.{own-append, answers_behind-others}
 use Rattle.session_turns.proofs.TurnLemmas.{phase_stops, phase_breaks}
 use Rattle.session_turns.proofs.Ends.{never-stands, lost-lost}
 use Rattle.session_events.specs.declared.event.Event.{Event}
-use Rattle.session_events.specs.declared.event.Event.TheVariants.{Join}
 use Rattle.session_events.specs.declared.event.Entry.{Entry}
-use Rattle.session_events.specs.declared.event.Output.{Output}
-use Rattle.session_events.specs.Entries.{entry_with, is_join, has_joined}
+use Rattle.session_events.specs.Entries.{is_join, has_joined}
 use Rattle.session_events.specs.Meaning.{Gives, rules}
-use Rattle.session_events.specs.Seats.{Seated, IsSameSeat, Steps, Sees}
+use Rattle.session_events.specs.Seats.{Seated, IsSameSeat, Sees}
 use Rattle.client_links.specs.Wires.{Wire}
 use Rattle.line_reading.specs.Reading.{IsAll}
 use Rattle.line_reading.specs.Hearing.{inlet_of}
 use Rattle.session_lines.specs.declared.playing.Stop.{Stop}
 use Rattle.session_lines.specs.declared.playing.Stop.TheVariants as stop
-use Rattle.session_lines.specs.Session.{protocol}
 use Rattle.session_lines.specs.Serving.{Service}
 use Rattle.session_lines.specs.Reading.{WasDueStill}
 use Rattle.session_lines.specs.Connections.{connection_end, WasServed}
@@ -55,33 +51,21 @@ not-joined g seat e j = differ (has_joined seat.number seat.seen) (none-joined g
     differ true f t = cc
     differ false f t = cc
 
--- the client came: that is all that it did
-pub joined-own : (g : Gives) (x y : Seated) (output : Output) → IsSameSeat x y → own (rules g) x.number x.seen ≡ [] → Steps g x y Join output → own (rules g) y.number y.seen ≡ Join ∷ []
-joined-own g x y output same none s =
-    let P : ℕ → Type 0 = λ n. own (rules g) n y.seen ≡ Join ∷ [] in
-    subst P (sym same.number)
-    (ap (own (rules g) x.number) s.stands
-    ∙ leave-own (rules g) x.number (x.seen ++ s.between) (entry_with x.number Join s.answers) (eq-eqb x.number x.number refl)
-    ∙ ap (λ q. q ++ Join ∷ []) (own-append (rules g) x.number x.seen s.between ∙ ap (λ q. q ++ own (rules g) x.number s.between) none ∙ s.foreign))
-
 -- a client that didn't come is owed nothing, and was sent nothing
 none-answered : (g : Gives) (k : ℕ) (h : List Entry) → own (rules g) k h ≡ [] → answers (rules g) k h ≡ []
 none-answered g k h e = answers_behind-others (rules g) k [] h e
 
-refused-stands : (g : Service) (k : ℕ) (h : List Entry) → own (rules g.gives) k h ≡ [] → Stands (protocol g.opens) (rules g.gives) Refused k h [] []
-refused-stands g k h e =
-    never-stands (protocol g.opens) (rules g.gives) k h [] [] (phase_stops (protocol g.opens) Opening [] (plays (protocol g.opens) Opening, refl) some) (record { answered = none-answered g.gives k h e; stood = e })
-  where
-    some : 0 < phase_size (protocol g.opens) Opening
-    some = omega arith
+refused-stands : (g : Service) (k : ℕ) (h : List Entry) → 0 < phase_size g.protocol Opening → own (rules g.gives) k h ≡ [] → Stands g.protocol (rules g.gives) Refused k h [] []
+refused-stands g k h some e =
+    never-stands g.protocol (rules g.gives) k h [] [] (phase_stops g.protocol Opening [] (plays g.protocol Opening, refl) some) (record { answered = none-answered g.gives k h e; stood = e })
 
-lost-stands : (g : Service) (k : ℕ) (h : List Entry) → own (rules g.gives) k h ≡ [] → Stands (protocol g.opens) (rules g.gives) Lost k h [] []
+lost-stands : (g : Service) (k : ℕ) (h : List Entry) → own (rules g.gives) k h ≡ [] → Stands g.protocol (rules g.gives) Lost k h [] []
 lost-stands g k h e =
-    lost-lost (protocol g.opens) (rules g.gives) k h [] [] [] (phase_breaks (protocol g.opens) Opening [] (plays (protocol g.opens) Opening, refl)) (record { answered = none-answered g.gives k h e; stood = inl e })
+    lost-lost g.protocol (rules g.gives) k h [] [] [] (phase_breaks g.protocol Opening [] (plays g.protocol Opening, refl)) (record { answered = none-answered g.gives k h e; stood = inl e })
 
 -- a connection over which nothing went, for any of the ends
-nothing-full : (g : Service) (k : ℕ) (h : List Entry) (a : Outlet) (left : Inlet) → own (rules g.gives) k h ≡ [] → (w : WasServed true g k h a a left left (Err stop.HistoryFull)) × (w.bytes ≡ [])
-nothing-full g k h a left none = (
+nothing-full : (g : Service) (k : ℕ) (h : List Entry) (a : Outlet) (left : Inlet) → 0 < phase_size g.protocol Opening → own (rules g.gives) k h ≡ [] → (w : WasServed true g k h a a left left (Err stop.HistoryFull)) × (w.bytes ≡ [])
+nothing-full g k h a left some none = (
   record {
     bytes = [];
     takes = Consumes-nil left.left;
@@ -90,8 +74,8 @@ nothing-full g k h a left none = (
     asked = λ e. refl;
     out = [];
     sends = Appends-nil a.told;
-    served = record { lines = inl refl; stands = refused-stands g k h none };
-    end_is = refused-end g.opens (WasDueStill g.gives k h) left (answers (rules g.gives) k h) tt (none-answered g.gives k h none);
+    served = record { lines = inl refl; stands = refused-stands g k h some none };
+    end_is = refused-end g.protocol (WasDueStill g.gives k h) left (answers (rules g.gives) k h) tt some (none-answered g.gives k h none);
   },
   refl,
 )
@@ -106,8 +90,8 @@ nothing-lost g k h a left why lost none = (
     asked = λ e. refl;
     out = [];
     sends = Appends-nil a.told;
-    served = subst (λ e. IsServed (protocol g.opens) (rules g.gives) e k h [] (IsAll left []) [] []) (sym lost) (record { lines = inl refl; stands = lost-stands g k h none });
-    end_is = lost-end g.opens (WasDueStill g.gives k h) (Opening ∷ []) [] (answers (rules g.gives) k h) why left [] lost;
+    served = subst (λ e. IsServed g.protocol (rules g.gives) e k h [] (IsAll left []) [] []) (sym lost) (record { lines = inl refl; stands = lost-stands g k h none });
+    end_is = lost-end g.protocol (WasDueStill g.gives k h) (Opening ∷ []) [] (answers (rules g.gives) k h) why left [] lost;
   },
   refl,
 )
@@ -116,18 +100,18 @@ nothing-lost g k h a left why lost none = (
 bare-row : (g : Service) (k : ℕ) (h : List Entry) (a : Wire) (e : Ended) → PartsHistory g.gives e k h h → (w : WasServed true g k h a.outlet a.outlet (inlet_of a) (inlet_of a) (result_of e)) × (w.bytes ≡ []) → WasServedOver g k h a a e
 bare-row g k h a e parts w = record { front = h; served = w.0; received = subst (λ bs. Appends a.received a.received bs) (sym w.1) (Appends-nil a.received); parting = parts }
 
--- how a serving ended where the client couldn't come
-pub refused-over : (g : Service) (crowded : List Entry → Bool) (a : Wire) (e : Ended) (seat : Seated) → JoinsNot g.gives crowded e seat → WasServedOver g seat.number seat.seen a a e
-refused-over g crowded a HistoryFull seat j =
-    bare-row g seat.number seat.seen a HistoryFull refl (nothing-full g seat.number seat.seen a.outlet (inlet_of a) j.0)
-refused-over g crowded a Full seat j =
-    bare-row g seat.number seat.seen a Full refl (nothing-full g seat.number seat.seen a.outlet (inlet_of a) j.0)
-refused-over g crowded a (Broken at) seat j =
+-- how a serving ended where the client couldn't come, which is to play something when it opens
+pub refused-over : (g : Service) (crowded : List Entry → Bool) (a : Wire) (e : Ended) (seat : Seated) → 0 < phase_size g.protocol Opening → JoinsNot g.gives crowded e seat → WasServedOver g seat.number seat.seen a a e
+refused-over g crowded a HistoryFull seat some j =
+    bare-row g seat.number seat.seen a HistoryFull refl (nothing-full g seat.number seat.seen a.outlet (inlet_of a) some j.0)
+refused-over g crowded a Full seat some j =
+    bare-row g seat.number seat.seen a Full refl (nothing-full g seat.number seat.seen a.outlet (inlet_of a) some j.0)
+refused-over g crowded a (Broken at) seat some j =
     bare-row g seat.number seat.seen a (Broken at) refl (nothing-lost g seat.number seat.seen a.outlet (inlet_of a) (stop.Broken at) refl j.0)
-refused-over g crowded a NoMemory seat j =
+refused-over g crowded a NoMemory seat some j =
     bare-row g seat.number seat.seen a NoMemory refl (nothing-lost g seat.number seat.seen a.outlet (inlet_of a) stop.NoMemory refl j)
-refused-over g crowded a Left seat j = absurd j
-refused-over g crowded a Closed seat j = absurd j
-refused-over g crowded a LinkRead seat j = absurd j
-refused-over g crowded a LinkWrite seat j = absurd j
-refused-over g crowded a InputFull seat j = absurd j
+refused-over g crowded a Left seat some j = absurd j
+refused-over g crowded a Closed seat some j = absurd j
+refused-over g crowded a LinkRead seat some j = absurd j
+refused-over g crowded a LinkWrite seat some j = absurd j
+refused-over g crowded a InputFull seat some j = absurd j

@@ -5,27 +5,27 @@ use Rattle.std.specs.List.{AllByRecursion}
 use Rattle.std.specs.declared.result.Result.{Result}
 use Rattle.kak_ports.specs.Ports.{Outlet}
 use Rattle.key_names.specs.declared.key.Key.{Key}
-use Rattle.json_ui.specs.declared.request.Request.{Request}
-use Rattle.json_ui.specs.declared.request.Request.TheVariants.{Nothing, Keys}
-use Rattle.json_ui.specs.Requests.{read_request}
+use Rattle.requests.specs.declared.request.Request.{Request}
+use Rattle.requests.specs.declared.request.Request.TheVariants.{Nothing, Keys, Resize}
+use Rattle.requests.specs.Reading.{Reads}
 use Rattle.drawings.specs.declared.refusal.Refusal.{Refusal}
 use Rattle.session_turns.specs.Histories.{Answer, own, events_of}
-use Rattle.session_turns.specs.Turns.{Phase, Opening, During, Line, Idle, plays}
+use Rattle.session_turns.specs.Turns.{Phase, Protocol, Opening, During, Line, Idle, plays}
 use Rattle.session_turns.specs.Growth.{Begins, How, Whole, Over, Short, Unsent, Lost, Fits}
 use Rattle.session_events.specs.declared.event.Event.{Event}
 use Rattle.session_events.specs.declared.event.Event.TheVariants.{Refresh, Leave}
 use Rattle.session_events.specs.declared.event.Entry.{Entry}
-use Rattle.session_events.specs.Entries.{entry_with}
+use Rattle.session_events.specs.Entries.{kind_of, is_drawing, entry_with}
 use Rattle.session_events.specs.Legal.{Presence, Away, is_here, presence_after, presence_from}
 use Rattle.session_events.specs.Meaning.{Gives, rules}
 use Rattle.session_events.specs.Seats.{Seated, Sees}
 use Rattle.session_events.proofs.LegalLemmas.{presence-append}
-use Rattle.session_events.specs.Missing.{is_drawing, has_news, has_missed}
+use Rattle.session_events.specs.Missing.{has_news, has_missed}
 use Rattle.session_events.proofs.MissingLemmas.{news-new, news-other}
 use Rattle.session_lines.specs.declared.playing.Stop.{Stop}
 use Rattle.session_lines.specs.declared.playing.Stop.TheVariants as stop
 use Rattle.session_lines.specs.Session.{protocol, keys_played, played_by}
-use Rattle.session_lines.specs.Serving.{Service, Serves, HasGone, how_of, line_phases, unseen}
+use Rattle.session_lines.specs.Serving.{Service, service, Serves, HasGone, how_of, line_phases, unseen}
 use Rattle.session_lines.proofs.ReadingLemmas.{due-one, short-size}
 use Rattle.link_lines.specs.declared.ended.Ended.{Ended}
 use Rattle.link_lines.specs.declared.ended.Ended.TheVariants.{Left, Closed, LinkRead, LinkWrite, InputFull, HistoryFull, Full, Broken, NoMemory}
@@ -77,7 +77,7 @@ missed-foreign k b n other m =
     both (is_here (presence_from k Away b)) (has_news k b) (is_here (presence_from k Away (b ++ n ∷ []))) (has_news k (b ++ n ∷ [])) (ap is_here (presence-append k Away b (n ∷ []) ∙ away (n.who == k) (presence_from k Away b) other))
     (by (is_drawing n.event) refl) m
   where
-    away : (t : Bool) (p : Presence) → t ≡ false → (if t then presence_after n.event p else p) ≡ p
+    away : (t : Bool) (p : Presence) → t ≡ false → (if t then presence_after (kind_of n.event) p else p) ≡ p
     away true p e = cc
     away false p e = refl
 
@@ -115,12 +115,12 @@ drawn-once g k b (n ∷ more) rest m e = by (n.who == k) refl (λ missed f. draw
 begins-by : (whole due front : List Event) → due ≡ whole → Begins due front → Begins whole front
 begins-by whole due front e b = (b.0, sym e ∙ b.1)
 
-plays-begin : (opens : List Key) (how : How) (phase : Phase) (got : List (Answer Event)) (out : List ℕ) → Fits (protocol opens) how (phase ∷ []) got out → Begins (plays (protocol opens) phase) (events_of got)
-plays-begin opens Whole phase got out f = ([], sym (append-nil (plays (protocol opens) phase)) ∙ sym f.events ∙ sym (append-nil (events_of got)))
-plays-begin opens Over phase got out f = ([], sym (due-one opens phase got) ∙ f.events [] ∙ sym (append-nil (events_of got)))
-plays-begin opens Short phase got out f = let h = f.events [] in (h.0 ∷ h.1, sym (due-one opens phase got) ∙ h.2)
-plays-begin opens Unsent phase got out f = begins-by _ _ _ (due-one opens phase got) ((unsent-lost (protocol opens) (phase ∷ []) got out f).events [])
-plays-begin opens Lost phase got out f = begins-by _ _ _ (due-one opens phase got) (f.events [])
+plays-begin : (p : Protocol Event) (how : How) (phase : Phase) (got : List (Answer Event)) (out : List ℕ) → Fits p how (phase ∷ []) got out → Begins (plays p phase) (events_of got)
+plays-begin p Whole phase got out f = ([], sym (append-nil (plays p phase)) ∙ sym f.events ∙ sym (append-nil (events_of got)))
+plays-begin p Over phase got out f = ([], sym (due-one p phase got) ∙ f.events [] ∙ sym (append-nil (events_of got)))
+plays-begin p Short phase got out f = let h = f.events [] in (h.0 ∷ h.1, sym (due-one p phase got) ∙ h.2)
+plays-begin p Unsent phase got out f = begins-by _ _ _ (due-one p phase got) ((unsent-lost p (phase ∷ []) got out f).events [])
+plays-begin p Lost phase got out f = begins-by _ _ _ (due-one p phase got) (f.events [])
 
 -- a growth of the history, in which the client's own events are these
 grown : (g : Gives) (k n : ℕ) (old new more : List Entry) → n ≡ k → new ≡ old ++ more → AreAsked (own (rules g) n more) → DrawsOnlyMissed k old → DrawsOnlyMissed k new
@@ -135,49 +135,50 @@ keys-asked (key ∷ keys) = (refl, keys-asked keys)
 line-asked : (read : Result Request Refusal) → AreAsked (played_by read)
 line-asked (Ok Nothing) = tt
 line-asked (Ok (Keys keys)) = keys-asked keys
+line-asked (Ok (Resize rows columns)) = (refl, keys-asked [])
 line-asked (Err refusal) = tt
 
 -- a line was played, or a part of it
-pub line-draws : (g : Service) (x y : Seated) (a b : Outlet) (how : How) (line : List ℕ) (k : ℕ) → x.number ≡ k → Serves g x y a b how (line_phases (line ∷ [])) → DrawsOnlyMissed k x.seen → DrawsOnlyMissed k y.seen
-line-draws g x y a b how line k e s d =
-    grown g.gives k x.number x.seen y.seen s.adds.more e s.adds.grows
-    (subst AreAsked (sym s.adds.events) (asked-front _ _ (line-asked (read_request line)) (plays-begin g.opens how (During (Line line)) s.got s.out s.fits))) d
+pub line-draws : (g : Gives) (reads : Reads) (opens : List Key) (x y : Seated) (a b : Outlet) (how : How) (line : List ℕ) (k : ℕ) → x.number ≡ k → Serves (service g reads opens) x y a b how (line_phases (line ∷ [])) → DrawsOnlyMissed k x.seen → DrawsOnlyMissed k y.seen
+line-draws g reads opens x y a b how line k e s d =
+    grown g k x.number x.seen y.seen s.adds.more e s.adds.grows
+    (subst AreAsked (sym s.adds.events) (asked-front _ _ (line-asked (reads line)) (plays-begin (protocol reads opens) how (During (Line line)) s.got s.out s.fits))) d
 
 -- a connection was opened, or a part of it
-pub opening-draws : (g : Service) (x y : Seated) (a b : Outlet) (how : How) → Serves g (unseen x) y a b how (Opening ∷ []) → DrawsOnlyMissed x.number y.seen
-opening-draws g x y a b how s =
-    grown g.gives x.number x.number [] y.seen s.adds.more refl s.adds.grows
-    (subst AreAsked (sym s.adds.events) (asked-front _ _ (refl, keys-asked g.opens) (plays-begin g.opens how Opening s.got s.out s.fits))) tt
+pub opening-draws : (g : Gives) (reads : Reads) (opens : List Key) (x y : Seated) (a b : Outlet) (how : How) → Serves (service g reads opens) (unseen x) y a b how (Opening ∷ []) → DrawsOnlyMissed x.number y.seen
+opening-draws g reads opens x y a b how s =
+    grown g x.number x.number [] y.seen s.adds.more refl s.adds.grows
+    (subst AreAsked (sym s.adds.events) (asked-front _ _ (refl, keys-asked opens) (plays-begin (protocol reads opens) how Opening s.got s.out s.fits))) tt
 
 -- entries of others came
 pub sees-draws : (g : Gives) (x y : Seated) (k : ℕ) → x.number ≡ k → Sees g x y → DrawsOnlyMissed k x.seen → DrawsOnlyMissed k y.seen
 sees-draws g x y k e s d = grown g k x.number x.seen y.seen s.between e s.stands (none-asked _ s.foreign) d
 
 -- and the client was drawn what it had missed
-drawn-draws : (g : Service) (x y : Seated) (a b : Outlet) (how : How) (k : ℕ) → x.number ≡ k → IsDrawnUnasked g x y a b how → DrawsOnlyMissed k x.seen → DrawsOnlyMissed k y.seen
-drawn-draws g x y a b how k e w d =
+drawn-draws : (g : Service) (x y : Seated) (a b : Outlet) (how : How) (k : ℕ) → g.protocol.idles ≡ Refresh false → x.number ≡ k → IsDrawnUnasked g x y a b how → DrawsOnlyMissed k x.seen → DrawsOnlyMissed k y.seen
+drawn-draws g x y a b how k idle e w d =
     let n : w.looked.number ≡ k = w.same.number ∙ e in
     let s = w.serves in
-    let begins = plays-begin g.opens how (During Idle) s.got s.out s.fits in
+    let begins = subst (λ q. Begins (q ∷ []) (events_of s.got)) idle (plays-begin g.protocol how (During Idle) s.got s.out s.fits) in
     subst (λ h. DrawsOnlyMissed k h) (sym s.adds.grows)
     (behind-append k [] w.looked.seen s.adds.more (sees-draws g.gives x w.looked k e w.sees d)
     (drawn-once g.gives k w.looked.seen s.adds.more begins.0 (subst (λ m. has_missed m w.looked.seen ≡ true) n w.missed)
     (begins.1 ∙ ap (λ q. q ++ begins.0) (sym s.adds.events ∙ ap (λ m. own (rules g.gives) m s.adds.more) n))))
 
-pub missed-draws : {A : Type 0} (r : Result A Stop) (g : Service) (x y : Seated) (a b : Outlet) (k : ℕ) → x.number ≡ k → DrawsMissed g x y a b r → DrawsOnlyMissed k x.seen → DrawsOnlyMissed k y.seen
-missed-draws (Ok done) g x y a b k e (inl m) d = sees-draws g.gives x y k e m.sees d
-missed-draws (Ok done) g x y a b k e (inr w) d = drawn-draws g x y a b Whole k e w d
-missed-draws (Err (stop.Broken at)) g x y a b k e (inl m) d = sees-draws g.gives x y k e m.sees d
-missed-draws (Err (stop.Broken at)) g x y a b k e (inr w) d = drawn-draws g x y a b (how_of (Err (stop.Broken at))) k e w d
-missed-draws (Err stop.HistoryFull) g x y a b k e w d = drawn-draws g x y a b (how_of (Err stop.HistoryFull)) k e w d
-missed-draws (Err stop.NoMemory) g x y a b k e w d = drawn-draws g x y a b (how_of (Err stop.NoMemory)) k e w d
-missed-draws (Err stop.WriteFault) g x y a b k e w d = drawn-draws g x y a b (how_of (Err stop.WriteFault)) k e w d
+pub missed-draws : {A : Type 0} (r : Result A Stop) (g : Service) (x y : Seated) (a b : Outlet) (k : ℕ) → g.protocol.idles ≡ Refresh false → x.number ≡ k → DrawsMissed g x y a b r → DrawsOnlyMissed k x.seen → DrawsOnlyMissed k y.seen
+missed-draws (Ok done) g x y a b k idle e (inl m) d = sees-draws g.gives x y k e m.sees d
+missed-draws (Ok done) g x y a b k idle e (inr w) d = drawn-draws g x y a b Whole k idle e w d
+missed-draws (Err (stop.Broken at)) g x y a b k idle e (inl m) d = sees-draws g.gives x y k e m.sees d
+missed-draws (Err (stop.Broken at)) g x y a b k idle e (inr w) d = drawn-draws g x y a b (how_of (Err (stop.Broken at))) k idle e w d
+missed-draws (Err stop.HistoryFull) g x y a b k idle e w d = drawn-draws g x y a b (how_of (Err stop.HistoryFull)) k idle e w d
+missed-draws (Err stop.NoMemory) g x y a b k idle e w d = drawn-draws g x y a b (how_of (Err stop.NoMemory)) k idle e w d
+missed-draws (Err stop.WriteFault) g x y a b k idle e w d = drawn-draws g x y a b (how_of (Err stop.WriteFault)) k idle e w d
 
 -- where its drawing was refused, the client has missed something still
 pub still-missed : (g : Service) (old new : Seated) (a b : Outlet) → IsDrawnUnasked g old new a b Short → has_missed old.number new.seen ≡ true
 still-missed g old new a b d =
     let s = d.serves in
-    let none = s.adds.events ∙ ap events_of (nothing s.got (short-size g.opens (During Idle) s.got s.out s.fits)) in
+    let none = s.adds.events ∙ ap events_of (nothing s.got (short-size g.protocol (During Idle) s.got s.out s.fits)) in
     subst (λ n. has_missed n new.seen ≡ true) d.same.number
     (ap (λ h. has_missed d.looked.number h) s.adds.grows ∙ missed-on g.gives d.looked.number d.looked.seen s.adds.more none d.missed)
   where

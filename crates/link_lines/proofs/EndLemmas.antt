@@ -46,15 +46,15 @@ parted g x y z same e = record {
 }
 
 -- the client left behind whatever was played
-pub left-over : (r : Result InputEnd Stop) (g : Service) (x y z : Seated) (before now : Wire) → x.seen ≡ [] → IsSameSeat x y → PlaysOver (Opening ∷ []) g x y before now r → HasGone g.gives y z → WasServedOver g x.number z.seen before now (ended_of r)
-left-over (Ok input.Left) g x y z before now none same p e = row g x.number z.seen z.seen before now Left p.plays.bytes refl p.received (all-left (Ok input.Left) true g x y z _ _ _ _ none same refl p.plays e)
-left-over (Ok input.Ended) g x y z before now none same p e = row g x.number z.seen z.seen before now Closed p.plays.bytes refl p.received (all-left (Ok input.Ended) true g x y z _ _ _ _ none same refl p.plays e)
-left-over (Ok input.ReadFault) g x y z before now none same p e = row g x.number z.seen z.seen before now LinkRead p.plays.bytes refl p.received (all-left (Ok input.ReadFault) true g x y z _ _ _ _ none same refl p.plays e)
-left-over (Ok input.Full) g x y z before now none same p e = row g x.number z.seen z.seen before now InputFull p.plays.bytes refl p.received (all-left (Ok input.Full) true g x y z _ _ _ _ none same refl p.plays e)
-left-over (Err stop.HistoryFull) g x y z before now none same p e = row g x.number z.seen z.seen before now HistoryFull p.plays.bytes refl p.received (all-left (Err stop.HistoryFull) true g x y z _ _ _ _ none same refl p.plays e)
-left-over (Err (stop.Broken at)) g x y z before now none same p e = row g x.number z.seen z.seen before now (Broken at) p.plays.bytes refl p.received (all-left (Err (stop.Broken at)) true g x y z _ _ _ _ none same refl p.plays e)
-left-over (Err stop.NoMemory) g x y z before now none same p e = row g x.number z.seen z.seen before now NoMemory p.plays.bytes refl p.received (all-left (Err stop.NoMemory) true g x y z _ _ _ _ none same refl p.plays e)
-left-over (Err stop.WriteFault) g x y z before now none same p e =
+pub left-over : (r : Result InputEnd Stop) (g : Service) (x y z : Seated) (before now : Wire) → g.protocol.leaves ≡ Leave → x.seen ≡ [] → IsSameSeat x y → PlaysOver (Opening ∷ []) g x y before now r → HasGone g.gives y z → WasServedOver g x.number z.seen before now (ended_of r)
+left-over (Ok input.Left) g x y z before now leaves none same p e = row g x.number z.seen z.seen before now Left p.plays.bytes refl p.received (all-left (Ok input.Left) true g x y z _ _ _ _ leaves none same refl p.plays e)
+left-over (Ok input.Ended) g x y z before now leaves none same p e = row g x.number z.seen z.seen before now Closed p.plays.bytes refl p.received (all-left (Ok input.Ended) true g x y z _ _ _ _ leaves none same refl p.plays e)
+left-over (Ok input.ReadFault) g x y z before now leaves none same p e = row g x.number z.seen z.seen before now LinkRead p.plays.bytes refl p.received (all-left (Ok input.ReadFault) true g x y z _ _ _ _ leaves none same refl p.plays e)
+left-over (Ok input.Full) g x y z before now leaves none same p e = row g x.number z.seen z.seen before now InputFull p.plays.bytes refl p.received (all-left (Ok input.Full) true g x y z _ _ _ _ leaves none same refl p.plays e)
+left-over (Err stop.HistoryFull) g x y z before now leaves none same p e = row g x.number z.seen z.seen before now HistoryFull p.plays.bytes refl p.received (all-left (Err stop.HistoryFull) true g x y z _ _ _ _ leaves none same refl p.plays e)
+left-over (Err (stop.Broken at)) g x y z before now leaves none same p e = row g x.number z.seen z.seen before now (Broken at) p.plays.bytes refl p.received (all-left (Err (stop.Broken at)) true g x y z _ _ _ _ leaves none same refl p.plays e)
+left-over (Err stop.NoMemory) g x y z before now leaves none same p e = row g x.number z.seen z.seen before now NoMemory p.plays.bytes refl p.received (all-left (Err stop.NoMemory) true g x y z _ _ _ _ leaves none same refl p.plays e)
+left-over (Err stop.WriteFault) g x y z before now leaves none same p e =
     row g x.number z.seen y.seen before now LinkWrite p.plays.bytes (parted g.gives x y z same e) p.received (unwritten-served (Err stop.WriteFault) true g x y _ _ _ _ refl none same p.plays)
 
 -- and where sending failed before, so it is of a connection in which something was lost

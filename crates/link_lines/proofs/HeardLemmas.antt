@@ -8,9 +8,8 @@ use Rattle.std.proofs.KnownBytes.{Appends-nil, Appends-trans}
 use Rattle.kak_ports.specs.Ports.{Inlet, Outlet}
 use Rattle.session_turns.specs.Lines.{with_newlines, HasNoNewline}
 use Rattle.session_turns.specs.Histories.{Answer}
-use Rattle.session_turns.specs.Turns.{Turn, Idle, Phase, Opening, During, later, lines_among}
+use Rattle.session_turns.specs.Turns.{Turn, Idle, Phase, Protocol, Opening, During, later, lines_among}
 use Rattle.session_turns.specs.Growth.{How, Whole, Fits, IsWhole}
-use Rattle.key_names.specs.declared.key.Key.{Key}
 use Rattle.session_events.specs.declared.event.Event.{Event}
 use Rattle.session_events.specs.declared.event.Entry.{Entry}
 use Rattle.session_events.specs.Missing.{has_missed}
@@ -27,7 +26,6 @@ use Rattle.session_lines.specs.declared.playing.Stop.TheVariants as stop
 use Rattle.session_lines.specs.declared.reading.InputEnd.{InputEnd}
 use Rattle.session_lines.specs.declared.reading.InputEnd.TheVariants.{Left, Ended, ReadFault, Full}
 use Rattle.session_lines.specs.Serving.{Service, Serves, how_of, line_phases}
-use Rattle.session_lines.specs.Session.{protocol}
 use Rattle.session_lines.specs.Reading.{IsDueStill, EndIs}
 use Rattle.session_lines.specs.Connections.{Plays}
 use Rattle.session_lines.proofs.ServingLemmas.{serves-append}
@@ -232,16 +230,16 @@ idle-heard {E = E} done g old mid new before rest more last was now same sent h 
     (serves-from g mid new rest.outlet more.outlet last.outlet Whole (later d.turns) sent d.serves))
 
 -- what was read where a drawing was refused, or sending it failed
-idle-end : (A : Type 0) (opens : List Key) (due : Phase → Type 0) (why : Stop) (left : Inlet) (bytes : List ℕ) (all turns : List Turn) (a b : List (Answer Event)) (x y : List ℕ) → IsIdleAt {A = A} (Err why) turns → DueFor why (due (During Idle)) → IsWhole (protocol opens) (later all) a x → Fits (protocol opens) (how_of (Err why)) (later turns) b y → LastPiece left bytes all
-    → EndIs opens due [] (all ++ turns) (a ++ b) (Err why) left bytes
-idle-end A opens due (stop.Broken at) left bytes all turns a b x y one d w f l = tt
-idle-end A opens due stop.NoMemory left bytes all turns a b x y one d w f l = tt
-idle-end A opens due stop.HistoryFull left bytes all turns a b x y one d w f l =
-    subst (λ ts. EndIs opens due [] (all ++ ts) (a ++ b) (Err stop.HistoryFull) left bytes) (sym one)
-    (stop-end opens due stop.HistoryFull left bytes all Idle [] a b x y d w (subst (λ ts. Fits (protocol opens) (how_of (Err stop.HistoryFull)) (later ts) b y) one f) l)
-idle-end A opens due stop.WriteFault left bytes all turns a b x y one d w f l =
-    subst (λ ts. EndIs opens due [] (all ++ ts) (a ++ b) (Err stop.WriteFault) left bytes) (sym one)
-    (stop-end opens due stop.WriteFault left bytes all Idle [] a b x y d w (subst (λ ts. Fits (protocol opens) (how_of (Err stop.WriteFault)) (later ts) b y) one f) l)
+idle-end : (A : Type 0) (protocol : Protocol Event) (due : Phase → Type 0) (why : Stop) (left : Inlet) (bytes : List ℕ) (all turns : List Turn) (a b : List (Answer Event)) (x y : List ℕ) → IsIdleAt {A = A} (Err why) turns → DueFor why (due (During Idle)) → IsWhole protocol (later all) a x → Fits protocol (how_of (Err why)) (later turns) b y → LastPiece left bytes all
+    → EndIs protocol due [] (all ++ turns) (a ++ b) (Err why) left bytes
+idle-end A protocol due (stop.Broken at) left bytes all turns a b x y one d w f l = tt
+idle-end A protocol due stop.NoMemory left bytes all turns a b x y one d w f l = tt
+idle-end A protocol due stop.HistoryFull left bytes all turns a b x y one d w f l =
+    subst (λ ts. EndIs protocol due [] (all ++ ts) (a ++ b) (Err stop.HistoryFull) left bytes) (sym one)
+    (stop-end protocol due stop.HistoryFull left bytes all Idle [] a b x y d w (subst (λ ts. Fits protocol (how_of (Err stop.HistoryFull)) (later ts) b y) one f) l)
+idle-end A protocol due stop.WriteFault left bytes all turns a b x y one d w f l =
+    subst (λ ts. EndIs protocol due [] (all ++ ts) (a ++ b) (Err stop.WriteFault) left bytes) (sym one)
+    (stop-end protocol due stop.WriteFault left bytes all Idle [] a b x y d w (subst (λ ts. Fits protocol (how_of (Err stop.WriteFault)) (later ts) b y) one f) l)
 
 due-missed : (A : Type 0) (why : Stop) (who : ℕ) (seen : List Entry) → IsMissedAt {A = A} (Err why) who seen → DueFor why (has_missed who seen ≡ true)
 due-missed A stop.HistoryFull who seen m = m
@@ -261,8 +259,8 @@ unasked-stopped A g old mid new a b c left rest taken behind turns why none one 
     lines_are = stopped-lines why _ s.bytes (lines_among (s.turns ++ turns)) (inl (lines-still s.turns turns none ∙ sym (lines-all s.bytes behind (lines_among s.turns) s.all s.none h)));
     asked = λ e. cc;
     serves = found.0;
-    end_is = subst (λ got. EndIs g.opens (IsDueStill old.number new.seen) [] (s.turns ++ turns) got (Err why) left s.bytes) (sym found.1)
-        (idle-end A g.opens (IsDueStill old.number new.seen) why left s.bytes s.turns turns s.serves.got t.got s.serves.out t.out one
+    end_is = subst (λ got. EndIs g.protocol (IsDueStill old.number new.seen) [] (s.turns ++ turns) got (Err why) left s.bytes) (sym found.1)
+        (idle-end A g.protocol (IsDueStill old.number new.seen) why left s.bytes s.turns turns s.serves.got t.got s.serves.out t.out one
         (subst (λ k. DueFor why (has_missed k new.seen ≡ true)) same.number (due-missed A why mid.number new.seen missed)) s.serves.fits t.fits s.last);
   },
   refl,

@@ -15,7 +15,6 @@ use Rattle.client_links.specs.Wires.{Wire}
 use Rattle.line_reading.specs.Hearing.{inlet_of}
 use Rattle.session_lines.specs.declared.playing.Stop.{Stop}
 use Rattle.session_lines.specs.declared.reading.InputEnd.{InputEnd}
-use Rattle.session_lines.specs.Session.{protocol}
 use Rattle.session_lines.specs.Serving.{Service}
 use Rattle.session_lines.specs.Reading.{WasDueStill, EndIs}
 use Rattle.session_lines.specs.Connections.{connection_end, WasServed}
@@ -55,9 +54,9 @@ served-by u g k h later a b left rest r w o e due = (
     asked = w.asked;
     out = w.out;
     sends = w.sends;
-    served = record { lines = w.served.lines; stands = stands-later (protocol g.opens) (rules g.gives) (connection_end r) k h later w.turns w.out o e w.served.stands };
-    end_is = subst (λ got. EndIs g.opens (WasDueStill g.gives k later) (Opening ∷ []) w.turns got r left w.bytes) (sym e)
-        (ends-by g.opens (WasDueStill g.gives k h) (WasDueStill g.gives k later) (Opening ∷ []) w.turns (answers (rules g.gives) k h) r left w.bytes due w.end_is);
+    served = record { lines = w.served.lines; stands = stands-later g.protocol (rules g.gives) (connection_end r) k h later w.turns w.out o e w.served.stands };
+    end_is = subst (λ got. EndIs g.protocol (WasDueStill g.gives k later) (Opening ∷ []) w.turns got r left w.bytes) (sym e)
+        (ends-by g.protocol (WasDueStill g.gives k h) (WasDueStill g.gives k later) (Opening ∷ []) w.turns (answers (rules g.gives) k h) r left w.bytes due w.end_is);
   },
   refl,
 )

@@ -12,7 +12,6 @@ use Rattle.session_turns.proofs.Lists.{events_of-append, length-events_of}
 use Rattle.session_turns.proofs.TurnLemmas.{due-append, sent-append, unsent-more}
 use Rattle.session_events.specs.Seats.{Seated}
 use Rattle.session_lines.specs.declared.playing.Stop.TheVariants as stop
-use Rattle.session_lines.specs.Session.{protocol}
 use Rattle.session_lines.specs.Serving.{Service}
 use Rattle.session_lines.specs.Connections.{Plays}
 
@@ -73,7 +72,7 @@ plays-lost u first g x y a b left rest p = (
       out = p.serves.out;
       adds = p.serves.adds;
       sends = p.serves.sends;
-      fits = unsent-lost (protocol g.opens) (first ++ later p.turns) p.serves.got p.serves.out p.serves.fits;
+      fits = unsent-lost g.protocol (first ++ later p.turns) p.serves.got p.serves.out p.serves.fits;
     };
     end_is = tt;
   },

@@ -1,5 +1,5 @@
 -- What a look and a drawing do to the history and to the bytes that were sent.
-use Rattle.std.proofs.Common.{◌≡◌, ℕ, true, false, List, [], ◌∷◌, inl, inr, Ok, Err, refl, sym, subst}
+use Rattle.std.proofs.Common.{◌≡◌, ℕ, true, false, List, [], ◌∷◌, inl, inr, Ok, Err, refl, sym, ap, subst}
 use Rattle.std.specs.Prelude.{⊤}
 use Rattle.std.specs.declared.result.Result.{Result}
 use Rattle.std.specs.Io.KnownBytes.{Appends}
@@ -15,7 +15,6 @@ use Rattle.session_events.specs.Missing.{has_missed}
 use Rattle.session_lines.specs.declared.playing.Stop.{Stop}
 use Rattle.session_lines.specs.declared.playing.Stop.TheVariants as stop
 use Rattle.session_lines.specs.declared.playing.Reply.{Reply}
-use Rattle.session_lines.specs.Session.{protocol}
 use Rattle.session_lines.specs.Sending.{Tells}
 use Rattle.session_lines.specs.Serving.{Service, Serves, AreCut, IsAnswered, telling_bytes, how_of, line_phases}
 use Rattle.session_lines.specs.Stops.{StopsFor}
@@ -36,23 +35,23 @@ as-stopped A g old new a b stop.NoMemory d = d
 as-stopped A g old new a b stop.WriteFault d = d
 
 -- the drawing was refused
-pub drawing-cut : (A : Type 0) (g : Service) (old looked new : Seated) (a : Outlet) (why : Stop) → IsSameSeat old looked → Sees g.gives old looked → has_missed looked.number looked.seen ≡ true → StopsFor why new → AreCut g.gives looked new (Refresh false ∷ []) why
+pub drawing-cut : (A : Type 0) (g : Service) (old looked new : Seated) (a : Outlet) (why : Stop) → g.protocol.idles ≡ Refresh false → IsSameSeat old looked → Sees g.gives old looked → has_missed looked.number looked.seen ≡ true → StopsFor why new → AreCut g.gives looked new (Refresh false ∷ []) why
     → DrawsMissed {A = A} g old new a a (Err why)
-drawing-cut A g old looked new a why same sees missed stops cut =
-    as-stopped A g old new a a why (record { looked = looked; same = same; sees = sees; missed = missed; serves = serves-cut g looked new a (During Idle) (Refresh false ∷ []) why stops cut refl })
+drawing-cut A g old looked new a why idle same sees missed stops cut =
+    as-stopped A g old new a a why (record { looked = looked; same = same; sees = sees; missed = missed; serves = serves-cut g looked new a (During Idle) (Refresh false ∷ []) why stops cut (ap (λ e. e ∷ []) idle) })
 
 -- the client was drawn, and that was told or not
-pub drawing-told : {A : Type 0} (r : Result A Stop) (g : Service) (old looked new : Seated) (a b : Outlet) (reply : Reply) → IsSameSeat old looked → Sees g.gives old looked → has_missed looked.number looked.seen ≡ true
+pub drawing-told : {A : Type 0} (r : Result A Stop) (g : Service) (old looked new : Seated) (a b : Outlet) (reply : Reply) → g.protocol.idles ≡ Refresh false → IsSameSeat old looked → Sees g.gives old looked → has_missed looked.number looked.seen ≡ true
     → IsAnswered g.gives looked new (Refresh false ∷ []) [] reply → reply.leaving ≡ false → Tells r a b (telling_bytes reply.telling) → DrawsMissed g old new a b r
-drawing-told (Ok done) g old looked new a b reply same sees missed t stays told = inr (record {
+drawing-told (Ok done) g old looked new a b reply idle same sees missed t stays told = inr (record {
   looked = looked;
   same = same;
   sees = sees;
   missed = missed;
-  serves = subst (λ l. Serves g looked new a b (how_of (Ok l)) (During Idle ∷ [])) stays (answered-told g looked new a b (During Idle) (Refresh false ∷ []) [] reply t refl refl told.0);
+  serves = subst (λ l. Serves g looked new a b (how_of (Ok l)) (During Idle ∷ [])) stays (answered-told g looked new a b (During Idle) (Refresh false ∷ []) [] reply t (ap (λ e. e ∷ []) idle) refl told.0);
 })
-drawing-told {A = A} (Err why) g old looked new a b reply same sees missed t stays told =
-    as-stopped A g old new a b why (record { looked = looked; same = same; sees = sees; missed = missed; serves = answered-untold g looked new a b (During Idle) (Refresh false ∷ []) [] reply why t refl refl told })
+drawing-told {A = A} (Err why) g old looked new a b reply idle same sees missed t stays told =
+    as-stopped A g old new a b why (record { looked = looked; same = same; sees = sees; missed = missed; serves = answered-untold g looked new a b (During Idle) (Refresh false ∷ []) [] reply why t (ap (λ e. e ∷ []) idle) refl told })
 
 -- how drawings got on that nobody asked for
 abbrev pub how_drawn : {A : Type 0} → Result A Stop → How
@@ -85,7 +84,7 @@ sees-serves g old new a b s e = record {
   out = [];
   adds = sees-add g.gives old new s;
   sends = subst (λ o. Appends a.told o.told []) (sym e) (Appends-nil a.told);
-  fits = whole-none (protocol g.opens);
+  fits = whole-none g.protocol;
 }
 
 sees-lost : (g : Service) (old new : Seated) (a b : Outlet) → Sees g.gives old new → b ≡ a → Serves g old new a b Lost []
@@ -94,7 +93,7 @@ sees-lost g old new a b s e = record {
   out = [];
   adds = sees-add g.gives old new s;
   sends = subst (λ o. Appends a.told o.told []) (sym e) (Appends-nil a.told);
-  fits = record { events = λ more. (due (protocol g.opens) more [], refl); bytes = λ more. (sent (protocol g.opens) more [], refl) };
+  fits = record { events = λ more. (due g.protocol more [], refl); bytes = λ more. (sent g.protocol more [], refl) };
 }
 
 drawn-serves : (g : Service) (old new : Seated) (a b : Outlet) (how : How) → IsDrawnUnasked g old new a b how → Serves g old new a b how (later (Idle ∷ []))

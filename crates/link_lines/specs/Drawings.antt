@@ -4,6 +4,7 @@ use Rattle.session_events.specs.declared.event.Event.{Event}
 use Rattle.session_events.specs.declared.event.Event.TheVariants.{Refresh}
 use Rattle.session_events.specs.declared.event.Entry.{Entry}
 use Rattle.session_events.specs.Missing.{has_missed}
+use Rattle.session_events.specs.Seats.{Seated}
 
 -- an event is a drawing for which the client didn't ask
 abbrev pub is_unasked : Event → Bool
@@ -23,3 +24,7 @@ DrawsMissedBehind who before (entry ∷ entries) =
 -- so it is in a whole history
 abbrev pub DrawsOnlyMissed : ℕ → List Entry → Type 0
 DrawsOnlyMissed who history = DrawsMissedBehind who [] history
+
+-- and where it was so of what was seen from a seat, it is so still
+abbrev pub DrawsOnlyMissedStill : Seated → Seated → Type 0
+DrawsOnlyMissedStill old new = DrawsOnlyMissed old.number old.seen → DrawsOnlyMissed old.number new.seen

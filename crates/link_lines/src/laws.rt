@@ -15,5 +15,6 @@ ghost use Rattle.link_lines.specs.Endings.{WasServedOver};
 pub fn served_later()
     ensures served { (with : Service) (who : ℕ) (history more : List Entry) (before now : Wire) (ended : Ended) →
         own (rules with.gives) who more ≡ [] → WasServedOver with who history before now ended → WasServedOver with who (history ++ more) before now ended }
-    ensures drawn { (gives : Gives) (who : ℕ) (history more : List Entry) → own (rules gives) who more ≡ [] → DrawsOnlyMissed who history → DrawsOnlyMissed who (history ++ more) }
+    ensures drawn { (gives : Gives) (who : ℕ) (history more : List Entry) →
+        own (rules gives) who more ≡ [] → DrawsOnlyMissed who history → DrawsOnlyMissed who (history ++ more) }
 {}

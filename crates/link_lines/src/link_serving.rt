@@ -1,12 +1,9 @@
 //! A whole connection over a link, from the client's coming to its leaving.
 
-ghost use Rattle.std.specs.Prelude.{◌≡◌, ◌∷◌, [], OnOk, IfErr, None};
+ghost use Rattle.std.specs.Prelude.{◌≡◌, OnOk, IfOk, IfErr, None};
 ghost use Rattle.client_links.specs.Wires.{TellsNoMore};
-ghost use Rattle.session_turns.specs.Histories.{own};
-ghost use Rattle.session_events.specs.declared.event.Event.TheVariants.{Join};
-ghost use Rattle.session_events.specs.Meaning.{rules};
 ghost use Rattle.session_events.specs.Seats.{IsSameSeat, IsLegalSeat};
-ghost use Rattle.session_lines.specs.Serving.{service};
+ghost use Rattle.session_lines.specs.Serving.{service, HasOnlyCome};
 ghost use Rattle.session_lines.specs.Stops.{IsReady};
 ghost use Rattle.link_lines.specs.Drawings.{DrawsOnlyMissed};
 ghost use Rattle.link_lines.specs.Endings.{WasServedOver, EndsFor, HasLeftAt, IsUnbroken, JoinsNot, NeverCame};
@@ -17,25 +14,27 @@ use crate::talk::Talk;
 use client_links::Link;
 use key_names::Key;
 use line_gates::Gate;
+use requests::Reader;
 use session_events::{Event, LiveSeat, Seat, StepFault};
 use session_lines::{Stop, leave};
 use std::alloc::Global;
 use std::sync::Wait;
 
-// Has the client come, of which there is no entry yet. An `Err` tells how the serving ends where it can't.
-fn come<S: Seat>(alloc: Global, seat: &mut S) -> Result<(), Ended>
+// Has the client come, of which there is no entry yet, and tells whether it was let go by that. An `Err` tells how the serving
+// ends where it can't come.
+fn come<S: Seat>(alloc: Global, seat: &mut S) -> Result<bool, Ended>
     requires { NeverCame S.gives (S.seated seat.old).number (S.seated seat.old).seen }
     ensures same { IsSameSeat (S.seated seat.old) (S.seated seat.new) }
     ensures kept { S.kept seat.new ≡ S.kept seat.old }
     ensures legal { IsLegalSeat (S.seated seat.new) }
     ensures ready { OnOk result (IsReady (S.seated seat.new)) }
-    ensures new { OnOk result (own (rules S.gives) (S.seated seat.new).number (S.seated seat.new).seen ≡ Join ∷ []) }
+    ensures new { IfOk result (λ let_go. HasOnlyCome S.gives (S.seated seat.new) let_go) }
     ensures unbroken { OnOk result ((S.seated seat.new).mark ≡ None) }
     ensures refused { IfErr result (λ ended. JoinsNot S.gives S.crowded ended (S.seated seat.new)) }
     ensures whole { IfErr result (λ ended. IsUnbroken ended (S.seated seat.new)) }
 {
-    match seat.step(alloc, Event::Join) {
-        Ok(_output) => Ok(()),
+    match seat.step(alloc, &Event::Join) {
+        Ok(output) => Ok(output.leaving),
         Err(StepFault::Full) => Err(Ended::Full),
         Err(StepFault::HistoryFull) => Err(Ended::HistoryFull),
         Err(StepFault::Broken(at)) => Err(Ended::Broken(at)),
@@ -49,7 +48,7 @@ fn come<S: Seat>(alloc: Global, seat: &mut S) -> Result<(), Ended>
 /// drawing, its lines are played as they come, each when the gate lets it run, and where none comes it is drawn what it has
 /// missed. It leaves before every end at which it came, where sending failed too, unless the session is broken. Where leaving
 /// fails, that is told, whatever came before.
-pub fn serve_over<R: Wait, S: LiveSeat, L: Link, G: Gate>(
+pub fn serve_over<Q: Reader, R: Wait, S: LiveSeat, L: Link, G: Gate>(
     rt: &R,
     alloc: Global,
     who: u32,
@@ -64,17 +63,18 @@ pub fn serve_over<R: Wait, S: LiveSeat, L: Link, G: Gate>(
     ensures kept { S.kept seat.new ≡ S.kept seat.old }
     ensures legal { IsLegalSeat (S.seated seat.new) }
     ensures unbroken { IsUnbroken result (S.seated seat.new) }
-    ensures served { WasServedOver (service S.gives keys.now) who (S.seated seat.new).seen (L.wire link.old) (L.wire link.new) result }
+    ensures served { WasServedOver (service S.gives Q.reads keys.now) who (S.seated seat.new).seen (L.wire link.old) (L.wire link.new) result }
     ensures left { HasLeftAt S.gives result who (S.seated seat.new).seen }
     ensures drawn { DrawsOnlyMissed who (S.seated seat.new).seen }
     ensures cause { EndsFor S.gives S.crowded result (S.seated seat.new) (L.wire link.old) (L.wire link.new) }
     ensures no_more { TellsNoMore (L.wire link.old) (L.wire link.new) }
 {
-    if let Err(ended) = come(alloc, seat) {
-        return ended;
-    }
-    let mut talk = Talk::new(alloc, who);
-    let played = play_link(rt, seat, link, gate, &mut talk, keys);
+    let let_go = match come(alloc, seat) {
+        Ok(let_go) => let_go,
+        Err(ended) => return ended,
+    };
+    let mut talk = Talk::new(alloc, who, let_go);
+    let played = play_link::<Q, R, S, L, G>(rt, seat, link, gate, &mut talk, keys);
     match leave(alloc, seat) {
         Ok(()) => ended_of(played),
         Err(Stop::Broken(at)) => Ended::Broken(at),

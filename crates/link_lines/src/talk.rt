@@ -1,36 +1,34 @@
 //! What is kept of a connection from one line to the next.
 
-ghost use Rattle.std.specs.Prelude.{◌≡◌, ◌∷◌, [], List, OnOk, OnErr};
-ghost use Rattle.key_names.specs.declared.key.Key.{Key};
+ghost use Rattle.std.specs.Prelude.{◌≡◌, [], OnOk, OnErr};
 ghost use Rattle.client_links.specs.Wires.{IsSameHearing, TellsNoMore};
-ghost use Rattle.session_turns.specs.Histories.{own};
-ghost use Rattle.session_turns.specs.Turns.{Opening};
-ghost use Rattle.session_events.specs.declared.event.Event.TheVariants.{Join};
-ghost use Rattle.session_events.specs.Meaning.{rules};
-ghost use Rattle.session_lines.specs.Serving.{service, Serves, how_of, line_phases, unseen};
+ghost use Rattle.session_lines.specs.Serving.{HasOnlyCome, PlaysLine, OpensWith};
 ghost use Rattle.session_lines.specs.Stops.{IsReady, Stays, Causes, StaysWhole};
 ghost use Rattle.line_reading.specs.Hearing.{HearsLine, ReadFaultIsTold};
 ghost use Rattle.link_lines.specs.Talks.{one_line_more};
-ghost use Rattle.link_lines.specs.Talking.{DrawsMissed};
+ghost use Rattle.link_lines.specs.Talking.{DrawsWhatIsMissed};
 
 use crate::telling::tell;
 use client_links::Link;
 use key_names::Key;
 use line_gates::Gate;
 use line_reading::{Came, LineReader};
+use requests::Reader;
 use session_events::{LiveSeat, Missed};
 use session_lines::{Stop, answer_idle, answer_line, answer_opening};
 use std::alloc::{AllocError, Global};
 use std::marker::Model;
 use std::sync::Wait;
 
-/// What is kept of a connection from one of its lines to the next. Contracts see what its reader is
-/// seen as, its client's number, and how many lines were played.
+/// What is kept of a connection from one of its lines to the next. Contracts see what its reader is seen as, its client's
+/// number, whether this was let go by its coming, and how many lines were played.
 #[derive(Drop)]
 pub struct Talk {
     alloc: Global,
     // the client's number
     who: u32,
+    // whether it was let go by its coming
+    let_go: bool,
     reader: LineReader,
     // how many lines were played
     lines: u64,
@@ -43,20 +41,22 @@ impl Model for Talk {
 
     ghost Value = { Talked };
 
-    ghost view = { λ t. record { reading = t.reader; who = t.who; lines = t.lines } };
+    ghost view = { λ t. record { reading = t.reader; who = t.who; let_go = t.let_go; lines = t.lines } };
 }
 
 impl Talk {
-    /// That of a client whose link has said nothing yet.
-    pub fn new(alloc: Global, who: u32) -> Talk
+    /// That of a client whose link has said nothing yet, which was let go by its coming or not.
+    pub fn new(alloc: Global, who: u32, let_go: bool) -> Talk
         ensures taken { result.reading.taken ≡ 0 }
         ensures pending { result.reading.pending ≡ [] }
         ensures who { result.who ≡ who }
+        ensures let_go { result.let_go ≡ let_go }
         ensures lines { result.lines ≡ 0 }
     {
         Talk {
             alloc,
             who,
+            let_go,
             reader: LineReader::new(alloc),
             lines: 0,
             out: Vec::new(alloc),
@@ -70,13 +70,14 @@ impl Talk {
         ensures sent { (L.wire link.new).outlet ≡ (L.wire link.old).outlet }
         ensures no_more { TellsNoMore (L.wire link.old) (L.wire link.new) }
         ensures who { self.new.who ≡ self.old.who }
+        ensures let_go { self.new.let_go ≡ self.old.let_go }
         ensures lines { self.new.lines ≡ self.old.lines }
     {
         self.reader.hear(rt, link)
     }
 
     /// Opens the connection of a client that has joined and done nothing else: keys are struck, and its first drawing is
-    /// sent. Tells whether the client may leave.
+    /// sent, also where it was let go by its coming. Tells whether the client may leave.
     pub fn open<R: Wait, S: LiveSeat, L: Link>(
         &mut self,
         rt: &R,
@@ -85,24 +86,24 @@ impl Talk {
         keys: &[Key],
     ) -> Result<bool, Stop>
         requires ready { IsReady (S.seated seat.old) }
-        requires new { own (rules S.gives) (S.seated seat.old).number (S.seated seat.old).seen ≡ Join ∷ [] }
+        requires new { HasOnlyCome S.gives (S.seated seat.old) self.old.let_go }
         ensures stays { Stays (S.seated seat.old) (S.seated seat.new) }
         ensures kept { S.kept seat.new ≡ S.kept seat.old }
         ensures whole { StaysWhole result (S.seated seat.old).mark (S.seated seat.new).mark }
-        ensures serves { Serves (service S.gives keys.now) (unseen (S.seated seat.old)) (S.seated seat.new) (L.wire link.old).outlet (L.wire link.new).outlet (how_of result) (Opening ∷ []) }
+        ensures serves { OpensWith S.gives keys.now (S.seated seat.old) (S.seated seat.new) (L.wire link.old).outlet (L.wire link.new).outlet result }
         ensures cause { Causes result (S.seated seat.new) (L.wire link.old).outlet (L.wire link.new).outlet }
         ensures heard { IsSameHearing (L.wire link.old) (L.wire link.new) }
         ensures no_more { TellsNoMore (L.wire link.old) (L.wire link.new) }
         ensures same { self.new ≡ self.old }
     {
-        let reply = answer_opening(self.alloc, seat, keys)?;
+        let reply = answer_opening(self.alloc, seat, keys, self.let_go)?;
         tell(rt, link, &mut self.out, &reply.telling)?;
         Ok(reply.leaving)
     }
 
-    /// Plays the line that came last, once the gate lets it run, and sends what it gives; then the gate is told. Tells
-    /// whether the client may leave.
-    pub fn play_line<R: Wait, S: LiveSeat, L: Link, G: Gate>(
+    /// Plays the line that came last, as the reader reads it, once the gate lets it run, and sends what it gives; then the
+    /// gate is told. Tells whether the client may leave.
+    pub fn play_line<Q: Reader, R: Wait, S: LiveSeat, L: Link, G: Gate>(
         &mut self,
         rt: &R,
         seat: &mut S,
@@ -113,18 +114,19 @@ impl Talk {
         ensures stays { Stays (S.seated seat.old) (S.seated seat.new) }
         ensures kept { S.kept seat.new ≡ S.kept seat.old }
         ensures whole { StaysWhole result (S.seated seat.old).mark (S.seated seat.new).mark }
-        ensures serves { (opens : List Key) → Serves (service S.gives opens) (S.seated seat.old) (S.seated seat.new) (L.wire link.old).outlet (L.wire link.new).outlet (how_of result) (line_phases (self.old.reading.line ∷ [])) }
+        ensures serves { PlaysLine S.gives Q.reads (S.seated seat.old) (S.seated seat.new) (L.wire link.old).outlet (L.wire link.new).outlet self.old.reading.line result }
         ensures cause { Causes result (S.seated seat.new) (L.wire link.old).outlet (L.wire link.new).outlet }
         ensures heard { IsSameHearing (L.wire link.old) (L.wire link.new) }
         ensures no_more { TellsNoMore (L.wire link.old) (L.wire link.new) }
         ensures reading { self.new.reading ≡ self.old.reading }
         ensures who { self.new.who ≡ self.old.who }
+        ensures let_go { self.new.let_go ≡ self.old.let_go }
         ensures lines { OnOk result (self.new.lines ≡ one_line_more self.old.lines) }
         ensures stopped { OnErr result (self.new.lines ≡ self.old.lines) }
     {
         let number = self.lines;
         gate.hold(rt, self.who, number);
-        let reply = answer_line(self.alloc, seat, self.reader.line())?;
+        let reply = answer_line::<Q, S>(self.alloc, seat, self.reader.line())?;
         tell(rt, link, &mut self.out, &reply.telling)?;
         gate.passed(self.who, number);
         self.lines = number.saturating_add(1);
@@ -142,7 +144,7 @@ impl Talk {
         ensures stays { Stays (S.seated seat.old) (S.seated seat.new) }
         ensures kept { S.kept seat.new ≡ S.kept seat.old }
         ensures whole { StaysWhole result (S.seated seat.old).mark (S.seated seat.new).mark }
-        ensures draws { (opens : List Key) → DrawsMissed (service S.gives opens) (S.seated seat.old) (S.seated seat.new) (L.wire link.old).outlet (L.wire link.new).outlet result }
+        ensures draws { DrawsWhatIsMissed S.gives (S.seated seat.old) (S.seated seat.new) (L.wire link.old).outlet (L.wire link.new).outlet result }
         ensures cause { Causes result (S.seated seat.new) (L.wire link.old).outlet (L.wire link.new).outlet }
         ensures heard { IsSameHearing (L.wire link.old) (L.wire link.new) }
         ensures no_more { TellsNoMore (L.wire link.old) (L.wire link.new) }

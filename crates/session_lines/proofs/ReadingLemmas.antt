@@ -10,12 +10,11 @@ use Rattle.std.proofs.KnownBytes.{Consumes-nil, Consumes-trans}
 use Rattle.kak_ports.specs.Ports.{Inlet, Outlet, Rose}
 use Rattle.session_turns.specs.Lines.{whole_lines, last_part, as_line, lines_of_input, with_newlines, HasNoNewline}
 use Rattle.session_turns.specs.Histories.{Answer, events_of, is_leaving}
-use Rattle.session_turns.specs.Turns.{Turn, Line as Said, Idle, Phase, Opening, During, later, turns_of, lines_among, plays, phase_size, due, answers_to}
+use Rattle.session_turns.specs.Turns.{Turn, Line as Said, Idle, Phase, Protocol, Opening, During, later, turns_of, lines_among, plays, phase_size, due, answers_to}
 use Rattle.session_turns.specs.Growth.{How, Whole, Over, Lost, Fits, IsWhole, IsShort, IsUnsent}
 use Rattle.session_turns.specs.Headline.{LinesRead, AreLines}
 use Rattle.session_turns.proofs.Lists.{stays_front, length-events_of}
 use Rattle.session_turns.proofs.TurnLemmas.{flat_map-append}
-use Rattle.key_names.specs.declared.key.Key.{Key}
 use Rattle.session_events.specs.declared.event.Event.{Event}
 use Rattle.session_events.specs.Seats.{Seated, IsSameSeat}
 use Rattle.line_reading.specs.declared.limits.TheConstants.{MAX_INPUT, MAX_PIECE}
@@ -28,7 +27,6 @@ use Rattle.session_lines.specs.declared.playing.Stop.TheVariants as stop
 use Rattle.session_lines.specs.declared.reading.InputEnd.{InputEnd}
 use Rattle.session_lines.specs.declared.reading.InputEnd.TheVariants.{Left, Ended, ReadFault, Full}
 use Rattle.session_lines.specs.Stops.{IsLoss}
-use Rattle.session_lines.specs.Session.{protocol}
 use Rattle.session_lines.specs.Serving.{Service, Serves, how_of, line_phases}
 use Rattle.session_lines.specs.Reading.{IsDueStill, WasStopped, EndIs, FaultIs}
 use Rattle.session_lines.specs.Connections.{connection_end, AreAsked, Plays}
@@ -165,27 +163,27 @@ pub with-phases : (g : Service) (old new : Seated) (a b : Outlet) (how : How) (t
 with-phases g old new a b how ts us e s = subst (λ q. (t : Serves g old new a b how q) × (t.got ≡ s.got)) e (s, refl)
 
 -- turns that kept the client keep it whatever is answered behind, and so do the first ones of them
-kept-front : (opens : List Key) (all first more : List Turn) (got late : List (Answer Event)) (out : List ℕ) → all ≡ first ++ more → IsWhole (protocol opens) (later all) got out → is_leaving (answers_to (protocol opens) (later first) (got ++ late)) ≡ false
-kept-front opens all first more got late out e w =
-    let n : ℕ = length (flat_map (plays (protocol opens)) (later first)) in
-    let events : length got ≡ length (flat_map (plays (protocol opens)) (later first) ++ flat_map (plays (protocol opens)) (later more)) =
-    sym (length-events_of got) ∙ ap length w.events ∙ ap (λ ts. length (flat_map (plays (protocol opens)) ts)) (ap later e ∙ later-append first more) ∙ ap length (flat_map-append (protocol opens) (later first) (later more)) in
-    let le : n ≤ length got = omega (arith, events, length-append (flat_map (plays (protocol opens)) (later first)) (flat_map (plays (protocol opens)) (later more))) in
+kept-front : (protocol : Protocol Event) (all first more : List Turn) (got late : List (Answer Event)) (out : List ℕ) → all ≡ first ++ more → IsWhole protocol (later all) got out → is_leaving (answers_to protocol (later first) (got ++ late)) ≡ false
+kept-front protocol all first more got late out e w =
+    let n : ℕ = length (flat_map (plays protocol) (later first)) in
+    let events : length got ≡ length (flat_map (plays protocol) (later first) ++ flat_map (plays protocol) (later more)) =
+    sym (length-events_of got) ∙ ap length w.events ∙ ap (λ ts. length (flat_map (plays protocol) ts)) (ap later e ∙ later-append first more) ∙ ap length (flat_map-append protocol (later first) (later more)) in
+    let le : n ≤ length got = omega (arith, events, length-append (flat_map (plays protocol) (later first)) (flat_map (plays protocol) (later more))) in
     ap is_leaving (take-append-le n got late le) ∙ stays_front n got w.stays
 
 -- what phases play of which there is one
-pub due-one : (opens : List Key) (phase : Phase) (got : List (Answer Event)) → due (protocol opens) (phase ∷ []) got ≡ plays (protocol opens) phase
-due-one opens phase got = none-behind (is_leaving (take (phase_size (protocol opens) phase) got)) (plays (protocol opens) phase) ∙ append-nil (plays (protocol opens) phase)
+pub due-one : (protocol : Protocol Event) (phase : Phase) (got : List (Answer Event)) → due protocol (phase ∷ []) got ≡ plays protocol phase
+due-one protocol phase got = none-behind (is_leaving (take (phase_size protocol phase) got)) (plays protocol phase) ∙ append-nil (plays protocol phase)
   where
-    none-behind : (t : Bool) (es : List Event) → es ++ flat_map (plays (protocol opens)) (if t then [] else []) ≡ es ++ []
+    none-behind : (t : Bool) (es : List Event) → es ++ flat_map (plays protocol) (if t then [] else []) ≡ es ++ []
     none-behind true es = refl
     none-behind false es = refl
 
 -- of one phase an event was refused: it has more of them than were answered
-pub short-size : (opens : List Key) (phase : Phase) (got : List (Answer Event)) (out : List ℕ) → IsShort (protocol opens) (phase ∷ []) got out → length got < length (plays (protocol opens) phase)
-short-size opens phase got out f =
+pub short-size : (protocol : Protocol Event) (phase : Phase) (got : List (Answer Event)) (out : List ℕ) → IsShort protocol (phase ∷ []) got out → length got < length (plays protocol phase)
+short-size protocol phase got out f =
     let h = f.events [] in
-    let size : length (plays (protocol opens) phase) ≡ length (events_of got) + length (h.0 ∷ h.1) = ap length (sym (due-one opens phase got) ∙ h.2) ∙ length-append (events_of got) (h.0 ∷ h.1) in
+    let size : length (plays protocol phase) ≡ length (events_of got) + length (h.0 ∷ h.1) = ap length (sym (due-one protocol phase got) ∙ h.2) ∙ length-append (events_of got) (h.0 ∷ h.1) in
     omega (arith, size, length-events_of got)
 
 -- of one phase that is parted into phases
@@ -195,33 +193,33 @@ one-only t at (x ∷ []) behind e = let no : ◌≡◌ {A = List Phase} [] (at �
 one-only t at (x ∷ y ∷ before) behind e = let no : ◌≡◌ {A = List Phase} [] (y ∷ (before ++ at ∷ behind)) = cc in cc
 
 -- of one phase sending failed: all its events were answered
-unsent-size : (opens : List Key) (phase : Phase) (got : List (Answer Event)) (out : List ℕ) → IsUnsent (protocol opens) (phase ∷ []) got out → length got ≡ length (plays (protocol opens) phase)
-unsent-size opens phase got out f =
+unsent-size : (protocol : Protocol Event) (phase : Phase) (got : List (Answer Event)) (out : List ℕ) → IsUnsent protocol (phase ∷ []) got out → length got ≡ length (plays protocol phase)
+unsent-size protocol phase got out f =
     let s = one-only phase f.at f.before f.behind f.split in
-    let early : length f.early ≡ length (flat_map (plays (protocol opens)) f.before) = sym (length-events_of f.early) ∙ ap length f.whole.events in
-    let none : length (flat_map (plays (protocol opens)) f.before) ≡ 0 = ap (λ ts. length (flat_map (plays (protocol opens)) ts)) s.0 in
-    let late : length f.late ≡ length (plays (protocol opens) phase) = sym (length-events_of f.late) ∙ ap length f.events ∙ ap (λ t. length (plays (protocol opens) t)) s.1 in
+    let early : length f.early ≡ length (flat_map (plays protocol) f.before) = sym (length-events_of f.early) ∙ ap length f.whole.events in
+    let none : length (flat_map (plays protocol) f.before) ≡ 0 = ap (λ ts. length (flat_map (plays protocol) ts)) s.0 in
+    let late : length f.late ≡ length (plays protocol phase) = sym (length-events_of f.late) ∙ ap length f.events ∙ ap (λ t. length (plays protocol t)) s.1 in
     let both : length got ≡ length f.early + length f.late = ap length f.answers ∙ length-append f.early f.late in
     omega (arith, early, none, late, both)
 
 -- how many events phases have, and one behind them
-behind-size : (opens : List Key) (ts : List Phase) (phase : Phase) → length (flat_map (plays (protocol opens)) (ts ++ phase ∷ [])) ≡ length (flat_map (plays (protocol opens)) ts) + length (plays (protocol opens) phase)
-behind-size opens ts phase =
-    ap length (flat_map-append (protocol opens) ts (phase ∷ []))
-    ∙ length-append (flat_map (plays (protocol opens)) ts) (plays (protocol opens) phase ++ [])
-    ∙ ap (λ es. length (flat_map (plays (protocol opens)) ts) + length es) (append-nil (plays (protocol opens) phase))
+behind-size : (protocol : Protocol Event) (ts : List Phase) (phase : Phase) → length (flat_map (plays protocol) (ts ++ phase ∷ [])) ≡ length (flat_map (plays protocol) ts) + length (plays protocol phase)
+behind-size protocol ts phase =
+    ap length (flat_map-append protocol ts (phase ∷ []))
+    ∙ length-append (flat_map (plays protocol) ts) (plays protocol phase ++ [])
+    ∙ ap (λ es. length (flat_map (plays protocol) ts) + length es) (append-nil (plays protocol phase))
 
-whole-size : (opens : List Key) (ts : List Phase) (got : List (Answer Event)) (out : List ℕ) → IsWhole (protocol opens) ts got out → length (flat_map (plays (protocol opens)) ts) ≡ length got
-whole-size opens ts got out w = sym (ap length w.events) ∙ length-events_of got
+whole-size : (protocol : Protocol Event) (ts : List Phase) (got : List (Answer Event)) (out : List ℕ) → IsWhole protocol ts got out → length (flat_map (plays protocol) ts) ≡ length got
+whole-size protocol ts got out w = sym (ap length w.events) ∙ length-events_of got
 
 -- playing stopped in a turn, behind turns that were all played
-abbrev stopped-behind : (opens : List Key) (left : Inlet) (bytes : List ℕ) (all : List Turn) (turn : Turn) (more : List Turn) (a b : List (Answer Event)) (x : List ℕ) → IsWhole (protocol opens) (later all) a x → LastPiece left bytes all → WasStopped opens [] (all ++ turn ∷ more) (a ++ b) left bytes
-stopped-behind opens left bytes all turn more a b x w l = record {
+abbrev stopped-behind : (protocol : Protocol Event) (left : Inlet) (bytes : List ℕ) (all : List Turn) (turn : Turn) (more : List Turn) (a b : List (Answer Event)) (x : List ℕ) → IsWhole protocol (later all) a x → LastPiece left bytes all → WasStopped protocol [] (all ++ turn ∷ more) (a ++ b) left bytes
+stopped-behind protocol left bytes all turn more a b x w l = record {
   before = later all;
   at = During turn;
   behind = later more;
   split = later-append all (turn ∷ more);
-  answered = omega (arith, whole-size opens (later all) a x w, length-append a b);
+  answered = omega (arith, whole-size protocol (later all) a x w, length-append a b);
   needed = inr (record {
     early = l.before;
     piece = l.piece;
@@ -245,45 +243,44 @@ due-for (stop.Broken at) due d = tt
 due-for stop.NoMemory due d = tt
 due-for stop.WriteFault due d = tt
 
-pub stop-end : (opens : List Key) (due : Phase → Type 0) (why : Stop) (left : Inlet) (bytes : List ℕ) (all : List Turn) (turn : Turn) (more : List Turn) (a b : List (Answer Event)) (x y : List ℕ) → DueFor why (due (During turn)) → IsWhole (protocol opens) (later all) a x → Fits (protocol opens) (how_of (Err why)) (During turn ∷ []) b y → LastPiece left bytes all
-    → EndIs opens due [] (all ++ turn ∷ more) (a ++ b) (Err why) left bytes
-stop-end opens due (stop.Broken at) left bytes all turn more a b x y d w f l = tt
-stop-end opens due stop.NoMemory left bytes all turn more a b x y d w f l = tt
-stop-end opens due stop.HistoryFull left bytes all turn more a b x y d w f l = (
-  stopped-behind opens left bytes all turn more a b x w l,
-  omega (arith, behind-size opens (later all) (During turn), whole-size opens (later all) a x w, length-append a b, short-size opens (During turn) b y f),
+pub stop-end : (protocol : Protocol Event) (due : Phase → Type 0) (why : Stop) (left : Inlet) (bytes : List ℕ) (all : List Turn) (turn : Turn) (more : List Turn) (a b : List (Answer Event)) (x y : List ℕ) → DueFor why (due (During turn)) → IsWhole protocol (later all) a x → Fits protocol (how_of (Err why)) (During turn ∷ []) b y → LastPiece left bytes all
+    → EndIs protocol due [] (all ++ turn ∷ more) (a ++ b) (Err why) left bytes
+stop-end protocol due (stop.Broken at) left bytes all turn more a b x y d w f l = tt
+stop-end protocol due stop.NoMemory left bytes all turn more a b x y d w f l = tt
+stop-end protocol due stop.HistoryFull left bytes all turn more a b x y d w f l = (
+  stopped-behind protocol left bytes all turn more a b x w l,
+  omega (arith, behind-size protocol (later all) (During turn), whole-size protocol (later all) a x w, length-append a b, short-size protocol (During turn) b y f),
   d,
 )
-stop-end opens due stop.WriteFault left bytes all turn more a b x y d w f l = (
-  stopped-behind opens left bytes all turn more a b x w l,
-  omega (arith, behind-size opens (later all) (During turn), whole-size opens (later all) a x w, length-append a b, unsent-size opens (During turn) b y f),
+stop-end protocol due stop.WriteFault left bytes all turn more a b x y d w f l = (
+  stopped-behind protocol left bytes all turn more a b x w l,
+  omega (arith, behind-size protocol (later all) (During turn), whole-size protocol (later all) a x w, length-append a b, unsent-size protocol (During turn) b y f),
 )
 
 -- playing stopped in the opening, for which nothing was taken
-abbrev stopped-opening : (opens : List Key) (left : Inlet) (got : List (Answer Event)) → WasStopped opens (Opening ∷ []) [] got left []
-stopped-opening opens left got = record { before = []; at = Opening; behind = []; split = refl; answered = omega arith; needed = inl refl }
+abbrev stopped-opening : (protocol : Protocol Event) (left : Inlet) (got : List (Answer Event)) → WasStopped protocol (Opening ∷ []) [] got left []
+stopped-opening protocol left got = record { before = []; at = Opening; behind = []; split = refl; answered = omega arith; needed = inl refl }
 
-pub opening-end : (opens : List Key) (due : Phase → Type 0) (why : Stop) (left : Inlet) (got : List (Answer Event)) (out : List ℕ) → due Opening → Fits (protocol opens) (how_of (Err why)) (Opening ∷ []) got out → EndIs opens due (Opening ∷ []) [] got (Err why) left []
-opening-end opens due (stop.Broken at) left got out d f = tt
-opening-end opens due stop.NoMemory left got out d f = tt
-opening-end opens due stop.HistoryFull left got out d f = (stopped-opening opens left got, omega (arith, behind-size opens [] Opening, short-size opens Opening got out f), d)
-opening-end opens due stop.WriteFault left got out d f = (stopped-opening opens left got, omega (arith, behind-size opens [] Opening, unsent-size opens Opening got out f))
+pub opening-end : (protocol : Protocol Event) (due : Phase → Type 0) (why : Stop) (left : Inlet) (got : List (Answer Event)) (out : List ℕ) → due Opening → Fits protocol (how_of (Err why)) (Opening ∷ []) got out → EndIs protocol due (Opening ∷ []) [] got (Err why) left []
+opening-end protocol due (stop.Broken at) left got out d f = tt
+opening-end protocol due stop.NoMemory left got out d f = tt
+opening-end protocol due stop.HistoryFull left got out d f = (stopped-opening protocol left got, omega (arith, behind-size protocol [] Opening, short-size protocol Opening got out f), d)
+opening-end protocol due stop.WriteFault left got out d f = (stopped-opening protocol left got, omega (arith, behind-size protocol [] Opening, unsent-size protocol Opening got out f))
 
 -- a client that never came was refused in its opening
-pub refused-end : (opens : List Key) (due : Phase → Type 0) (left : Inlet) (got : List (Answer Event)) → due Opening → got ≡ [] → EndIs opens due (Opening ∷ []) [] got (Err stop.HistoryFull) left []
-refused-end opens due left got d none =
-    let some : 0 < length (plays (protocol opens) Opening) = omega arith in (stopped-opening opens left got, omega (arith, behind-size opens [] Opening, ap length none, some), d)
+pub refused-end : (protocol : Protocol Event) (due : Phase → Type 0) (left : Inlet) (got : List (Answer Event)) → due Opening → 0 < length (plays protocol Opening) → got ≡ [] → EndIs protocol due (Opening ∷ []) [] got (Err stop.HistoryFull) left []
+refused-end protocol due left got d some none = (stopped-opening protocol left got, omega (arith, behind-size protocol [] Opening, ap length none, some), d)
 
 -- what was due is so by what follows from it
-pub ends-by : (opens : List Key) (due now : Phase → Type 0) (first : List Phase) (turns : List Turn) (got : List (Answer Event)) (r : Result InputEnd Stop) (left : Inlet) (bytes : List ℕ) → ((phase : Phase) → due phase → now phase) → EndIs opens due first turns got r left bytes → EndIs opens now first turns got r left bytes
-ends-by opens due now first turns got (Ok Left) left bytes f e = e
-ends-by opens due now first turns got (Ok Ended) left bytes f e = e
-ends-by opens due now first turns got (Ok ReadFault) left bytes f e = tt
-ends-by opens due now first turns got (Ok Full) left bytes f e = e
-ends-by opens due now first turns got (Err stop.HistoryFull) left bytes f e = (e.0, e.1, f e.0.at e.2)
-ends-by opens due now first turns got (Err stop.WriteFault) left bytes f e = e
-ends-by opens due now first turns got (Err (stop.Broken at)) left bytes f e = tt
-ends-by opens due now first turns got (Err stop.NoMemory) left bytes f e = tt
+pub ends-by : (protocol : Protocol Event) (due now : Phase → Type 0) (first : List Phase) (turns : List Turn) (got : List (Answer Event)) (r : Result InputEnd Stop) (left : Inlet) (bytes : List ℕ) → ((phase : Phase) → due phase → now phase) → EndIs protocol due first turns got r left bytes → EndIs protocol now first turns got r left bytes
+ends-by protocol due now first turns got (Ok Left) left bytes f e = e
+ends-by protocol due now first turns got (Ok Ended) left bytes f e = e
+ends-by protocol due now first turns got (Ok ReadFault) left bytes f e = tt
+ends-by protocol due now first turns got (Ok Full) left bytes f e = e
+ends-by protocol due now first turns got (Err stop.HistoryFull) left bytes f e = (e.0, e.1, f e.0.at e.2)
+ends-by protocol due now first turns got (Err stop.WriteFault) left bytes f e = e
+ends-by protocol due now first turns got (Err (stop.Broken at)) left bytes f e = tt
+ends-by protocol due now first turns got (Err stop.NoMemory) left bytes f e = tt
 
 -- the lines of bytes whose first ones are those that were played
 pub lines-behind : (bytes behind : List ℕ) (given : List (List ℕ)) → bytes ≡ with_newlines given ++ behind → AllByRecursion HasNoNewline given → whole_lines [] bytes ≡ given ++ whole_lines [] behind
@@ -371,7 +368,7 @@ asked-with turns behind a = asked-append turns (turns_of behind) a (asked-of beh
 
 -- the client may leave after a line: of the lines behind it none is played, and what kept the client before is known
 left-at : (u : Bool) (g : Service) (old mid new : Seated) (a b c : Outlet) (left rest : Inlet) (taken : ℕ) (behind line : List ℕ) (beyond lines : List (List ℕ)) (h : HasRead u g old mid a b left rest taken behind) → lines ≡ lines_among h.turns ++ line ∷ beyond → IsSameSeat old mid → AreLines (IsAll left h.bytes) h.bytes lines
-    → ((got : List (Answer Event)) → ((first more : List Turn) → h.turns ≡ first ++ more → is_leaving (answers_to (protocol g.opens) (later first) got) ≡ false) → EndIs g.opens (IsDueStill old.number new.seen) [] (with-lines h.turns (line ∷ beyond)) got (Ok Left) left h.bytes)
+    → ((got : List (Answer Event)) → ((first more : List Turn) → h.turns ≡ first ++ more → is_leaving (answers_to g.protocol (later first) got) ≡ false) → EndIs g.protocol (IsDueStill old.number new.seen) [] (with-lines h.turns (line ∷ beyond)) got (Ok Left) left h.bytes)
     → Serves g mid new b c Over (line_phases (line ∷ [])) → (p : Plays u [] g old new a c left rest (Ok Left)) × (p.bytes ≡ h.bytes)
 left-at u g old mid new a b c left rest taken behind line beyond lines h cut same read end t = (
   record {
@@ -382,7 +379,7 @@ left-at u g old mid new a b c left rest taken behind line beyond lines h cut sam
     lines_are = subst (λ ls. AreLines (IsAll left h.bytes) h.bytes ls) (sym (lines-with h.turns (line ∷ beyond) lines cut)) read;
     asked = λ e. asked-with h.turns (line ∷ beyond) (h.asked e);
     serves = found.0;
-    end_is = end found.0.got (λ first more e. ap (λ q. is_leaving (answers_to (protocol g.opens) (later first) q)) found.1 ∙ kept-front g.opens h.turns first more h.serves.got now.got h.serves.out e h.serves.fits);
+    end_is = end found.0.got (λ first more e. ap (λ q. is_leaving (answers_to g.protocol (later first) q)) found.1 ∙ kept-front g.protocol h.turns first more h.serves.got now.got h.serves.out e h.serves.fits);
   },
   refl,
 )
@@ -405,8 +402,8 @@ stopped-at u g old mid new a b c left rest taken behind line beyond lines why h 
     lines_are = subst (λ ls. LinesRead (connection_end (Err why)) (IsAll left h.bytes) h.bytes ls) (sym (lines-with h.turns (line ∷ beyond) lines cut)) (stopped-lines why (IsAll left h.bytes) h.bytes lines read);
     asked = λ e. asked-with h.turns (line ∷ beyond) (h.asked e);
     serves = found.0;
-    end_is = subst (λ got. EndIs g.opens (IsDueStill old.number new.seen) [] (with-lines h.turns (line ∷ beyond)) got (Err why) left h.bytes) (sym found.1)
-        (stop-end g.opens (IsDueStill old.number new.seen) why left h.bytes h.turns (Said line) (turns_of beyond) h.serves.got t.got h.serves.out t.out (due-for why ⊤ tt) h.serves.fits t.fits h.last);
+    end_is = subst (λ got. EndIs g.protocol (IsDueStill old.number new.seen) [] (with-lines h.turns (line ∷ beyond)) got (Err why) left h.bytes) (sym found.1)
+        (stop-end g.protocol (IsDueStill old.number new.seen) why left h.bytes h.turns (Said line) (turns_of beyond) h.serves.got t.got h.serves.out t.out (due-for why ⊤ tt) h.serves.fits t.fits h.last);
   },
   refl,
 )

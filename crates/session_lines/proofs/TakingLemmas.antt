@@ -12,9 +12,10 @@ use Rattle.session_events.specs.declared.event.Event.{Event}
 use Rattle.session_events.specs.declared.event.Event.TheVariants.{Key as Struck, Refresh}
 use Rattle.session_events.specs.declared.event.Entry.{Entry}
 use Rattle.session_events.specs.declared.event.Output.{Output}
-use Rattle.session_events.specs.Entries.{entry_with, is_leave}
-use Rattle.session_events.specs.Meaning.{Gives, IsMeaning, rules, answer_of, entry_answers, drawn_bytes}
+use Rattle.session_events.specs.Entries.{entry_with, is_leave, is_drawing}
+use Rattle.session_events.specs.Meaning.{Gives, IsMeaning, rules, answer_of, entry_answers, told_by}
 use Rattle.session_events.specs.Seats.{Seated, IsSameSeat, Steps, Sees}
+use Rattle.session_events.proofs.MeaningLemmas.{told-nothing}
 use Rattle.session_lines.specs.declared.playing.Stop.{Stop}
 use Rattle.session_lines.specs.declared.playing.Stop.TheVariants as stop
 use Rattle.session_lines.specs.Session.{keys_played}
@@ -31,7 +32,7 @@ chosen true answer e = cc
 chosen false answer e = refl
 
 -- an event of the client's own was taken
-steps-add : (g : Gives) (x y : Seated) (event : Event) (output : Output) → is_leave event ≡ false → Steps g x y event output → Adds (rules g) x.number x.seen y.seen (answer_of event output ∷ [])
+pub steps-add : (g : Gives) (x y : Seated) (event : Event) (output : Output) → is_leave event ≡ false → Steps g x y event output → Adds (rules g) x.number x.seen y.seen (answer_of event output ∷ [])
 steps-add g x y event output stays s =
     let here : List Entry = x.seen ++ s.between in
     let entry : Entry = entry_with x.number event s.answers in
@@ -46,17 +47,17 @@ steps-add g x y event output stays s =
 pub sees-add : (g : Gives) (x y : Seated) → Sees g x y → Adds (rules g) x.number x.seen y.seen []
 sees-add g x y s = subst (λ h. Adds (rules g) x.number x.seen h []) (sym s.stands) (adds-others (rules g) x.number x.seen s.between s.foreign)
 
-or-false : (b : Bool) → (b || false) ≡ b
+pub or-false : (b : Bool) → (b || false) ≡ b
 or-false true = refl
 or-false false = refl
 
 -- one event was taken
-pub one-taken : (g : Gives) (x y : Seated) (event : Event) (output : Output) (out : List ℕ) → is_leave event ≡ false → Steps g x y event output → out ≡ drawn_bytes output.drawing → AreTaken g x y (event ∷ []) out output.leaving
+pub one-taken : (g : Gives) (x y : Seated) (event : Event) (output : Output) (out : List ℕ) → is_leave event ≡ false → Steps g x y event output → out ≡ told_by output → AreTaken g x y (event ∷ []) out output.leaving
 one-taken g x y event output out stays s b = record {
   got = answer_of event output ∷ [];
   adds = steps-add g x y event output stays s;
   events_are = refl;
-  bytes = b ∙ sym (append-nil (drawn_bytes output.drawing));
+  bytes = b ∙ sym (append-nil (told_by output));
   leaving_is = or-false output.leaving;
 }
 
@@ -75,13 +76,17 @@ one-refused g x y event why s = record {
   short = none-short why;
 }
 
+-- an event that is no drawing and no going was taken
+pub silent-taken : (g : Gives) (x y : Seated) (event : Event) (output : Output) → is_leave event ≡ false → is_drawing event ≡ false → IsMeaning g → Steps g x y event output → AreTaken g x y (event ∷ []) [] output.leaving
+silent-taken g x y event output stays silent m s = one-taken g x y event output [] stays s (sym (ap told_by s.is ∙ told-nothing g (x.seen ++ s.between) x.number event s.answers m silent))
+
 -- a key was struck
 pub key-taken : (g : Gives) (x y : Seated) (key : keys.Key) (output : Output) → IsMeaning g → Steps g x y (Struck key) output → AreTaken g x y (Struck key ∷ []) [] output.leaving
-key-taken g x y key output m s = one-taken g x y (Struck key) output [] refl s (sym (ap drawn_bytes (ap (λ o. o.drawing) s.is ∙ m.strikes (x.seen ++ s.between) x.number key s.answers)))
+key-taken g x y key output m s = one-taken g x y (Struck key) output [] refl s (sym (ap told_by s.is ∙ told-nothing g (x.seen ++ s.between) x.number (Struck key) s.answers m refl))
 
 -- the client was drawn
-pub drawing-taken : (g : Gives) (asked : Bool) (x y : Seated) (output : Output) (out : List ℕ) → IsMeaning g → Steps g x y (Refresh asked) output → out ≡ drawn_bytes output.drawing → AreTaken g x y (Refresh asked ∷ []) out false
-drawing-taken g asked x y output out m s b = subst (λ l. AreTaken g x y (Refresh asked ∷ []) out l) (ap (λ o. o.leaving) s.is ∙ m.draws (x.seen ++ s.between) x.number asked s.answers) (one-taken g x y (Refresh asked) output out refl s b)
+pub drawing-taken : (g : Gives) (asked : Bool) (x y : Seated) (output : Output) (out : List ℕ) → IsMeaning g → Steps g x y (Refresh asked) output → out ≡ told_by output → AreTaken g x y (Refresh asked ∷ []) out false
+drawing-taken g asked x y output out m s b = subst (λ l. AreTaken g x y (Refresh asked ∷ []) out l) (ap (λ o. o.leaving) s.is ∙ m.stays (x.seen ++ s.between) x.number (Refresh asked) s.answers refl) (one-taken g x y (Refresh asked) output out refl s b)
 
 -- no event was taken yet
 pub none-taken : (g : Gives) (x : Seated) → AreTaken g x x [] [] false
@@ -172,6 +177,17 @@ pub keys-taken : (g : Gives) (a b c : Seated) (ks : List keys.Key) (i : ℕ) (y 
 keys-taken g a b c ks i y l le same s t = subst (λ es. AreTaken g a c es y l) (sym (all-struck ks i le))
     (subst (λ m. AreTaken g a c (map (λ key. Struck key) (take i ks) ++ Refresh true ∷ []) y m) (or-false l)
     (taken-more g a b c (map (λ key. Struck key) (take i ks)) (Refresh true ∷ []) [] y l false same s t))
+
+-- one event, and the drawing behind it: the event was refused, the drawing was, or both were taken
+pub cut-drawn : (g : Gives) (a b : Seated) (event : Event) (why : Stop) → AreCut g a b (event ∷ []) why → AreCut g a b (event ∷ Refresh true ∷ []) why
+cut-drawn g a b event why s = cut-before g a b (event ∷ []) (Refresh true ∷ []) why s
+
+pub drawn-cut : (g : Gives) (a b c : Seated) (event : Event) (l : Bool) (why : Stop) → IsSameSeat a b → AreTaken g a b (event ∷ []) [] l → AreCut g b c (Refresh true ∷ []) why → AreCut g a c (event ∷ Refresh true ∷ []) why
+drawn-cut g a b c event l why same s t = cut-after g a b c (event ∷ []) (Refresh true ∷ []) [] l why same s t
+
+pub drawn-behind : (g : Gives) (a b c : Seated) (event : Event) (y : List ℕ) (l : Bool) → IsSameSeat a b → AreTaken g a b (event ∷ []) [] l → AreTaken g b c (Refresh true ∷ []) y false → AreTaken g a c (event ∷ Refresh true ∷ []) y l
+drawn-behind g a b c event y l same s t =
+    subst (λ m. AreTaken g a c (event ∷ Refresh true ∷ []) y m) (or-false l) (taken-more g a b c (event ∷ []) (Refresh true ∷ []) [] y l false same s t)
 
 -- one more key was struck
 pub struck-more : (g : Gives) (a b c : Seated) (ks : List keys.Key) (i : ℕ) (d : keys.Key) (l m : Bool) → i < length ks → IsSameSeat a b

@@ -15,7 +15,6 @@ use Rattle.line_reading.specs.declared.limits.TheConstants.{MAX_INPUT}
 use Rattle.line_reading.specs.Reading.{IsAll}
 use Rattle.session_lines.specs.declared.reading.InputEnd.{InputEnd}
 use Rattle.session_lines.specs.declared.reading.InputEnd.TheVariants.{Left, Ended, ReadFault, Full}
-use Rattle.session_lines.specs.Session.{protocol}
 use Rattle.session_lines.specs.Stops.{NoneFailed, Causes}
 use Rattle.session_lines.specs.Serving.{Service, Serves}
 use Rattle.session_lines.specs.Reading.{how_read, IsDueStill, WasDueStill, EndIs}
@@ -49,7 +48,7 @@ pub record Plays (unasked : Bool) (first : List Phase) (with : Service) (old new
   pub lines_are : LinesRead (connection_end result) (IsAll left bytes) bytes (lines_among turns)
   pub asked : unasked ≡ false → AreAsked turns
   pub serves : Serves with old new before now (how_read result) (first ++ later turns)
-  pub end_is : EndIs with.opens (IsDueStill old.number new.seen) first turns serves.got result left bytes
+  pub end_is : EndIs with.protocol (IsDueStill old.number new.seen) first turns serves.got result left bytes
 
 -- A connection was served: these bytes were read, no more than may be, these were sent, and the history is what serving
 -- the lines that were read makes, with drawings between them that nobody asked for only where these may come.
@@ -61,8 +60,8 @@ pub record WasServed (unasked : Bool) (with : Service) (who : ℕ) (history : Li
   pub asked : unasked ≡ false → AreAsked turns
   pub out : List ℕ
   pub sends : Appends before.told now.told out
-  pub served : IsServed (protocol with.opens) (rules with.gives) (connection_end result) who history turns (IsAll left bytes) bytes out
-  pub end_is : EndIs with.opens (WasDueStill with.gives who history) (Opening ∷ []) turns (answers (rules with.gives) who history) result left bytes
+  pub served : IsServed with.protocol (rules with.gives) (connection_end result) who history turns (IsAll left bytes) bytes out
+  pub end_is : EndIs with.protocol (WasDueStill with.gives who history) (Opening ∷ []) turns (answers (rules with.gives) who history) result left bytes
 
 -- why a connection ended, behind the client's leaving: a full history has more entries than it may have by that leaving
 abbrev pub EndCauses : Result InputEnd Stop → Seated → Outlet → Outlet → Type 0

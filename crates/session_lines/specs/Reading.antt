@@ -2,10 +2,9 @@
 use Rattle.std.specs.Prelude.{◌≡◌, ℕ, ◌<◌, ◌≤◌, ◌⊎◌, true, false, List, [], ◌∷◌, ◌++◌, length, flat_map, ⊤, Ok, Err}
 use Rattle.std.specs.declared.result.Result.{Result}
 use Rattle.kak_ports.specs.Ports.{Inlet, Rose}
-use Rattle.key_names.specs.declared.key.Key.{Key}
 use Rattle.session_turns.specs.Lines.{whole_lines}
 use Rattle.session_turns.specs.Histories.{Answer, own, is_leaving}
-use Rattle.session_turns.specs.Turns.{Turn, Phase, During, Idle, later, lines_among, plays, answers_to}
+use Rattle.session_turns.specs.Turns.{Turn, Phase, Protocol, During, Idle, later, lines_among, plays, answers_to}
 use Rattle.session_turns.specs.Growth.{Begins, How, Whole, Over}
 use Rattle.session_events.specs.declared.event.Event.{Event}
 use Rattle.session_events.specs.declared.event.Event.TheVariants.{Leave}
@@ -18,7 +17,6 @@ use Rattle.session_lines.specs.declared.playing.Stop.{Stop}
 use Rattle.session_lines.specs.declared.playing.Stop.TheVariants as stop
 use Rattle.session_lines.specs.declared.reading.InputEnd.{InputEnd}
 use Rattle.session_lines.specs.declared.reading.InputEnd.TheVariants.{Left, Ended, ReadFault, Full}
-use Rattle.session_lines.specs.Session.{protocol}
 use Rattle.session_lines.specs.Serving.{how_of}
 
 -- how the phases of the lines got on
@@ -29,26 +27,26 @@ how_read (Err stop) = how_of (Err stop)
 
 -- Of some turns the first ones are those of the lines that some bytes complete, and the client wasn't let go in the
 -- phases before them, nor in these.
-pub record WasKept (opens : List Key) (first : List Phase) (turns : List Turn) (got : List (Answer Event)) (bytes : List ℕ) : Type 0 where
+pub record WasKept (protocol : Protocol Event) (first : List Phase) (turns : List Turn) (got : List (Answer Event)) (bytes : List ℕ) : Type 0 where
   pub front : List Turn
   pub behind : List Turn
   pub cut : turns ≡ front ++ behind
   pub lines : lines_among front ≡ whole_lines [] bytes
-  pub stays : is_leaving (answers_to (protocol opens) (first ++ later front) got) ≡ false
+  pub stays : is_leaving (answers_to protocol (first ++ later front) got) ≡ false
 
 -- the client was let go in the phases before all turns, and nothing was taken
-abbrev pub WasLetGoFirst : List Key → List Phase → List (Answer Event) → List ℕ → Type 0
-WasLetGoFirst opens first got bytes = (is_leaving (answers_to (protocol opens) first got) ≡ true) × (bytes ≡ [])
+abbrev pub WasLetGoFirst : Protocol Event → List Phase → List (Answer Event) → List ℕ → Type 0
+WasLetGoFirst protocol first got bytes = (is_leaving (answers_to protocol first got) ≡ true) × (bytes ≡ [])
 
 -- The client was let go in the last piece of the bytes, which is no longer than what one take gives: nothing was taken
 -- behind the piece with the line that let it go.
-pub record WasLetGoLast (opens : List Key) (first : List Phase) (turns : List Turn) (got : List (Answer Event)) (left : Inlet) (bytes : List ℕ) : Type 0 where
+pub record WasLetGoLast (protocol : Protocol Event) (first : List Phase) (turns : List Turn) (got : List (Answer Event)) (left : Inlet) (bytes : List ℕ) : Type 0 where
   pub before : List ℕ
   pub piece : List ℕ
   pub cut : bytes ≡ before ++ piece
   pub one : length piece ≤ MAX_PIECE
   pub most : length piece ≤ left.most
-  pub kept : WasKept opens first turns got before
+  pub kept : WasKept protocol first turns got before
 
 -- All but the last piece of the bytes, which is no longer than what one take gives, completes lines of these phases alone.
 pub record IsTakenFor (before first : List Phase) (left : Inlet) (bytes : List ℕ) : Type 0 where
@@ -63,12 +61,12 @@ pub record IsTakenFor (before first : List Phase) (left : Inlet) (bytes : List �
 
 -- Playing stopped in a phase, and all events of the phases before it were answered. Nothing was taken behind the piece with
 -- the line of that phase.
-pub record WasStopped (opens : List Key) (first : List Phase) (turns : List Turn) (got : List (Answer Event)) (left : Inlet) (bytes : List ℕ) : Type 0 where
+pub record WasStopped (protocol : Protocol Event) (first : List Phase) (turns : List Turn) (got : List (Answer Event)) (left : Inlet) (bytes : List ℕ) : Type 0 where
   pub before : List Phase
   pub at : Phase
   pub behind : List Phase
   pub split : first ++ later turns ≡ before ++ at ∷ behind
-  pub answered : length (flat_map (plays (protocol opens)) before) ≤ length got
+  pub answered : length (flat_map (plays protocol) before) ≤ length got
   pub needed : (bytes ≡ []) ⊎ IsTakenFor before first left bytes
 
 -- a phase is due to a client that has seen these entries: its opening, a line, or a drawing of what it has missed
@@ -90,27 +88,27 @@ WasDueStill gives who history (During Idle) = HadMissed gives who history
 WasDueStill gives who history _ = ⊤
 
 -- an event of that phase was refused, which was due
-abbrev pub WasRefused : List Key → (Phase → Type 0) → List Phase → List Turn → List (Answer Event) → Inlet → List ℕ → Type 0
-WasRefused opens due first turns got left bytes =
-    (w : WasStopped opens first turns got left bytes) × (length got < length (flat_map (plays (protocol opens)) (w.before ++ w.at ∷ []))) × due w.at
+abbrev pub WasRefused : Protocol Event → (Phase → Type 0) → List Phase → List Turn → List (Answer Event) → Inlet → List ℕ → Type 0
+WasRefused protocol due first turns got left bytes =
+    (w : WasStopped protocol first turns got left bytes) × (length got < length (flat_map (plays protocol) (w.before ++ w.at ∷ []))) × due w.at
 
 -- all events of that phase were answered, and none behind it
-abbrev pub WasUnsent : List Key → List Phase → List Turn → List (Answer Event) → Inlet → List ℕ → Type 0
-WasUnsent opens first turns got left bytes =
-    (w : WasStopped opens first turns got left bytes) × (length got ≡ length (flat_map (plays (protocol opens)) (w.before ++ w.at ∷ [])))
+abbrev pub WasUnsent : Protocol Event → List Phase → List Turn → List (Answer Event) → Inlet → List ℕ → Type 0
+WasUnsent protocol first turns got left bytes =
+    (w : WasStopped protocol first turns got left bytes) × (length got ≡ length (flat_map (plays protocol) (w.before ++ w.at ∷ [])))
 
 -- At each end of the reading: the client was let go before all turns, in the last piece, or in a last part where the input
 -- has ended; an input that ended is the bytes that were taken; one that is too long gave all that may be taken. Where the
 -- history was full, or a write failed, no more was taken than for the phase in which that was met; and what had no room in
 -- the history was due.
-abbrev pub EndIs : List Key → (Phase → Type 0) → List Phase → List Turn → List (Answer Event) → Result InputEnd Stop → Inlet → List ℕ → Type 0
-EndIs opens due first turns got (Ok Left) left bytes =
-    WasLetGoFirst opens first got bytes ⊎ (WasLetGoLast opens first turns got left bytes ⊎ (IsAll left bytes × WasKept opens first turns got bytes))
-EndIs opens due first turns got (Ok Ended) left bytes = IsAll left bytes
-EndIs opens due first turns got (Ok Full) left bytes = length bytes ≡ MAX_INPUT
-EndIs opens due first turns got (Err stop.HistoryFull) left bytes = WasRefused opens due first turns got left bytes
-EndIs opens due first turns got (Err stop.WriteFault) left bytes = WasUnsent opens first turns got left bytes
-EndIs opens due first turns got _ left bytes = ⊤
+abbrev pub EndIs : Protocol Event → (Phase → Type 0) → List Phase → List Turn → List (Answer Event) → Result InputEnd Stop → Inlet → List ℕ → Type 0
+EndIs protocol due first turns got (Ok Left) left bytes =
+    WasLetGoFirst protocol first got bytes ⊎ (WasLetGoLast protocol first turns got left bytes ⊎ (IsAll left bytes × WasKept protocol first turns got bytes))
+EndIs protocol due first turns got (Ok Ended) left bytes = IsAll left bytes
+EndIs protocol due first turns got (Ok Full) left bytes = length bytes ≡ MAX_INPUT
+EndIs protocol due first turns got (Err stop.HistoryFull) left bytes = WasRefused protocol due first turns got left bytes
+EndIs protocol due first turns got (Err stop.WriteFault) left bytes = WasUnsent protocol first turns got left bytes
+EndIs protocol due first turns got _ left bytes = ⊤
 
 -- a read fault is told only where the count of the source's faults rose, and else none was met, unless the session was
 -- broken when the client was to leave

@@ -4,13 +4,14 @@ use Rattle.std.specs.declared.result.Result.{Result}
 use Rattle.std.specs.Io.KnownBytes.{Appends}
 use Rattle.kak_ports.specs.Ports.{Outlet}
 use Rattle.key_names.specs.declared.key.Key.{Key}
+use Rattle.requests.specs.Reading.{Reads}
 use Rattle.json_writing.specs.Drawings.{drawing_bytes}
 use Rattle.json_writing.specs.Refusals.{refusal_bytes}
-use Rattle.session_turns.specs.Histories.{Answer, own, events_of, bytes_of, is_leaving}
-use Rattle.session_turns.specs.Turns.{Phase, later, turns_of}
+use Rattle.session_turns.specs.Histories.{Answer, own, answers, events_of, bytes_of, is_leaving}
+use Rattle.session_turns.specs.Turns.{Phase, Protocol, Opening, later, turns_of}
 use Rattle.session_turns.specs.Growth.{Begins, How, Whole, Over, Short, Unsent, Lost, Fits, Adds}
 use Rattle.session_events.specs.declared.event.Event.{Event}
-use Rattle.session_events.specs.declared.event.Event.TheVariants.{Refresh, Leave}
+use Rattle.session_events.specs.declared.event.Event.TheVariants.{Join, Refresh, Leave}
 use Rattle.session_events.specs.declared.event.Answered.{Answered}
 use Rattle.session_events.specs.declared.event.Entry.{Entry}
 use Rattle.session_events.specs.Entries.{entry_with}
@@ -29,6 +30,11 @@ abbrev pub telling_bytes : Telling → List ℕ
 telling_bytes Nothing = []
 telling_bytes (Drawn drawing) = drawing_bytes drawing
 telling_bytes (Refused refusal) = refusal_bytes refusal
+
+-- The client has come and made no event since; it was let go by its coming, or not.
+pub record HasOnlyCome (gives : Gives) (seat : Seated) (let_go : Bool) : Type 0 where
+  pub comes : own (rules gives) seat.number seat.seen ≡ Join ∷ []
+  pub let_go_is : is_leaving (answers (rules gives) seat.number seat.seen) ≡ let_go
 
 -- events were all taken, with these answers
 pub record AreTaken (gives : Gives) (old new : Seated) (events : List Event) (out : List ℕ) (leaving : Bool) : Type 0 where
@@ -91,13 +97,14 @@ how_of (Err stop.HistoryFull) = Short
 how_of (Err stop.WriteFault) = Unsent
 how_of (Err _) = Lost
 
--- What a connection is served with: what entries give, and the keys that are struck before its first drawing.
+-- What a connection is served with: what entries give, and what it plays and says.
 pub record Service : Type 0 where
   pub gives : Gives
-  pub opens : List Key
+  pub protocol : Protocol Event
 
-abbrev pub service : Gives → List Key → Service
-service gives opens = record { gives = gives; opens = opens }
+-- what a connection of the editor is served with, where these keys are struck before its first drawing
+abbrev pub service : Gives → Reads → List Key → Service
+service gives reads opens = record { gives = gives; protocol = protocol reads opens }
 
 -- phases were played: the history grew by the client's part of them, and the bytes that were sent by what they send
 pub record Serves (with : Service) (old new : Seated) (before now : Outlet) (how : How) (all : List Phase) : Type 0 where
@@ -105,7 +112,7 @@ pub record Serves (with : Service) (old new : Seated) (before now : Outlet) (how
   pub out : List ℕ
   pub adds : Adds (rules with.gives) old.number old.seen new.seen got
   pub sends : Appends before.told now.told out
-  pub fits : Fits (protocol with.opens) how all got out
+  pub fits : Fits with.protocol how all got out
 
 -- the phases that some lines are
 abbrev pub line_phases : List (List ℕ) → List Phase
@@ -114,6 +121,14 @@ line_phases lines = later (turns_of lines)
 -- a seat from which no entry was seen yet
 abbrev pub unseen : Seated → Seated
 unseen seat = record seat { seen = [] }
+
+-- a line was played, whatever keys the connection was opened with
+abbrev pub PlaysLine : Gives → Reads → Seated → Seated → Outlet → Outlet → List ℕ → Result Bool Stop → Type 0
+PlaysLine gives reads old new before now line result = (opens : List Key) → Serves (service gives reads opens) old new before now (how_of result) (line_phases (line ∷ []))
+
+-- a connection was opened with these keys, whatever its lines are read as; its client's coming is a part of that
+abbrev pub OpensWith : Gives → List Key → Seated → Seated → Outlet → Outlet → Result Bool Stop → Type 0
+OpensWith gives opens old new before now result = (reads : Reads) → Serves (service gives reads opens) (unseen old) new before now (how_of result) (Opening ∷ [])
 
 -- where the client stays and nothing stopped, what has come of the next line is kept
 abbrev pub KeepsLinePart : Result Bool Stop → List ℕ → List ℕ → Type 0

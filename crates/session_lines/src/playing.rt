@@ -1,7 +1,7 @@
 //! Events of a client that is joined, played over a seat.
 
 ghost use Rattle.std.specs.Prelude.{◌≡◌, ◌∷◌, [], true, false, Some, IfOk, IfErr, IfSome, OnErr};
-ghost use Rattle.session_events.specs.declared.event.Event.TheVariants.{Key as Struck, Refresh};
+ghost use Rattle.session_events.specs.declared.event.Event.TheVariants.{Key as Struck, Resize as Resized, Refresh};
 ghost use Rattle.session_events.specs.Entries.{is_join, is_leave};
 ghost use Rattle.session_events.specs.Meaning.{IsMeaning, drawn_bytes};
 ghost use Rattle.session_events.specs.Seats.{IsIn, IsSameSeat, IsLegalSeat, Steps, Sees};
@@ -63,19 +63,19 @@ impl From<AllocError> for Stop {
 }
 
 // Takes an event of a client that is joined: a full history alone refuses it, and leaving is never refused.
-fn take<S: Seat>(alloc: Global, seat: &mut S, event: Event) -> Result<Output, Stop>
+fn take<S: Seat>(alloc: Global, seat: &mut S, event: &Event) -> Result<Output, Stop>
     requires joined { IsIn (S.seated seat.old) }
-    requires joins_no_more { is_join event ≡ false }
+    requires joins_no_more { is_join event.now ≡ false }
     ensures meaning { IsMeaning S.gives }
     ensures same { IsSameSeat (S.seated seat.old) (S.seated seat.new) }
     ensures kept { S.kept seat.new ≡ S.kept seat.old }
     ensures whole { StaysWhole result (S.seated seat.old).mark (S.seated seat.new).mark }
     ensures legal { IsLegalSeat (S.seated seat.new) }
-    ensures joined { is_leave event ≡ false → IsIn (S.seated seat.new) }
-    ensures ok { IfOk result (λ output. Steps S.gives (S.seated seat.old) (S.seated seat.new) event output) }
+    ensures joined { is_leave event.now ≡ false → IsIn (S.seated seat.new) }
+    ensures ok { IfOk result (λ output. Steps S.gives (S.seated seat.old) (S.seated seat.new) event.now output) }
     ensures err { OnErr result (Sees S.gives (S.seated seat.old) (S.seated seat.new)) }
-    ensures stops { is_leave event ≡ false → Stops result (S.seated seat.new) }
-    ensures leaves { is_leave event ≡ true → IfErr result (λ stop. IsLoss stop (S.seated seat.new)) }
+    ensures stops { is_leave event.now ≡ false → Stops result (S.seated seat.new) }
+    ensures leaves { is_leave event.now ≡ true → IfErr result (λ stop. IsLoss stop (S.seated seat.new)) }
     ensures marked { IfSome (S.seated seat.old).mark (λ at. (S.seated seat.new).mark ≡ Some at) }
 {
     match seat.step(alloc, event) {
@@ -109,7 +109,7 @@ fn strike<S: Seat>(alloc: Global, seat: &mut S, key: Key) -> Result<bool, Stop>
     ensures takes { TakesEvents S.gives (S.seated seat.old) (S.seated seat.new) (Struck key ∷ []) result }
     ensures stops { Stops result (S.seated seat.new) }
 {
-    let output = take(alloc, seat, Event::Key(key))?;
+    let output = take(alloc, seat, &Event::Key(key))?;
     Ok(output.leaving)
 }
 
@@ -123,7 +123,7 @@ fn draw<S: Seat>(alloc: Global, seat: &mut S, asked: bool) -> Result<Telling, St
     ensures takes { TakesDrawing S.gives asked (S.seated seat.old) (S.seated seat.new) result }
     ensures stops { Stops result (S.seated seat.new) }
 {
-    let output = take(alloc, seat, Event::Refresh(asked))?;
+    let output = take(alloc, seat, &Event::Refresh(asked))?;
     Ok(telling_of(output.drawing))
 }
 
@@ -162,6 +162,40 @@ pub fn play_keys<S: Seat>(alloc: Global, seat: &mut S, keys: &[Key]) -> Result<R
     Ok(Reply { telling, leaving })
 }
 
+// Gives the client's windows so many rows and columns, which gives no drawing. Tells whether the client may leave by it.
+fn set_size<S: Seat>(alloc: Global, seat: &mut S, rows: u16, columns: u16) -> Result<bool, Stop>
+    requires { IsReady (S.seated seat.old) }
+    ensures meaning { IsMeaning S.gives }
+    ensures stays { Stays (S.seated seat.old) (S.seated seat.new) }
+    ensures kept { S.kept seat.new ≡ S.kept seat.old }
+    ensures whole { StaysWhole result (S.seated seat.old).mark (S.seated seat.new).mark }
+    ensures takes { TakesEvents S.gives (S.seated seat.old) (S.seated seat.new) (Resized rows columns ∷ []) result }
+    ensures stops { Stops result (S.seated seat.new) }
+{
+    let output = take(alloc, seat, &Event::Resize(rows, columns))?;
+    Ok(output.leaving)
+}
+
+/// Gives the client's windows so many rows and columns, and draws the client.
+pub fn play_size<S: Seat>(
+    alloc: Global,
+    seat: &mut S,
+    rows: u16,
+    columns: u16,
+) -> Result<Reply, Stop>
+    requires { IsReady (S.seated seat.old) }
+    ensures meaning { IsMeaning S.gives }
+    ensures stays { Stays (S.seated seat.old) (S.seated seat.new) }
+    ensures kept { S.kept seat.new ≡ S.kept seat.old }
+    ensures whole { StaysWhole result (S.seated seat.old).mark (S.seated seat.new).mark }
+    ensures answers { PhaseAnswers S.gives (S.seated seat.old) (S.seated seat.new) (Resized rows columns ∷ Refresh true ∷ []) [] result }
+    ensures stops { Stops result (S.seated seat.new) }
+{
+    let leaving = set_size(alloc, seat, rows, columns)?;
+    let telling = draw(alloc, seat, true)?;
+    Ok(Reply { telling, leaving })
+}
+
 /// Lets the client go.
 pub fn leave<S: Seat>(alloc: Global, seat: &mut S) -> Result<(), Stop>
     requires { IsReady (S.seated seat.old) }
@@ -172,7 +206,7 @@ pub fn leave<S: Seat>(alloc: Global, seat: &mut S) -> Result<(), Stop>
     ensures leaves { Leaves S.gives (S.seated seat.old) (S.seated seat.new) result }
     ensures marked { IfSome (S.seated seat.old).mark (λ at. (S.seated seat.new).mark ≡ Some at) }
 {
-    match take(alloc, seat, Event::Leave) {
+    match take(alloc, seat, &Event::Leave) {
         Ok(_output) => Ok(()),
         Err(stop) => Err(stop),
     }

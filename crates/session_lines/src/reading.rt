@@ -11,6 +11,7 @@ use crate::playing::Stop;
 use crate::turns::play_line;
 use kak_ports::{Sink, Source};
 use line_reading::{LineReader, NextLine};
+use requests::Reader;
 use session_events::Seat;
 use std::alloc::Global;
 
@@ -29,7 +30,7 @@ pub enum InputEnd {
 
 /// Plays the lines of an input one after another, a last part without a newline too where the input has ended. The next
 /// line is read where the client stays and nothing stopped.
-pub fn play_input<S: Seat, I: Source, K: Sink>(
+pub fn play_input<Q: Reader, S: Seat, I: Source, K: Sink>(
     alloc: Global,
     seat: &mut S,
     source: &mut I,
@@ -40,7 +41,7 @@ pub fn play_input<S: Seat, I: Source, K: Sink>(
     ensures stays { Stays (S.seated seat.old) (S.seated seat.new) }
     ensures kept { S.kept seat.new ≡ S.kept seat.old }
     ensures whole { StaysWhole result (S.seated seat.old).mark (S.seated seat.new).mark }
-    ensures plays { (opens : List Key) → Plays false [] (service S.gives opens) (S.seated seat.old) (S.seated seat.new) (K.outlet sink.old) (K.outlet sink.new) (I.inlet source.old) (I.inlet source.new) result }
+    ensures plays { (opens : List Key) → Plays false [] (service S.gives Q.reads opens) (S.seated seat.old) (S.seated seat.new) (K.outlet sink.old) (K.outlet sink.new) (I.inlet source.old) (I.inlet source.new) result }
     ensures fault { FaultIs result (I.inlet source.old) (I.inlet source.new) }
     ensures cause { Causes result (S.seated seat.new) (K.outlet sink.old) (K.outlet sink.new) }
 {
@@ -48,12 +49,12 @@ pub fn play_input<S: Seat, I: Source, K: Sink>(
     'lines: loop {
         match reader.next(source)? {
             NextLine::Line => {
-                if play_line(alloc, seat, sink, out, reader.line())? {
+                if play_line::<Q, S, K>(alloc, seat, sink, out, reader.line())? {
                     return Ok(InputEnd::Left);
                 }
             }
             NextLine::Last => {
-                let leaving = play_line(alloc, seat, sink, out, reader.line())?;
+                let leaving = play_line::<Q, S, K>(alloc, seat, sink, out, reader.line())?;
                 if leaving {
                     return Ok(InputEnd::Left);
                 }

@@ -1,40 +1,40 @@
 //! The phases of a connection: what it plays is played, and what that gives is told at the end of the phase.
 
-ghost use Rattle.std.specs.Prelude.{◌≡◌, List, ◌∷◌, [], OnOk};
-ghost use Rattle.key_names.specs.declared.key.Key.{Key};
-ghost use Rattle.json_ui.specs.Requests.{read_request};
-ghost use Rattle.session_turns.specs.Histories.{own};
-ghost use Rattle.session_turns.specs.Turns.{Opening};
+ghost use Rattle.std.specs.Prelude.{◌≡◌, ◌∷◌, [], OnOk};
 ghost use Rattle.session_events.specs.declared.event.Event.TheVariants.{Join};
-ghost use Rattle.session_events.specs.Meaning.{rules};
 ghost use Rattle.session_lines.specs.Session.{keys_played, played_by, bytes_of_refusal};
-ghost use Rattle.session_lines.specs.Serving.{service, telling_bytes, PhaseAnswers, Serves, how_of, line_phases, unseen};
+ghost use Rattle.session_lines.specs.Serving.{telling_bytes, HasOnlyCome, PhaseAnswers, PlaysLine, OpensWith, unseen};
 ghost use Rattle.session_lines.specs.Sending.{Sends, Counts, Tells};
 ghost use Rattle.session_lines.specs.Stops.{IsReady, Stays, Stops, Causes, StaysWhole};
 
-use crate::playing::{Reply, Stop, Telling, play_keys};
-use json_ui::{LineError, Request, decode_line};
+use crate::playing::{Reply, Stop, Telling, play_keys, play_size};
 use json_writing::{encode_drawing, encode_refusal};
 use kak_ports::{Put, Sink};
 use key_names::Key;
+use requests::{LineError, Reader, Request};
 use session_events::Seat;
 use std::alloc::{AllocError, Global};
 
-/// Plays one line, without its newline, and gives what the client is to be told.
-pub fn answer_line<S: Seat>(alloc: Global, seat: &mut S, line: &[u8]) -> Result<Reply, Stop>
+/// Plays one line, without its newline, as the reader reads it, and gives what the client is to be told.
+pub fn answer_line<Q: Reader, S: Seat>(
+    alloc: Global,
+    seat: &mut S,
+    line: &[u8],
+) -> Result<Reply, Stop>
     requires { IsReady (S.seated seat.old) }
     ensures stays { Stays (S.seated seat.old) (S.seated seat.new) }
     ensures kept { S.kept seat.new ≡ S.kept seat.old }
     ensures whole { StaysWhole result (S.seated seat.old).mark (S.seated seat.new).mark }
-    ensures answers { PhaseAnswers S.gives (S.seated seat.old) (S.seated seat.new) (played_by (read_request line.now)) (bytes_of_refusal (read_request line.now)) result }
+    ensures answers { PhaseAnswers S.gives (S.seated seat.old) (S.seated seat.new) (played_by (Q.reads line.now)) (bytes_of_refusal (Q.reads line.now)) result }
     ensures stops { Stops result (S.seated seat.new) }
 {
-    match decode_line(alloc, line) {
+    match Q::read(alloc, line) {
         Ok(Request::Nothing) => Ok(Reply {
             telling: Telling::Nothing,
             leaving: false,
         }),
         Ok(Request::Keys(keys)) => play_keys(alloc, seat, keys.as_slice()),
+        Ok(Request::Resize(rows, columns)) => play_size(alloc, seat, rows, columns),
         Err(LineError::Refused(refusal)) => Ok(Reply {
             telling: Telling::Refused(refusal),
             leaving: false,
@@ -43,17 +43,29 @@ pub fn answer_line<S: Seat>(alloc: Global, seat: &mut S, line: &[u8]) -> Result<
     }
 }
 
-/// Opens a connection whose client has joined: keys are struck, and it is drawn. Gives what the client is to be told.
-pub fn answer_opening<S: Seat>(alloc: Global, seat: &mut S, keys: &[Key]) -> Result<Reply, Stop>
+/// Opens a connection whose client has joined: keys are struck, and it is drawn, also where its coming let it go. Gives what
+/// the client is to be told, and whether it may leave, by its coming or by what it played then.
+pub fn answer_opening<S: Seat>(
+    alloc: Global,
+    seat: &mut S,
+    keys: &[Key],
+    let_go: bool,
+) -> Result<Reply, Stop>
     requires ready { IsReady (S.seated seat.old) }
-    requires new { own (rules S.gives) (S.seated seat.old).number (S.seated seat.old).seen ≡ Join ∷ [] }
+    requires new { HasOnlyCome S.gives (S.seated seat.old) let_go }
     ensures stays { Stays (S.seated seat.old) (S.seated seat.new) }
     ensures kept { S.kept seat.new ≡ S.kept seat.old }
     ensures whole { StaysWhole result (S.seated seat.old).mark (S.seated seat.new).mark }
     ensures answers { PhaseAnswers S.gives (unseen (S.seated seat.old)) (S.seated seat.new) (Join ∷ keys_played keys.now) [] result }
     ensures stops { Stops result (S.seated seat.new) }
 {
-    play_keys(alloc, seat, keys)
+    match play_keys(alloc, seat, keys) {
+        Ok(reply) => Ok(Reply {
+            telling: reply.telling,
+            leaving: let_go | reply.leaving,
+        }),
+        Err(stop) => Err(stop),
+    }
 }
 
 /// Writes what a client is told as lines of JSON. Where memory is wanting, a part may stand there.
@@ -91,8 +103,8 @@ fn send_telling<K: Sink>(sink: &mut K, out: &mut Vec<u8>, telling: &Telling) -> 
     send(sink, out.as_slice())
 }
 
-/// Plays one line, without its newline, and sends what it gives. Tells whether the client may leave.
-pub fn play_line<S: Seat, K: Sink>(
+/// Plays one line, without its newline, as the reader reads it, and sends what it gives. Tells whether the client may leave.
+pub fn play_line<Q: Reader, S: Seat, K: Sink>(
     alloc: Global,
     seat: &mut S,
     sink: &mut K,
@@ -103,32 +115,33 @@ pub fn play_line<S: Seat, K: Sink>(
     ensures stays { Stays (S.seated seat.old) (S.seated seat.new) }
     ensures kept { S.kept seat.new ≡ S.kept seat.old }
     ensures whole { StaysWhole result (S.seated seat.old).mark (S.seated seat.new).mark }
-    ensures serves { (opens : List Key) → Serves (service S.gives opens) (S.seated seat.old) (S.seated seat.new) (K.outlet sink.old) (K.outlet sink.new) (how_of result) (line_phases (line.now ∷ [])) }
+    ensures serves { PlaysLine S.gives Q.reads (S.seated seat.old) (S.seated seat.new) (K.outlet sink.old) (K.outlet sink.new) line.now result }
     ensures cause { Causes result (S.seated seat.new) (K.outlet sink.old) (K.outlet sink.new) }
 {
-    let reply = answer_line(alloc, seat, line)?;
+    let reply = answer_line::<Q, S>(alloc, seat, line)?;
     send_telling(sink, out, &reply.telling)?;
     Ok(reply.leaving)
 }
 
-/// Opens a connection whose client has joined: keys are struck, and its first drawing is sent. Tells whether the client may
-/// leave.
+/// Opens a connection whose client has joined: keys are struck, and its first drawing is sent, also where its coming let it
+/// go. Tells whether the client may leave.
 pub fn open<S: Seat, K: Sink>(
     alloc: Global,
     seat: &mut S,
     sink: &mut K,
     out: &mut Vec<u8>,
     keys: &[Key],
+    let_go: bool,
 ) -> Result<bool, Stop>
     requires ready { IsReady (S.seated seat.old) }
-    requires new { own (rules S.gives) (S.seated seat.old).number (S.seated seat.old).seen ≡ Join ∷ [] }
+    requires new { HasOnlyCome S.gives (S.seated seat.old) let_go }
     ensures stays { Stays (S.seated seat.old) (S.seated seat.new) }
     ensures kept { S.kept seat.new ≡ S.kept seat.old }
     ensures whole { StaysWhole result (S.seated seat.old).mark (S.seated seat.new).mark }
-    ensures serves { Serves (service S.gives keys.now) (unseen (S.seated seat.old)) (S.seated seat.new) (K.outlet sink.old) (K.outlet sink.new) (how_of result) (Opening ∷ []) }
+    ensures serves { OpensWith S.gives keys.now (S.seated seat.old) (S.seated seat.new) (K.outlet sink.old) (K.outlet sink.new) result }
     ensures cause { Causes result (S.seated seat.new) (K.outlet sink.old) (K.outlet sink.new) }
 {
-    let reply = answer_opening(alloc, seat, keys)?;
+    let reply = answer_opening(alloc, seat, keys, let_go)?;
     send_telling(sink, out, &reply.telling)?;
     Ok(reply.leaving)
 }

@@ -12,18 +12,19 @@ use Rattle.ui_board.specs.declared.ui.Kind.TheVariants.{Silent}
 use Rattle.ui_board.specs.Told.{Shown, untold, report_of}
 use Rattle.session_turns.specs.Lines.{whole_lines}
 use Rattle.session_events.specs.declared.event.Entry.{Entry}
-use Rattle.session_events.specs.Meaning.{Gives}
 use Rattle.session_events.specs.Seats.{Seated}
 use Rattle.session_lines.specs.declared.playing.Stop.{Stop}
 use Rattle.session_lines.specs.declared.playing.Stop.TheVariants.{HistoryFull, Broken, NoMemory, WriteFault}
-use Rattle.session_lines.specs.Stops.{StaysWhole}
+use Rattle.session_lines.specs.Stops.{Stops, StaysWhole}
+use Rattle.session_replay.specs.Settings.{Setting}
 use Rattle.session_replay.specs.declared.ends.ReplayEnd.{ReplayEnd}
 use Rattle.session_replay.specs.declared.ends.ReplayEnd.TheVariants as end
 use Rattle.session_replay.specs.declared.players.ReplayClient.{ReplayClient}
-use Rattle.session_replay.specs.Clients.{HeldClient}
+use Rattle.session_replay.specs.Clients.{HeldClient, moment}
 use Rattle.session_replay.specs.Players.{reports}
 use Rattle.session_replay.specs.Phases.{HoldReports, WasPlayed, IsNoLoss, Halts, ArePlayedInOrder}
-use Rattle.session_replay.specs.Replays.{unwritten, Reports, WasReplayed, ReplayFaultIs}
+use Rattle.session_replay.specs.Replays.{unwritten, Reports, WasReplayed}
+use Rattle.session_replay.specs.Staying.{IsSessionStill}
 use Rattle.session_replay.proofs.ReportLemmas.{reports-are}
 use Rattle.session_replay.proofs.StoppedLemmas.{IsLosing, replayed-lost}
 
@@ -50,10 +51,10 @@ same-reports (Err (Broken at)) result before now xs ys e r = r
 same-reports (Err NoMemory) result before now xs ys e r = r
 
 -- what was played, behind the reports
-pub played-replayed : (g : Gives) (limit at : ℕ) (kinds : List Kind) (ended result : Result ReplayEnd Stop) (h : List Entry) (held : ℕ → HeldClient) (clients told : List ReplayClient) (left rest : Inlet) (before now : Outlet) → at ≡ limit → length clients ≡ length kinds → ((who : ℕ) → (held who).report ≡ get_or (reports clients) who [])
-    → told ≡ clients → WasPlayed g at kinds ended h held left rest → Reports ended result before now (flat_map (λ client. client.report.items) told) → WasReplayed g limit kinds (λ who. (held who).box) h left rest before now result
+pub played-replayed : (g : Setting) (limit at : ℕ) (kinds : List Kind) (ended result : Result ReplayEnd Stop) (h : List Entry) (held : ℕ → HeldClient) (clients told : List ReplayClient) (left rest : Inlet) (before now : Outlet) → at ≡ limit → length clients ≡ length kinds → ((who : ℕ) → (held who).report ≡ get_or (reports clients) who [])
+    → told ≡ clients → WasPlayed g at kinds ended (moment h held) left rest → Reports ended result before now (flat_map (λ client. client.report.items) told) → WasReplayed g limit kinds (λ who. (held who).box) h left rest before now result
 played-replayed g limit at kinds ended result h held clients told left rest before now e many is t q r =
-    let p : WasPlayed g limit kinds ended h held left rest = subst (λ n. WasPlayed g n kinds ended h held left rest) e q in
+    let p : WasPlayed g limit kinds ended (moment h held) left rest = subst (λ n. WasPlayed g n kinds ended (moment h held) left rest) e q in
     record {
       bytes = p.bytes;
       takes = p.takes;
@@ -70,10 +71,10 @@ played-replayed g limit at kinds ended result h held clients told left rest befo
     }
 
 -- nothing was read where memory was wanting for the clients
-no-order : (g : Gives) (limit count : ℕ) → ArePlayedInOrder g limit count [] []
+no-order : (g : Setting) (limit count : ℕ) → ArePlayedInOrder g limit count [] []
 no-order g limit count shown same i inside = absurd (omega (arith, inside))
 
-pub nothing-replayed : (g : Gives) (limit : ℕ) (kinds : List Kind) (boxes : ℕ → Option Shown) (h : List Entry) (left : Inlet) (now : Outlet) → h ≡ [] → WasReplayed g limit kinds boxes h left left now now (Err NoMemory)
+pub nothing-replayed : (g : Setting) (limit : ℕ) (kinds : List Kind) (boxes : ℕ → Option Shown) (h : List Entry) (left : Inlet) (now : Outlet) → h ≡ [] → WasReplayed g limit kinds boxes h left left now now (Err NoMemory)
 nothing-replayed g limit kinds boxes h left now e = subst (λ q. WasReplayed g limit kinds boxes q left left now now (Err NoMemory)) (sym e) (record {
   bytes = s.stopped.bytes;
   takes = s.stopped.takes;
@@ -90,3 +91,54 @@ nothing-replayed g limit kinds boxes h left now e = subst (λ q. WasReplayed g l
     s : IsLosing g limit kinds [] [] NoMemory left left
     s = replayed-lost NoMemory g limit kinds [] [] left left tt (no-order g limit (length kinds)) (λ who inside. (untold (get_or kinds who Silent), refl, (refl, refl))) (λ who past. refl)
         (record { bytes = []; takes = Consumes-nil left.left; few = omega arith; first = inl ([], refl) })
+
+-- what holds of how a replay ended, and of that where the reports couldn't be written, holds of what is answered
+answered : (P : Result ReplayEnd Stop → Type 0) (ended result : Result ReplayEnd Stop) (before now : Outlet) (reports : List ℕ) → Reports ended result before now reports → P ended → P (unwritten ended) → P result
+answered P (Ok by) result before now reports (inl w) p q = subst P (sym w.0) p
+answered P (Ok by) result before now reports (inr w) p q = subst P (sym w.0) q
+answered P (Err HistoryFull) result before now reports (inl w) p q = subst P (sym w.0) p
+answered P (Err HistoryFull) result before now reports (inr w) p q = subst P (sym w.0) q
+answered P (Err WriteFault) result before now reports (inl w) p q = subst P (sym w.0) p
+answered P (Err WriteFault) result before now reports (inr w) p q = subst P (sym w.0) q
+answered P (Err (Broken at)) result before now reports w p q = subst P (sym w.0) p
+answered P (Err NoMemory) result before now reports w p q = subst P (sym w.0) p
+
+halts-told : (ended : Result ReplayEnd Stop) (seat : Seated) → Stops ended seat → Halts ended seat
+halts-told (Ok by) seat s = tt
+halts-told (Err HistoryFull) seat s = s
+halts-told (Err (Broken at)) seat s = s
+halts-told (Err NoMemory) seat s = tt
+halts-told (Err WriteFault) seat s = tt
+
+halts-unwritten : (ended : Result ReplayEnd Stop) (seat : Seated) → Stops ended seat → Halts (unwritten ended) seat
+halts-unwritten (Ok end.Over) seat s = tt
+halts-unwritten (Ok end.Ended) seat s = tt
+halts-unwritten (Ok end.BadClient) seat s = tt
+halts-unwritten (Ok end.ReadFault) seat s = tt
+halts-unwritten (Ok end.Full) seat s = tt
+halts-unwritten (Err HistoryFull) seat s = s
+halts-unwritten (Err (Broken at)) seat s = s
+halts-unwritten (Err NoMemory) seat s = tt
+halts-unwritten (Err WriteFault) seat s = tt
+
+pub halts-answered : (ended result : Result ReplayEnd Stop) (seat : Seated) (before now : Outlet) (reports : List ℕ) → Reports ended result before now reports → Stops ended seat → Halts result seat
+halts-answered ended result seat before now reports r s = answered (λ q. Halts q seat) ended result before now reports r (halts-told ended seat s) (halts-unwritten ended seat s)
+
+whole-unwritten : (ended : Result ReplayEnd Stop) (x y : Option ℕ) → StaysWhole ended x y → StaysWhole (unwritten ended) x y
+whole-unwritten (Ok end.Over) x y w = w
+whole-unwritten (Ok end.Ended) x y w = w
+whole-unwritten (Ok end.BadClient) x y w = w
+whole-unwritten (Ok end.ReadFault) x y w = w
+whole-unwritten (Ok end.Full) x y w = w
+whole-unwritten (Err HistoryFull) x y w = w
+whole-unwritten (Err (Broken at)) x y w = w
+whole-unwritten (Err NoMemory) x y w = w
+whole-unwritten (Err WriteFault) x y w = w
+
+pub session-answered : {S K : Type 0} (seated : S → Seated) (kept : S → K) (first x y : S) (ended result : Result ReplayEnd Stop) (before now : Outlet) (reports : List ℕ) → Reports ended result before now reports → x ≡ first → IsSessionStill seated kept ended x y → IsSessionStill seated kept result first y
+session-answered seated kept first x y ended result before now reports r e s = subst (λ q. IsSessionStill seated kept result q y) e (record {
+  kept_is = s.kept_is;
+  limit = s.limit;
+  legal = s.legal;
+  whole = answered (λ q. StaysWhole q (seated x).mark (seated y).mark) ended result before now reports r s.whole (whole-unwritten ended (seated x).mark (seated y).mark s.whole);
+})

@@ -9,14 +9,14 @@ use Rattle.session_turns.specs.Growth.{Begins, How, Lost}
 use Rattle.session_turns.specs.Headline.{Lost as WasLost}
 use Rattle.session_events.specs.declared.event.Entry.{Entry}
 use Rattle.session_events.specs.Legal.{Away, is_here, presence_from}
-use Rattle.session_events.specs.Meaning.{Gives}
 use Rattle.session_lines.specs.declared.playing.Stop.{Stop}
 use Rattle.session_lines.specs.declared.playing.Stop.TheVariants.{HistoryFull, Broken, NoMemory, WriteFault}
 use Rattle.session_lines.specs.Serving.{how_of}
+use Rattle.session_replay.specs.Settings.{Setting}
 use Rattle.session_replay.specs.declared.places.ClientPlace.{ClientPlace}
 use Rattle.session_replay.specs.declared.places.ClientPlace.TheVariants as place
 use Rattle.session_replay.specs.Written.{lines_for}
-use Rattle.session_replay.specs.Clients.{GotTo, LeftAt, HeldClient, Keeps, GrowsBy}
+use Rattle.session_replay.specs.Clients.{GotTo, LeftAt, HeldClient, Keeps, GrowsBy, moment}
 use Rattle.session_replay.specs.Players.{OthersAreHeld, let_off}
 use Rattle.session_replay.specs.Partings.{StandsLast, IsParting, AreParting}
 use Rattle.session_replay.specs.Phases.{IsEnding, AreLeaving, AreLost, IsLossFor, MayLeave, IsLostLeaving}
@@ -27,20 +27,20 @@ use Rattle.session_replay.proofs.LostLemmas.{ending-known, got-at-lost, left-at-
 use Rattle.session_replay.proofs.StoppedLemmas.{parting-lost}
 
 -- those who may leave are about to
-pub may-leave : (g : Gives) (count : ℕ) (h : List Entry) (held : ℕ → HeldClient) → (m : MayLeave g count h held) → AreLeaving g m.kinds m.hows 0 m.lines h h held
+pub may-leave : (g : Setting) (count : ℕ) (h : List Entry) (held : ℕ → HeldClient) → (m : MayLeave g count (moment h held)) → AreLeaving g m.kinds m.hows 0 m.lines h (moment h held)
 may-leave g count h held m = record { rest = []; split = sym (append-nil h); in_order = refl; below = refl; parting = m.parting }
 
 -- a client that is to leave is here, and has a box
-stands-here : (g : Gives) (kinds : List Kind) (hows : ℕ → How) (next who : ℕ) (lines : List (List ℕ)) (h : List Entry) (held : ℕ → HeldClient) → (m : AreParting g kinds hows next lines h held) → (inside : who < length kinds) → (held who).place ≡ place.Here
+stands-here : (g : Setting) (kinds : List Kind) (hows : ℕ → How) (next who : ℕ) (lines : List (List ℕ)) (h : List Entry) (held : ℕ → HeldClient) → (m : AreParting g kinds hows next lines (moment h held)) → (inside : who < length kinds) → (held who).place ≡ place.Here
     → StandsLast g (hows who) place.Here who h (lines_for (length kinds) who lines) (json_lines (m.clients who inside).shown.told)
 stands-here g kinds hows next who lines h held m inside e =
     let c = m.clients who inside in
     subst (λ p. StandsLast g (hows who) p who h (lines_for (length kinds) who lines) (json_lines c.shown.told)) e c.stands
 
-pub here-in : (g : Gives) (kinds : List Kind) (hows : ℕ → How) (next who : ℕ) (lines : List (List ℕ)) (before h : List Entry) (held : ℕ → HeldClient) → AreLeaving g kinds hows next lines before h held → who < length kinds → (held who).place ≡ place.Here → is_here (presence_from who Away h) ≡ true
+pub here-in : (g : Setting) (kinds : List Kind) (hows : ℕ → How) (next who : ℕ) (lines : List (List ℕ)) (before h : List Entry) (held : ℕ → HeldClient) → AreLeaving g kinds hows next lines before (moment h held) → who < length kinds → (held who).place ≡ place.Here → is_here (presence_from who Away h) ≡ true
 here-in g kinds hows next who lines before h held l inside e = (stands-here g kinds hows next who lines h held l.parting inside e).0
 
-pub here-boxed : (g : Gives) (kinds : List Kind) (hows : ℕ → How) (next who : ℕ) (lines : List (List ℕ)) (before h : List Entry) (held : ℕ → HeldClient) → AreLeaving g kinds hows next lines before h held → who < length kinds → (held who).place ≡ place.Here → is_none (held who).box ≡ false
+pub here-boxed : (g : Setting) (kinds : List Kind) (hows : ℕ → How) (next who : ℕ) (lines : List (List ℕ)) (before h : List Entry) (held : ℕ → HeldClient) → AreLeaving g kinds hows next lines before (moment h held) → who < length kinds → (held who).place ≡ place.Here → is_none (held who).box ≡ false
 here-boxed g kinds hows next who lines before h held l inside e =
     let c = l.parting.clients who inside in
     let keeps : Keeps place.Here (held who) c.shown = subst (λ p. Keeps p (held who) c.shown) e c.keeps in
@@ -60,7 +60,7 @@ lost-why NoMemory e = tt
 lost-why HistoryFull e = cc
 lost-why WriteFault e = cc
 
-pub leaving-lost : (g : Gives) (kinds : List Kind) (hows : ℕ → How) (who : ℕ) (lines : List (List ℕ)) (before h h' : List Entry) (held : ℕ → HeldClient) (why : Stop) → AreLeaving g kinds hows who lines before h held → ((k : ℕ) → k < length kinds → IsEnding (hows k)) → who < length kinds → (held who).place ≡ place.Here → GrowsBy g who h h'
+pub leaving-lost : (g : Setting) (kinds : List Kind) (hows : ℕ → How) (who : ℕ) (lines : List (List ℕ)) (before h h' : List Entry) (held : ℕ → HeldClient) (why : Stop) → AreLeaving g kinds hows who lines before (moment h held) → ((k : ℕ) → k < length kinds → IsEnding (hows k)) → who < length kinds → (held who).place ≡ place.Here → GrowsBy g who h h'
     → ((how : How) → (mine : List (List ℕ)) → (told : List ℕ) → GotTo g how who h mine told → (how_of (Err why) ≡ Lost) × (GotTo g how who h' mine told ⊎ LeftAt g how who h' mine told)) → IsLostLeaving g kinds lines before h' why
 leaving-lost g kinds hows who lines before h h' held why l ending inside e grows lost = record {
   loss = lost-why why was.0;
@@ -86,12 +86,12 @@ leaving-lost g kinds hows who lines before h h' held why l ending inside e grows
 pub begins-more : (a b c : List Entry) → Begins b a → Begins c b → Begins c a
 begins-more a b c x y = (x.0 ++ y.0, y.1 ∙ ap (λ q. q ++ y.0) x.1 ∙ append_assoc a x.0 y.0)
 
-pub begins-grown : (g : Gives) (who : ℕ) (a b c : List Entry) → Begins b a → GrowsBy g who b c → Begins c a
+pub begins-grown : (g : Setting) (who : ℕ) (a b c : List Entry) → Begins b a → GrowsBy g who b c → Begins c a
 begins-grown g who a b c x y = begins-more a b c x (y.more, y.grows)
 
 pub begins-same : (a : List Entry) → Begins a a
 begins-same a = ([], sym (append-nil a))
 
 -- behind all of them nobody is left
-pub leaving-all : (g : Gives) (kinds : List Kind) (hows : ℕ → How) (next : ℕ) (lines : List (List ℕ)) (before h : List Entry) (held : ℕ → HeldClient) → next ≡ length kinds → AreLeaving g kinds hows next lines before h held → AreLeaving g kinds hows (length kinds) lines before h held
-leaving-all g kinds hows next lines before h held e l = subst (λ n. AreLeaving g kinds hows n lines before h held) e l
+pub leaving-all : (g : Setting) (kinds : List Kind) (hows : ℕ → How) (next : ℕ) (lines : List (List ℕ)) (before h : List Entry) (held : ℕ → HeldClient) → next ≡ length kinds → AreLeaving g kinds hows next lines before (moment h held) → AreLeaving g kinds hows (length kinds) lines before (moment h held)
+leaving-all g kinds hows next lines before h held e l = subst (λ n. AreLeaving g kinds hows n lines before (moment h held)) e l

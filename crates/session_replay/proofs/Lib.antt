@@ -1,4 +1,5 @@
 pub mod LineLemmas
+pub mod StayingLemmas
 pub mod BoxLemmas
 pub mod ClientLemmas
 pub mod EndingLemmas

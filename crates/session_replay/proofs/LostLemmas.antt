@@ -6,9 +6,8 @@ use Rattle.std.specs.List.{flat_map, list_any}
 use Rattle.std.proofs.lemmas.List.Folds.{list_any-append}
 use Rattle.key_names.specs.declared.key.Key.{Key}
 use Rattle.drawings.specs.declared.refusal.Refusal.{Refusal}
-use Rattle.json_ui.specs.declared.request.Request.{Request}
-use Rattle.json_ui.specs.declared.request.Request.TheVariants.{Nothing, Keys}
-use Rattle.json_ui.specs.Requests.{read_request}
+use Rattle.requests.specs.declared.request.Request.{Request}
+use Rattle.requests.specs.declared.request.Request.TheVariants.{Nothing, Keys, Resize}
 use Rattle.session_turns.specs.Histories.{Answer, own, events_of}
 use Rattle.session_turns.specs.Turns.{Line, Idle, Phase, Opening, During, later, phases, turns_of, plays, played, due}
 use Rattle.session_turns.specs.Growth.{GoesOn, How, Whole, Over, Short, Unsent, Lost, Fits}
@@ -19,8 +18,9 @@ use Rattle.session_events.specs.declared.event.Event.{Event}
 use Rattle.session_events.specs.declared.event.Event.TheVariants.{Key as Struck, Refresh}
 use Rattle.session_events.specs.declared.event.Entry.{Entry}
 use Rattle.session_events.specs.Entries.{is_leave}
-use Rattle.session_events.specs.Meaning.{Gives, rules}
+use Rattle.session_events.specs.Meaning.{rules}
 use Rattle.session_lines.specs.Session.{protocol, played_by}
+use Rattle.session_replay.specs.Settings.{Setting}
 use Rattle.session_replay.specs.declared.places.ClientPlace.{ClientPlace}
 use Rattle.session_replay.specs.declared.places.ClientPlace.TheVariants as place
 use Rattle.session_replay.specs.Clients.{GotTo, LeftAt, ClientStands}
@@ -43,29 +43,29 @@ IsKnown Unsent = ⊥
 IsKnown _ = Unit {0}
 
 -- lines behind one in which playing stopped are free
-more-fits : (how : How) (lines more : List (List ℕ)) (got : List (Answer Event)) (told : List ℕ) → IsStopped how → Fits (protocol []) how (phases (turns_of lines)) got told → Fits (protocol []) how (phases (turns_of lines) ++ later (turns_of more)) got told
-more-fits Over lines more got told stopped f = over-more (protocol []) (phases (turns_of lines)) (later (turns_of more)) got told f
-more-fits Short lines more got told stopped f = short-more (protocol []) (phases (turns_of lines)) (later (turns_of more)) got told f
-more-fits Lost lines more got told stopped f = lost-more (protocol []) (phases (turns_of lines)) (later (turns_of more)) got told f
-more-fits Whole lines more got told stopped f = absurd stopped
-more-fits Unsent lines more got told stopped f = absurd stopped
+more-fits : (g : Setting) (how : How) (lines more : List (List ℕ)) (got : List (Answer Event)) (told : List ℕ) → IsStopped how → Fits (protocol g.reads []) how (phases (turns_of lines)) got told → Fits (protocol g.reads []) how (phases (turns_of lines) ++ later (turns_of more)) got told
+more-fits g Over lines more got told stopped f = over-more (protocol g.reads []) (phases (turns_of lines)) (later (turns_of more)) got told f
+more-fits g Short lines more got told stopped f = short-more (protocol g.reads []) (phases (turns_of lines)) (later (turns_of more)) got told f
+more-fits g Lost lines more got told stopped f = lost-more (protocol g.reads []) (phases (turns_of lines)) (later (turns_of more)) got told f
+more-fits g Whole lines more got told stopped f = absurd stopped
+more-fits g Unsent lines more got told stopped f = absurd stopped
 
-pub got-lines : (g : Gives) (how : How) (k : ℕ) (h : List Entry) (lines more : List (List ℕ)) (told : List ℕ) → IsStopped how → GotTo g how k h lines told → GotTo g how k h (lines ++ more) told
+pub got-lines : (g : Setting) (how : How) (k : ℕ) (h : List Entry) (lines more : List (List ℕ)) (told : List ℕ) → IsStopped how → GotTo g how k h lines told → GotTo g how k h (lines ++ more) told
 got-lines g how k h lines more told stopped s = record {
   got = s.got;
   adds = s.adds;
-  fits = subst (λ all. Fits (protocol []) how all s.got told) (sym (phases-append lines more)) (more-fits how lines more s.got told stopped s.fits);
+  fits = subst (λ all. Fits (protocol g.reads []) how all s.got told) (sym (phases-append lines more)) (more-fits g how lines more s.got told stopped s.fits);
 }
 
 -- however far a client with a line got, a beginning of what is due stands
-pub got-at-lost : (g : Gives) (how : How) (k : ℕ) (h : List Entry) (lines : List (List ℕ)) (told : List ℕ) → IsKnown how → 0 < length lines → GotTo g how k h lines told → StandsAt WasLost g k h lines told
+pub got-at-lost : (g : Setting) (how : How) (k : ℕ) (h : List Entry) (lines : List (List ℕ)) (told : List ℕ) → IsKnown how → 0 < length lines → GotTo g how k h lines told → StandsAt WasLost g k h lines told
 got-at-lost g Whole k h lines told known some s = stands-at WasLost g k h lines told some (whole-is-lost g k h lines told s)
 got-at-lost g Over k h lines told known some s = stands-at WasLost g k h lines told some (over-is-lost g k h lines told s)
 got-at-lost g Short k h lines told known some s = stands-at WasLost g k h lines told some (short-is-lost g k h lines told s)
 got-at-lost g Lost k h lines told known some s = stands-at WasLost g k h lines told some (got-lost g k h lines told s)
 got-at-lost g Unsent k h lines told known some s = absurd known
 
-pub left-at-lost : (g : Gives) (how : How) (k : ℕ) (h : List Entry) (lines : List (List ℕ)) (told : List ℕ) → IsEnding how → 0 < length lines → LeftAt g how k h lines told → StandsAt WasLost g k h lines told
+pub left-at-lost : (g : Setting) (how : How) (k : ℕ) (h : List Entry) (lines : List (List ℕ)) (told : List ℕ) → IsEnding how → 0 < length lines → LeftAt g how k h lines told → StandsAt WasLost g k h lines told
 left-at-lost g Whole k h lines told ending some l = stands-at WasLost g k h lines told some (closed-is-lost g k h lines told l)
 left-at-lost g Over k h lines told ending some l = stands-at WasLost g k h lines told some (left-is-lost g k h lines told l)
 left-at-lost g Short k h lines told ending some l = stands-at WasLost g k h lines told some (refused-is-lost g k h lines told l)
@@ -73,7 +73,7 @@ left-at-lost g Unsent k h lines told ending some l = absurd ending
 left-at-lost g Lost k h lines told ending some l = absurd ending
 
 -- so it is for a client of a moment
-pub stands-lost : (g : Gives) (p : ClientPlace) (k : ℕ) (h : List Entry) (lines : List (List ℕ)) (told : List ℕ) → ClientStands g p k h lines told → StandsAt WasLost g k h lines told
+pub stands-lost : (g : Setting) (p : ClientPlace) (k : ℕ) (h : List Entry) (lines : List (List ℕ)) (told : List ℕ) → ClientStands g p k h lines told → StandsAt WasLost g k h lines told
 stands-lost g place.Away k h lines told s = never-came WasLost g k h lines told s.0 s.2 s.1
 stands-lost g place.Here k h lines told s = got-at-lost g Whole k h lines told tt s.1 s.2
 stands-lost g place.Gone k h lines told s = left-at-lost g Over k h lines told tt s.0 s.1
@@ -86,7 +86,7 @@ ending-known Short e = tt
 ending-known Unsent e = absurd e
 ending-known Lost e = absurd e
 
-pub last-lost : (g : Gives) (how : How) (p : ClientPlace) (k : ℕ) (h : List Entry) (lines : List (List ℕ)) (told : List ℕ) → IsEnding how → StandsLast g how p k h lines told → StandsAt WasLost g k h lines told
+pub last-lost : (g : Setting) (how : How) (p : ClientPlace) (k : ℕ) (h : List Entry) (lines : List (List ℕ)) (told : List ℕ) → IsEnding how → StandsLast g how p k h lines told → StandsAt WasLost g k h lines told
 last-lost g how place.Away k h lines told ending s = by lines s.2
   where
     by : (ls : List (List ℕ)) → (ls ≡ []) ⊎ ((how ≡ Short) × GotTo g Short k h ls told) → StandsAt WasLost g k h ls told
@@ -104,12 +104,13 @@ keys-no_leave (key ∷ keys) = keys-no_leave keys
 asked-no_leave : (r : Result Request Refusal) → list_any is_leave (played_by r) ≡ false
 asked-no_leave (Ok Nothing) = refl
 asked-no_leave (Ok (Keys keys)) = keys-no_leave keys
+asked-no_leave (Ok (Resize rows columns)) = refl
 asked-no_leave (Err refusal) = refl
 
-phase-no_leave : (phase : Phase) → list_any is_leave (plays (protocol []) phase) ≡ false
-phase-no_leave Opening = refl
-phase-no_leave (During (Line bytes)) = asked-no_leave (read_request bytes)
-phase-no_leave (During Idle) = refl
+phase-no_leave : (g : Setting) (phase : Phase) → list_any is_leave (plays (protocol g.reads []) phase) ≡ false
+phase-no_leave g Opening = refl
+phase-no_leave g (During (Line bytes)) = asked-no_leave (g.reads bytes)
+phase-no_leave g (During Idle) = refl
 
 both-none : (x y : Bool) → x ≡ false → y ≡ false → (x || y) ≡ false
 both-none x y d e = rw (d, e) refl
@@ -118,18 +119,18 @@ front-none : (x y : Bool) → (x || y) ≡ false → x ≡ false
 front-none true y e = e
 front-none false y e = refl
 
-phases-no_leave : (all : List Phase) → list_any is_leave (flat_map (plays (protocol [])) all) ≡ false
-phases-no_leave [] = refl
-phases-no_leave (phase ∷ all) =
-    list_any-append is_leave (plays (protocol []) phase) (flat_map (plays (protocol [])) all)
-    ∙ both-none (list_any is_leave (plays (protocol []) phase)) (list_any is_leave (flat_map (plays (protocol [])) all)) (phase-no_leave phase) (phases-no_leave all)
+phases-no_leave : (g : Setting) (all : List Phase) → list_any is_leave (flat_map (plays (protocol g.reads [])) all) ≡ false
+phases-no_leave g [] = refl
+phases-no_leave g (phase ∷ all) =
+    list_any-append is_leave (plays (protocol g.reads []) phase) (flat_map (plays (protocol g.reads [])) all)
+    ∙ both-none (list_any is_leave (plays (protocol g.reads []) phase)) (list_any is_leave (flat_map (plays (protocol g.reads [])) all)) (phase-no_leave g phase) (phases-no_leave g all)
 
 -- a client of which an event was refused hasn't left
-pub short-no_leave : (g : Gives) (k : ℕ) (h : List Entry) (lines : List (List ℕ)) (told : List ℕ) → GotTo g Short k h lines told → list_any is_leave (own (rules g) k h) ≡ false
+pub short-no_leave : (g : Setting) (k : ℕ) (h : List Entry) (lines : List (List ℕ)) (told : List ℕ) → GotTo g Short k h lines told → list_any is_leave (own (rules g.gives) k h) ≡ false
 short-no_leave g k h lines told s =
-    ap (list_any is_leave) (adds-own_events (rules g) k h s.got s.adds) ∙ by (s.fits.events [])
+    ap (list_any is_leave) (adds-own_events (rules g.gives) k h s.got s.adds) ∙ by (s.fits.events [])
   where
-    by : GoesOn (due (protocol []) (phases (turns_of lines) ++ []) s.got) (events_of s.got) → list_any is_leave (events_of s.got) ≡ false
+    by : GoesOn (due (protocol g.reads []) (phases (turns_of lines) ++ []) s.got) (events_of s.got) → list_any is_leave (events_of s.got) ≡ false
     by goes =
         front-none (list_any is_leave (events_of s.got)) (list_any is_leave (goes.0 ∷ goes.1))
-        (sym (list_any-append is_leave (events_of s.got) (goes.0 ∷ goes.1)) ∙ ap (list_any is_leave) (sym goes.2) ∙ phases-no_leave (played (protocol []) (phases (turns_of lines) ++ []) s.got))
+        (sym (list_any-append is_leave (events_of s.got) (goes.0 ∷ goes.1)) ∙ ap (list_any is_leave) (sym goes.2) ∙ phases-no_leave g (played (protocol g.reads []) (phases (turns_of lines) ++ []) s.got))

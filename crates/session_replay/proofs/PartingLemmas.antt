@@ -12,13 +12,14 @@ use Rattle.session_turns.specs.Growth.{How, Whole, Over, Short, Unsent, Lost}
 use Rattle.session_turns.specs.Headline.{End, Left, Closed, Refused, Stands as StandsFor}
 use Rattle.session_events.specs.declared.event.Entry.{Entry}
 use Rattle.session_events.specs.Legal.{Away, is_here, presence_from}
-use Rattle.session_events.specs.Meaning.{Gives, rules}
+use Rattle.session_events.specs.Meaning.{rules}
 use Rattle.session_events.proofs.LegalLemmas.{presence-append}
 use Rattle.session_lines.specs.Session.{protocol}
+use Rattle.session_replay.specs.Settings.{Setting}
 use Rattle.session_replay.specs.declared.places.ClientPlace.{ClientPlace}
 use Rattle.session_replay.specs.declared.places.ClientPlace.TheVariants as place
 use Rattle.session_replay.specs.Written.{Of, written, lines_for}
-use Rattle.session_replay.specs.Clients.{GotTo, ClientStands, HeldClient, Keeps, IsClient, IsMoment, GrowsBy}
+use Rattle.session_replay.specs.Clients.{GotTo, ClientStands, HeldClient, Keeps, IsClient, IsMoment, GrowsBy, moment}
 use Rattle.session_replay.specs.Replays.{StandsAt}
 use Rattle.session_replay.specs.Partings.{ends_as, how_at, StandsLast, IsParting, AreParting}
 use Rattle.session_replay.proofs.ClientLemmas.{own-others, presence-others, got-others, left-others, still-strange, lines-others}
@@ -26,12 +27,12 @@ use Rattle.session_replay.proofs.EndingLemmas.{left-closed, left-left, left-refu
 use Rattle.session_replay.specs.Phases.{hows_at, IsEnding}
 
 -- a client of a moment may part
-stands-parting : (g : Gives) (p : ClientPlace) (k : ℕ) (h : List Entry) (lines : List (List ℕ)) (told : List ℕ) → ClientStands g p k h lines told → StandsLast g (how_at p) p k h lines told
+stands-parting : (g : Setting) (p : ClientPlace) (k : ℕ) (h : List Entry) (lines : List (List ℕ)) (told : List ℕ) → ClientStands g p k h lines told → StandsLast g (how_at p) p k h lines told
 stands-parting g place.Away k h lines told s = (s.0, s.2, inl s.1)
 stands-parting g place.Here k h lines told s = s
 stands-parting g place.Gone k h lines told s = s
 
-pub client-parting : (g : Gives) (kind : Kind) (k : ℕ) (h : List Entry) (lines : List (List ℕ)) (held : HeldClient) → IsClient g kind k h lines held → IsParting g kind (how_at held.place) k h lines held
+pub client-parting : (g : Setting) (kind : Kind) (k : ℕ) (h : List Entry) (lines : List (List ℕ)) (held : HeldClient) → IsClient g kind k h lines held → IsParting g kind (how_at held.place) k h lines held
 client-parting g kind k h lines held c = record {
   shown = c.shown;
   kind_is = c.kind_is;
@@ -40,7 +41,7 @@ client-parting g kind k h lines held c = record {
 }
 
 -- behind the last line nobody has parted yet
-pub parting-begins : (g : Gives) (kinds : List Kind) (lines : List (List ℕ)) (h : List Entry) (held : ℕ → HeldClient) → IsMoment g kinds lines h held → AreParting g kinds (λ who. how_at (held who).place) 0 lines h held
+pub parting-begins : (g : Setting) (kinds : List Kind) (lines : List (List ℕ)) (h : List Entry) (held : ℕ → HeldClient) → IsMoment g kinds lines (moment h held) → AreParting g kinds (λ who. how_at (held who).place) 0 lines (moment h held)
 parting-begins g kinds lines h held m = record {
   clients = λ who inside. client-parting g (get_or kinds who Silent) who h (lines_for (length kinds) who lines) (held who) (m.clients who inside);
   parted = λ who below. absurd (omega (arith, below));
@@ -48,7 +49,7 @@ parting-begins g kinds lines h held m = record {
 }
 
 -- entries of others leave a client where it stands
-pub last-others : (g : Gives) (how : How) (p : ClientPlace) (k : ℕ) (h more : List Entry) (lines : List (List ℕ)) (told : List ℕ) → own (rules g) k more ≡ [] → StandsLast g how p k h lines told → StandsLast g how p k (h ++ more) lines told
+pub last-others : (g : Setting) (how : How) (p : ClientPlace) (k : ℕ) (h more : List Entry) (lines : List (List ℕ)) (told : List ℕ) → own (rules g.gives) k more ≡ [] → StandsLast g how p k h lines told → StandsLast g how p k (h ++ more) lines told
 last-others g how place.Away k h more lines told e s = (own-others g k h more e ∙ s.0, s.1, coming s.2)
   where
     coming : (lines ≡ []) ⊎ ((how ≡ Short) × GotTo g Short k h lines told) → (lines ≡ []) ⊎ ((how ≡ Short) × GotTo g Short k (h ++ more) lines told)
@@ -61,7 +62,7 @@ last-others g how place.Here k h more lines told e s = (
 )
 last-others g how place.Gone k h more lines told e s = (s.0, left-others g how k h more lines told e s.1)
 
-other-parting : (g : Gives) (kind : Kind) (how : How) (who other : ℕ) (h h' : List Entry) (lines : List (List ℕ)) (held held' : HeldClient) → GrowsBy g who h h' → other ≢ who → held' ≡ held → IsParting g kind how other h lines held → IsParting g kind how other h' lines held'
+other-parting : (g : Setting) (kind : Kind) (how : How) (who other : ℕ) (h h' : List Entry) (lines : List (List ℕ)) (held held' : HeldClient) → GrowsBy g who h h' → other ≢ who → held' ≡ held → IsParting g kind how other h lines held → IsParting g kind how other h' lines held'
 other-parting g kind how who other h h' lines held held' grows differs same c =
     subst (λ q. IsParting g kind how other h' lines q) (sym same) (record {
       shown = c.shown;
@@ -72,7 +73,7 @@ other-parting g kind how who other h h' lines held held' grows differs same c =
     })
 
 -- one client's place changes, and the others stay
-one-parts : (g : Gives) (kinds : List Kind) (hows hows' : ℕ → How) (who : ℕ) (lines lines' : List (List ℕ)) (h h' : List Entry) (held held' : ℕ → HeldClient)
+one-parts : (g : Setting) (kinds : List Kind) (hows hows' : ℕ → How) (who : ℕ) (lines lines' : List (List ℕ)) (h h' : List Entry) (held held' : ℕ → HeldClient)
     → ((other : ℕ) → other < length kinds → other ≢ who → IsParting g (get_or kinds other Silent) (hows other) other h (lines_for (length kinds) other lines) (held other)) → GrowsBy g who h h'
     → ((other : ℕ) → other ≢ who → lines_for (length kinds) other lines' ≡ lines_for (length kinds) other lines) → ((other : ℕ) → other ≢ who → hows' other ≡ hows other) → ((other : ℕ) → other ≢ who → held' other ≡ held other)
     → IsParting g (get_or kinds who Silent) (hows' who) who h' (lines_for (length kinds) who lines') (held' who)
@@ -94,9 +95,9 @@ pub apart : (n k other : ℕ) → n ≤ other → k < n → other ≢ k
 apart n k other past inside e = absurd (omega (arith, past, e, inside))
 
 -- the next client left
-pub one-parted : (g : Gives) (kinds : List Kind) (hows : ℕ → How) (who : ℕ) (lines : List (List ℕ)) (h h' : List Entry) (held held' : ℕ → HeldClient) → AreParting g kinds hows who lines h held → GrowsBy g who h h' → who < length kinds
+pub one-parted : (g : Setting) (kinds : List Kind) (hows : ℕ → How) (who : ℕ) (lines : List (List ℕ)) (h h' : List Entry) (held held' : ℕ → HeldClient) → AreParting g kinds hows who lines (moment h held) → GrowsBy g who h h' → who < length kinds
     → ((other : ℕ) → other ≢ who → held' other ≡ held other) → (held' who).place ≢ place.Here
-    → IsParting g (get_or kinds who Silent) (hows who) who h' (lines_for (length kinds) who lines) (held' who) → AreParting g kinds hows (who + 1) lines h' held'
+    → IsParting g (get_or kinds who Silent) (hows who) who h' (lines_for (length kinds) who lines) (held' who) → AreParting g kinds hows (who + 1) lines (moment h' held')
 one-parted g kinds hows who lines h h' held held' m grows inside same gone mine = record {
   clients = one-parts g kinds hows hows who lines lines h h' held held' (λ other below differs. m.clients other below) grows (λ other differs. refl) (λ other differs. refl) same mine;
   parted = λ other below. by other below (other == who) refl;
@@ -110,7 +111,7 @@ one-parted g kinds hows who lines h h' held held' m grows inside same gone mine 
         subst (λ q. q.place ≢ place.Here) (sym (same other differs)) (m.parted other (smaller other who below differs))
 
 -- the next client isn't here
-pub none-parted : (g : Gives) (kinds : List Kind) (hows : ℕ → How) (who : ℕ) (lines : List (List ℕ)) (h : List Entry) (held : ℕ → HeldClient) → AreParting g kinds hows who lines h held → (held who).place ≢ place.Here → AreParting g kinds hows (who + 1) lines h held
+pub none-parted : (g : Setting) (kinds : List Kind) (hows : ℕ → How) (who : ℕ) (lines : List (List ℕ)) (h : List Entry) (held : ℕ → HeldClient) → AreParting g kinds hows who lines (moment h held) → (held who).place ≢ place.Here → AreParting g kinds hows (who + 1) lines (moment h held)
 none-parted g kinds hows who lines h held m away = record { clients = m.clients; parted = λ other below. by other below (other == who) refl; strangers = m.strangers }
   where
     by : (other : ℕ) → other < who + 1 → (t : Bool) → (other == who) ≡ t → (held other).place ≢ place.Here
@@ -118,9 +119,9 @@ none-parted g kinds hows who lines h held m away = record { clients = m.clients;
     by other below false e = m.parted other (smaller other who below (eqb-false other who e))
 
 -- an event of a client was refused in its line, and it is to part as the others
-pub refused-begins : (g : Gives) (kinds : List Kind) (who : ℕ) (lines : List (List ℕ)) (w line : List ℕ) (h h' : List Entry) (held held' : ℕ → HeldClient) → IsMoment g kinds lines h held → GrowsBy g who h h' → who < length kinds
+pub refused-begins : (g : Setting) (kinds : List Kind) (who : ℕ) (lines : List (List ℕ)) (w line : List ℕ) (h h' : List Entry) (held held' : ℕ → HeldClient) → IsMoment g kinds lines (moment h held) → GrowsBy g who h h' → who < length kinds
     → written (length kinds) w ≡ Of who line → ((other : ℕ) → other ≢ who → held' other ≡ held other)
-    → IsParting g (get_or kinds who Silent) Short who h' (lines_for (length kinds) who (lines ++ w ∷ [])) (held' who) → AreParting g kinds (hows_at who held) 0 (lines ++ w ∷ []) h' held'
+    → IsParting g (get_or kinds who Silent) Short who h' (lines_for (length kinds) who (lines ++ w ∷ [])) (held' who) → AreParting g kinds (hows_at who held) 0 (lines ++ w ∷ []) (moment h' held')
 refused-begins g kinds who lines w line h h' held held' m grows inside is same mine = record {
   clients = one-parts g kinds (λ other. how_at (held other).place) (hows_at who held) who lines (lines ++ w ∷ []) h h' held held'
       (λ other below differs. client-parting g (get_or kinds other Silent) other h (lines_for (length kinds) other lines) (held other) (m.clients other below)) grows
@@ -132,20 +133,20 @@ refused-begins g kinds who lines w line h h' held held' m grows inside is same m
 }
 
 -- a client with a line stands at an end as for that end
-pub stands-at : (end : End) (g : Gives) (k : ℕ) (h : List Entry) (lines : List (List ℕ)) (told : List ℕ) → 0 < length lines → StandsFor (protocol []) (rules g) end k h (turns_of lines) told → StandsAt end g k h lines told
+pub stands-at : (end : End) (g : Setting) (k : ℕ) (h : List Entry) (lines : List (List ℕ)) (told : List ℕ) → 0 < length lines → StandsFor (protocol g.reads []) (rules g.gives) end k h (turns_of lines) told → StandsAt end g k h lines told
 stands-at end g k h [] told some s = absurd (omega (arith, some))
 stands-at end g k h (line ∷ lines) told some s = s
 
-pub never-came : (end : End) (g : Gives) (k : ℕ) (h : List Entry) (lines : List (List ℕ)) (told : List ℕ) → own (rules g) k h ≡ [] → told ≡ [] → lines ≡ [] → StandsAt end g k h lines told
+pub never-came : (end : End) (g : Setting) (k : ℕ) (h : List Entry) (lines : List (List ℕ)) (told : List ℕ) → own (rules g.gives) k h ≡ [] → told ≡ [] → lines ≡ [] → StandsAt end g k h lines told
 never-came end g k h lines told none nothing e = subst (λ q. StandsAt end g k h q told) (sym e) (none, nothing)
 
 -- a coming that was refused, behind a line
-refused-at : (g : Gives) (k : ℕ) (h : List Entry) (lines : List (List ℕ)) (told : List ℕ) → own (rules g) k h ≡ [] → told ≡ [] → GotTo g Short k h lines told → StandsAt Refused g k h lines told
+refused-at : (g : Setting) (k : ℕ) (h : List Entry) (lines : List (List ℕ)) (told : List ℕ) → own (rules g.gives) k h ≡ [] → told ≡ [] → GotTo g Short k h lines told → StandsAt Refused g k h lines told
 refused-at g k h [] told none nothing s = (none, nothing)
 refused-at g k h (line ∷ lines) told none nothing s = never-refused g k h (line ∷ lines) told none s
 
 -- a client that isn't here any more stands as it ended
-pub last-ended : (g : Gives) (how : How) (p : ClientPlace) (k : ℕ) (h : List Entry) (lines : List (List ℕ)) (told : List ℕ) → IsEnding how → p ≢ place.Here → StandsLast g how p k h lines told → StandsAt (ends_as how) g k h lines told
+pub last-ended : (g : Setting) (how : How) (p : ClientPlace) (k : ℕ) (h : List Entry) (lines : List (List ℕ)) (told : List ℕ) → IsEnding how → p ≢ place.Here → StandsLast g how p k h lines told → StandsAt (ends_as how) g k h lines told
 last-ended g how place.Here k h lines told ending away s = absurd (away refl)
 last-ended g how place.Away k h lines told ending away s = by s.2
   where
@@ -167,7 +168,7 @@ nothing-told shown e = by shown.kind
     by Silent = refl
     by Screen = ap screen_text (none-told shown.told e)
 
-pub last-report : (g : Gives) (kind : Kind) (how : How) (k : ℕ) (h : List Entry) (lines : List (List ℕ)) (held : HeldClient) → held.place ≢ place.Here → (c : IsParting g kind how k h lines held) → held.report ≡ report_of c.shown
+pub last-report : (g : Setting) (kind : Kind) (how : How) (k : ℕ) (h : List Entry) (lines : List (List ℕ)) (held : HeldClient) → held.place ≢ place.Here → (c : IsParting g kind how k h lines held) → held.report ≡ report_of c.shown
 last-report g kind how k h lines held away c = by held.place away c.keeps c.stands
   where
     by : (p : ClientPlace) → p ≢ place.Here → Keeps p held c.shown → StandsLast g how p k h lines (json_lines c.shown.told) → held.report ≡ report_of c.shown
@@ -176,7 +177,7 @@ last-report g kind how k h lines held away c = by held.place away c.keeps c.stan
     by place.Gone away keeps stands = keeps.1
 
 -- and its box is there
-pub last-box : (g : Gives) (kind : Kind) (how : How) (k : ℕ) (h : List Entry) (lines : List (List ℕ)) (held : HeldClient) → (c : IsParting g kind how k h lines held) → held.box ≡ Some c.shown
+pub last-box : (g : Setting) (kind : Kind) (how : How) (k : ℕ) (h : List Entry) (lines : List (List ℕ)) (held : HeldClient) → (c : IsParting g kind how k h lines held) → held.box ≡ Some c.shown
 last-box g kind how k h lines held c = by held.place c.keeps
   where
     by : (p : ClientPlace) → Keeps p held c.shown → held.box ≡ Some c.shown

@@ -13,22 +13,23 @@ use Rattle.session_events.specs.declared.event.Event.{Event}
 use Rattle.session_events.specs.declared.event.Event.TheVariants.{Leave}
 use Rattle.session_events.specs.declared.event.Entry.{Entry}
 use Rattle.session_events.specs.Entries.{is_leave}
-use Rattle.session_events.specs.Meaning.{Gives, rules}
+use Rattle.session_events.specs.Meaning.{rules}
+use Rattle.session_replay.specs.Settings.{Setting}
 use Rattle.session_replay.specs.Written.{lines_for}
-use Rattle.session_replay.specs.Clients.{ClientStands, HeldClient, IsMoment, GrowsBy}
+use Rattle.session_replay.specs.Clients.{ClientStands, HeldClient, IsMoment, GrowsBy, moment}
 use Rattle.session_replay.specs.Replays.{Replay, has_bad, is_over, leave_in_order, before_leavings, ReachesLines}
 use Rattle.session_replay.specs.Phases.{are_below}
 
 -- one growth of a client after another
-pub grows-append : (g : Gives) (k : ℕ) (a b c : List Entry) → GrowsBy g k a b → GrowsBy g k b c → GrowsBy g k a c
+pub grows-append : (g : Setting) (k : ℕ) (a b c : List Entry) → GrowsBy g k a b → GrowsBy g k b c → GrowsBy g k a c
 grows-append g k a b c x y = record {
   more = x.more ++ y.more;
   grows = y.grows ∙ ap (λ q. q ++ y.more) x.grows ∙ append_assoc a x.more y.more;
-  alone = λ other differs. own-append (rules g) other x.more y.more ∙ ap (λ q. q ++ own (rules g) other y.more) (x.alone other differs) ∙ y.alone other differs;
+  alone = λ other differs. own-append (rules g.gives) other x.more y.more ∙ ap (λ q. q ++ own (rules g.gives) other y.more) (x.alone other differs) ∙ y.alone other differs;
 }
 
 -- a moment is reached
-abbrev pub moment-reached : (r : Replay) (kinds : List Kind) (lines : List (List ℕ)) (front rest : List Entry) (held : ℕ → HeldClient) (over : Bool) → length kinds ≡ length r.shown → r.history ≡ front ++ rest → IsMoment r.gives kinds lines front held → has_bad (length r.shown) lines ≡ false → is_over front ≡ over → ReachesLines r lines over
+abbrev pub moment-reached : (r : Replay) (kinds : List Kind) (lines : List (List ℕ)) (front rest : List Entry) (held : ℕ → HeldClient) (over : Bool) → length kinds ≡ length r.shown → r.history ≡ front ++ rest → IsMoment r.with kinds lines (moment front held) → has_bad (length r.shown) lines ≡ false → is_over front ≡ over → ReachesLines r lines over
 moment-reached r kinds lines front rest held over count split m good is = record {
   good = good;
   front = front;
@@ -36,13 +37,13 @@ moment-reached r kinds lines front rest held over count split m good is = record
   split = split;
   clients = λ who inside.
       let c = m.clients who (subst (λ n. who < n) (sym count) inside) in
-      ((held who).place, json_lines c.shown.told, subst (λ n. ClientStands r.gives (held who).place who front (lines_for n who lines) (json_lines c.shown.told)) count c.stands);
+      ((held who).place, json_lines c.shown.told, subst (λ n. ClientStands r.with (held who).place who front (lines_for n who lines) (json_lines c.shown.told)) count c.stands);
   over_is = is;
 }
 
 -- and goes on being reached, whatever entries and lines come behind
-pub reached-later : (g : Gives) (limit : ℕ) (old new lines : List (List ℕ)) (h more : List Entry) (shown after : List Shown) (over : Bool) → length after ≡ length shown
-    → ReachesLines (record { gives = g; limit = limit; lines = old; history = h; shown = shown }) lines over → ReachesLines (record { gives = g; limit = limit; lines = new; history = h ++ more; shown = after }) lines over
+pub reached-later : (g : Setting) (limit : ℕ) (old new lines : List (List ℕ)) (h more : List Entry) (shown after : List Shown) (over : Bool) → length after ≡ length shown
+    → ReachesLines (record { with = g; limit = limit; lines = old; history = h; shown = shown }) lines over → ReachesLines (record { with = g; limit = limit; lines = new; history = h ++ more; shown = after }) lines over
 reached-later g limit old new lines h more shown after over count r = record {
   good = subst (λ n. has_bad n lines ≡ false) (sym count) r.good;
   front = r.front;
@@ -65,10 +66,10 @@ order-more r given line order last i inside =
     ]
 
 -- the entries of one client's growth are its own
-pub all-own : (g : Gives) (k : ℕ) (entry : Entry) (more : List Entry) → ((other : ℕ) → other ≢ k → own (rules g) other (entry ∷ more) ≡ []) → entry.who ≡ k
+pub all-own : (g : Setting) (k : ℕ) (entry : Entry) (more : List Entry) → ((other : ℕ) → other ≢ k → own (rules g.gives) other (entry ∷ more) ≡ []) → entry.who ≡ k
 all-own g k entry more alone = by (entry.who == k) refl
   where
-    none : (t : Bool) → t ≡ true → (if t then entry.event ∷ own (rules g) entry.who more else own (rules g) entry.who more) ≡ [] → ⊥
+    none : (t : Bool) → t ≡ true → (if t then entry.event ∷ own (rules g.gives) entry.who more else own (rules g.gives) entry.who more) ≡ [] → ⊥
     none true e n = cc
     none false e n = cc
 
@@ -76,25 +77,25 @@ all-own g k entry more alone = by (entry.who == k) refl
     by true e = eqb-true entry.who k e
     by false e = absurd (none (entry.who == entry.who) (eq-eqb entry.who entry.who refl) (alone entry.who (eqb-false entry.who k e)))
 
-pub rest-alone : (g : Gives) (k : ℕ) (entry : Entry) (more : List Entry) → ((other : ℕ) → other ≢ k → own (rules g) other (entry ∷ more) ≡ []) → (other : ℕ) → other ≢ k → own (rules g) other more ≡ []
+pub rest-alone : (g : Setting) (k : ℕ) (entry : Entry) (more : List Entry) → ((other : ℕ) → other ≢ k → own (rules g.gives) other (entry ∷ more) ≡ []) → (other : ℕ) → other ≢ k → own (rules g.gives) other more ≡ []
 rest-alone g k entry more alone other differs = by (entry.who == other) (alone other differs)
   where
-    by : (t : Bool) → (if t then entry.event ∷ own (rules g) other more else own (rules g) other more) ≡ [] → own (rules g) other more ≡ []
+    by : (t : Bool) → (if t then entry.event ∷ own (rules g.gives) other more else own (rules g.gives) other more) ≡ [] → own (rules g.gives) other more ≡ []
     by true e = cc
     by false e = e
 
 -- a growth by which a client's own events have its leaving more is that one entry
-pub one-leaving : (g : Gives) (k : ℕ) (h h' : List Entry) → GrowsBy g k h h' → own (rules g) k h' ≡ own (rules g) k h ++ Leave ∷ [] → (entry : Entry) × (h' ≡ h ++ entry ∷ []) × (entry.who ≡ k) × (entry.event ≡ Leave)
-one-leaving g k h h' grows e = by grows.more grows.grows grows.alone (cancel (own (rules g) k h) (own (rules g) k grows.more) (Leave ∷ []) (sym (own-append (rules g) k h grows.more) ∙ ap (own (rules g) k) (sym grows.grows) ∙ e))
+pub one-leaving : (g : Setting) (k : ℕ) (h h' : List Entry) → GrowsBy g k h h' → own (rules g.gives) k h' ≡ own (rules g.gives) k h ++ Leave ∷ [] → (entry : Entry) × (h' ≡ h ++ entry ∷ []) × (entry.who ≡ k) × (entry.event ≡ Leave)
+one-leaving g k h h' grows e = by grows.more grows.grows grows.alone (cancel (own (rules g.gives) k h) (own (rules g.gives) k grows.more) (Leave ∷ []) (sym (own-append (rules g.gives) k h grows.more) ∙ ap (own (rules g.gives) k) (sym grows.grows) ∙ e))
   where
     cancel : (a b c : List Event) → a ++ b ≡ a ++ c → b ≡ c
     cancel [] b c e = e
     cancel (x ∷ a) b c e = cancel a b c (cc)
 
-    two-none : (entry next : Entry) (more : List Entry) → entry.who ≡ k → next.who ≡ k → own (rules g) k (entry ∷ next ∷ more) ≡ Leave ∷ [] → ⊥
-    two-none entry next more x y e = let two : entry.event ∷ next.event ∷ own (rules g) k more ≡ Leave ∷ [] = rw (eq-eqb entry.who k x, eq-eqb next.who k y) at e in cc
+    two-none : (entry next : Entry) (more : List Entry) → entry.who ≡ k → next.who ≡ k → own (rules g.gives) k (entry ∷ next ∷ more) ≡ Leave ∷ [] → ⊥
+    two-none entry next more x y e = let two : entry.event ∷ next.event ∷ own (rules g.gives) k more ≡ Leave ∷ [] = rw (eq-eqb entry.who k x, eq-eqb next.who k y) at e in cc
 
-    by : (more : List Entry) → h' ≡ h ++ more → ((other : ℕ) → other ≢ k → own (rules g) other more ≡ []) → own (rules g) k more ≡ Leave ∷ [] → (entry : Entry) × (h' ≡ h ++ entry ∷ []) × (entry.who ≡ k) × (entry.event ≡ Leave)
+    by : (more : List Entry) → h' ≡ h ++ more → ((other : ℕ) → other ≢ k → own (rules g.gives) other more ≡ []) → own (rules g.gives) k more ≡ Leave ∷ [] → (entry : Entry) × (h' ≡ h ++ entry ∷ []) × (entry.who ≡ k) × (entry.event ≡ Leave)
     by [] s alone e = cc
     by (entry ∷ []) s alone e =
         let mine : entry.who ≡ k = all-own g k entry [] alone in

@@ -8,11 +8,11 @@ use Rattle.ui_board.specs.Told.{Shown, untold, json_lines, report_of}
 use Rattle.session_turns.specs.Growth.{How}
 use Rattle.session_turns.specs.Headline.{Left, Closed}
 use Rattle.session_events.specs.declared.event.Entry.{Entry}
-use Rattle.session_events.specs.Meaning.{Gives}
+use Rattle.session_replay.specs.Settings.{Setting}
 use Rattle.session_replay.specs.declared.places.ClientPlace.{ClientPlace}
 use Rattle.session_replay.specs.declared.places.ClientPlace.TheVariants as place
 use Rattle.session_replay.specs.Written.{lines_for}
-use Rattle.session_replay.specs.Clients.{HeldClient}
+use Rattle.session_replay.specs.Clients.{HeldClient, moment}
 use Rattle.session_replay.specs.Replays.{StandsAt}
 use Rattle.session_replay.specs.Partings.{ends_as, how_at, AreParting}
 use Rattle.session_replay.proofs.PartingLemmas.{last-ended, last-report, last-box}
@@ -47,10 +47,10 @@ reports-are (box ∷ shown) (report ∷ reports) count each =
     ap (λ q. q ++ flat_map (λ r. r) reports) (each 0 (omega arith)) ∙ ap (λ q. report_of box ++ q) (reports-are shown reports (omega (arith, count)) (λ who inside. each (suc who) (omega (arith, inside))))
 
 -- what is known of a client when all have parted: how it ended, and that its report is held, and its box
-abbrev pub Parted : (g : Gives) (count : ℕ) (hows : ℕ → How) (lines : List (List ℕ)) (h : List Entry) (held : ℕ → HeldClient) → ℕ → Shown → Type 0
+abbrev pub Parted : (g : Setting) (count : ℕ) (hows : ℕ → How) (lines : List (List ℕ)) (h : List Entry) (held : ℕ → HeldClient) → ℕ → Shown → Type 0
 Parted g count hows lines h held who box = StandsAt (ends_as (hows who)) g who h (lines_for count who lines) (json_lines box.told) × ((held who).report ≡ report_of box) × ((held who).box ≡ Some box)
 
-pub all-parted : (g : Gives) (kinds : List Kind) (hows : ℕ → How) (lines : List (List ℕ)) (h : List Entry) (held : ℕ → HeldClient) → ((who : ℕ) → who < length kinds → IsEnding (hows who)) → AreParting g kinds hows (length kinds) lines h held → HasShown kinds (Parted g (length kinds) hows lines h held)
+pub all-parted : (g : Setting) (kinds : List Kind) (hows : ℕ → How) (lines : List (List ℕ)) (h : List Entry) (held : ℕ → HeldClient) → ((who : ℕ) → who < length kinds → IsEnding (hows who)) → AreParting g kinds hows (length kinds) lines (moment h held) → HasShown kinds (Parted g (length kinds) hows lines h held)
 all-parted g kinds hows lines h held ending m = all-shown kinds (Parted g (length kinds) hows lines h held) (λ who inside.
     let c = m.clients who inside in (
       c.shown,
@@ -63,7 +63,7 @@ all-parted g kinds hows lines h held ending m = all-shown kinds (Parted g (lengt
     ))
 
 -- a client that was here or gone behind the last line was let go by a line, or left at the end
-pub ended-how : (g : Gives) (p : ClientPlace) (k : ℕ) (h : List Entry) (lines : List (List ℕ)) (told : List ℕ) → StandsAt (ends_as (how_at p)) g k h lines told → StandsAt Left g k h lines told ⊎ StandsAt Closed g k h lines told
+pub ended-how : (g : Setting) (p : ClientPlace) (k : ℕ) (h : List Entry) (lines : List (List ℕ)) (told : List ℕ) → StandsAt (ends_as (how_at p)) g k h lines told → StandsAt Left g k h lines told ⊎ StandsAt Closed g k h lines told
 ended-how g place.Away k h lines told s = inr s
 ended-how g place.Here k h lines told s = inr s
 ended-how g place.Gone k h lines told s = inl s

@@ -15,11 +15,12 @@ use Rattle.session_turns.specs.Growth.{How, Short}
 use Rattle.session_turns.specs.Headline.{Lost as WasLost}
 use Rattle.session_events.specs.declared.event.Entry.{Entry}
 use Rattle.session_events.specs.Entries.{is_leave}
-use Rattle.session_events.specs.Meaning.{Gives, rules}
+use Rattle.session_events.specs.Meaning.{rules}
 use Rattle.session_lines.specs.declared.playing.Stop.{Stop}
 use Rattle.session_lines.specs.declared.playing.Stop.TheVariants.{HistoryFull, Broken, NoMemory, WriteFault}
+use Rattle.session_replay.specs.Settings.{Setting}
 use Rattle.session_replay.specs.Written.{Of, written, lines_for}
-use Rattle.session_replay.specs.Clients.{HeldClient, IsMoment, GrowsBy}
+use Rattle.session_replay.specs.Clients.{HeldClient, IsMoment, GrowsBy, moment}
 use Rattle.session_replay.specs.Partings.{ends_as, how_at, AreParting}
 use Rattle.session_replay.specs.Replays.{EndedAs, StandsAt, has_bad, leave_in_order, before_leavings, IsReplayed}
 use Rattle.session_replay.proofs.ClientLemmas.{stands-others, lines-others}
@@ -31,14 +32,14 @@ use Rattle.session_replay.proofs.HeadlineLemmas.{order-behind, Concludes}
 use Rattle.session_replay.specs.Phases.{HasGivenLines, HasFirst, HasAllLines, HasWholeLines, replay_of, ArePlayedInOrder, HasPlayed, hows_at, IsEnding, AreLost, IsLossFor}
 
 -- what was taken, and that it was replayed up to a stop
-pub record Stopped (g : Gives) (limit : ℕ) (lines : List (List ℕ)) (h : List Entry) (shown : List Shown) (why : Stop) (left rest : Inlet) : Type 0 where
+pub record Stopped (g : Setting) (limit : ℕ) (lines : List (List ℕ)) (h : List Entry) (shown : List Shown) (why : Stop) (left rest : Inlet) : Type 0 where
   pub bytes : List ℕ
   pub takes : Consumes left.left rest.left bytes
   pub few : length bytes ≤ MAX_INPUT
   pub replayed : IsReplayed (replay_of g limit lines h shown) (Err why) left bytes
 
 -- an event of a line was refused behind `part` of its entries, and then all left that were here
-pub replayed-refused : (g : Gives) (limit : ℕ) (kinds : List Kind) (lines : List (List ℕ)) (w line : List ℕ) (who : ℕ) (h part leavings : List Entry) (before held : ℕ → HeldClient) (left rest : Inlet) → HasPlayed g limit kinds lines h before → written (length kinds) w ≡ Of who line → who < length kinds
+pub replayed-refused : (g : Setting) (limit : ℕ) (kinds : List Kind) (lines : List (List ℕ)) (w line : List ℕ) (who : ℕ) (h part leavings : List Entry) (before held : ℕ → HeldClient) (left rest : Inlet) → HasPlayed g limit kinds lines false (moment h before) → written (length kinds) w ≡ Of who line → who < length kinds
     → list_any (λ entry. is_leave entry.event) part ≡ false → limit ≤ length (h ++ part) → leave_in_order (part ++ leavings) ≡ true → (c : Concludes g kinds (hows_at who before) (lines ++ w ∷ []) (h ++ (part ++ leavings)) held) → HasGivenLines left rest (lines ++ w ∷ [])
     → Stopped g limit (lines ++ w ∷ []) (h ++ (part ++ leavings)) c.shown HistoryFull left rest
 replayed-refused g limit kinds lines w line who h part leavings before held left rest p is inside stays full order c r = record {
@@ -80,13 +81,13 @@ replayed-refused g limit kinds lines w line who h part leavings before held left
     good same = subst (λ n. has_bad n lines ≡ false) (sym same) p.good
 
 -- so it is behind lines that were played
-pub moment-lost : (g : Gives) (kinds : List Kind) (lines : List (List ℕ)) (h : List Entry) (held : ℕ → HeldClient) → IsMoment g kinds lines h held → AreLost g kinds lines h
+pub moment-lost : (g : Setting) (kinds : List Kind) (lines : List (List ℕ)) (h : List Entry) (held : ℕ → HeldClient) → IsMoment g kinds lines (moment h held) → AreLost g kinds lines h
 moment-lost g kinds lines h held m who inside =
     let c = m.clients who inside in
     (c.shown, c.kind_is, stands-lost g (held who).place who h (lines_for (length kinds) who lines) (json_lines c.shown.told) c.stands)
 
 -- where something was lost in a line
-pub line-lost : (g : Gives) (kinds : List Kind) (who : ℕ) (lines : List (List ℕ)) (w line : List ℕ) (h h' : List Entry) (held : ℕ → HeldClient) (box : Shown) → IsMoment g kinds lines h held → GrowsBy g who h h' → written (length kinds) w ≡ Of who line
+pub line-lost : (g : Setting) (kinds : List Kind) (who : ℕ) (lines : List (List ℕ)) (w line : List ℕ) (h h' : List Entry) (held : ℕ → HeldClient) (box : Shown) → IsMoment g kinds lines (moment h held) → GrowsBy g who h h' → written (length kinds) w ≡ Of who line
     → box.kind ≡ get_or kinds who Silent → StandsAt WasLost g who h' (lines_for (length kinds) who (lines ++ w ∷ [])) (json_lines box.told) → AreLost g kinds (lines ++ w ∷ []) h'
 line-lost g kinds who lines w line h h' held box m grows is kind mine other inside = by (other == who) refl
   where
@@ -104,7 +105,7 @@ line-lost g kinds who lines w line h h' held box m grows is kind mine other insi
         )
 
 -- where something was lost when a client was to leave at the end
-pub parting-lost : (g : Gives) (kinds : List Kind) (hows : ℕ → How) (who next : ℕ) (lines : List (List ℕ)) (h h' : List Entry) (held : ℕ → HeldClient) (box : Shown) → AreParting g kinds hows next lines h held → ((k : ℕ) → k < length kinds → IsEnding (hows k)) → GrowsBy g who h h'
+pub parting-lost : (g : Setting) (kinds : List Kind) (hows : ℕ → How) (who next : ℕ) (lines : List (List ℕ)) (h h' : List Entry) (held : ℕ → HeldClient) (box : Shown) → AreParting g kinds hows next lines (moment h held) → ((k : ℕ) → k < length kinds → IsEnding (hows k)) → GrowsBy g who h h'
     → box.kind ≡ get_or kinds who Silent → StandsAt WasLost g who h' (lines_for (length kinds) who lines) (json_lines box.told) → AreLost g kinds lines h'
 parting-lost g kinds hows who next lines h h' held box m ending grows kind mine other inside = by (other == who) refl
   where
@@ -121,12 +122,12 @@ parting-lost g kinds hows who next lines h h' held box m ending grows kind mine 
         )
 
 -- Boxes of these kinds, and that what they have shown is a replay in which something was lost.
-pub record IsLosing (g : Gives) (limit : ℕ) (kinds : List Kind) (lines : List (List ℕ)) (h : List Entry) (why : Stop) (left rest : Inlet) : Type 0 where
+pub record IsLosing (g : Setting) (limit : ℕ) (kinds : List Kind) (lines : List (List ℕ)) (h : List Entry) (why : Stop) (left rest : Inlet) : Type 0 where
   pub shown : List Shown
   pub kinds_are : map (λ box. box.kind) shown ≡ kinds
   pub stopped : Stopped g limit lines h shown why left rest
 
-pub replayed-lost : (why : Stop) (g : Gives) (limit : ℕ) (kinds : List Kind) (lines : List (List ℕ)) (h : List Entry) (left rest : Inlet) → IsLossFor why → ArePlayedInOrder g limit (length kinds) lines h → AreLost g kinds lines h → ((who : ℕ) → length kinds ≤ who → own (rules g) who h ≡ []) → HasFirst left rest lines
+pub replayed-lost : (why : Stop) (g : Setting) (limit : ℕ) (kinds : List Kind) (lines : List (List ℕ)) (h : List Entry) (left rest : Inlet) → IsLossFor why → ArePlayedInOrder g limit (length kinds) lines h → AreLost g kinds lines h → ((who : ℕ) → length kinds ≤ who → own (rules g.gives) who h ≡ []) → HasFirst left rest lines
     → IsLosing g limit kinds lines h why left rest
 replayed-lost why g limit kinds lines h left rest loss order lost strangers r =
     let s = all-shown kinds (λ who box. StandsAt WasLost g who h (lines_for (length kinds) who lines) (json_lines box.told)) lost in

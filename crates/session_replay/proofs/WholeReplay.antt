@@ -25,19 +25,19 @@ abbrev boxes : List Shown
 boxes = untold Json ∷ untold Silent ∷ []
 
 abbrev replay : Replay
-replay = record { gives = lets_go; limit = 100; lines = all-lines; history = both_went; shown = boxes }
+replay = record { with = lets_go; limit = 100; lines = all-lines; history = both_went; shown = boxes }
 
 -- the first client is here behind its line, whatever the second one does
 here-first : GotTo lets_go Whole 0 one_came ([] ∷ []) []
 here-first = record {
-  got = answers (rules lets_go) 0 one_came;
+  got = answers (rules lets_go.gives) 0 one_came;
   adds = record { more = one_came; grows = refl; answered = refl; events = refl };
   fits = record { events = refl; stays = refl; bytes = refl };
 }
 
 here-still : GotTo lets_go Whole 0 one_went_first ([] ∷ []) []
 here-still = record {
-  got = answers (rules lets_go) 0 one_went_first;
+  got = answers (rules lets_go.gives) 0 one_went_first;
   adds = record { more = one_went_first; grows = refl; answered = refl; events = refl };
   fits = record { events = refl; stays = refl; bytes = refl };
 }
@@ -45,7 +45,7 @@ here-still = record {
 -- the second one has gone by its first line, and its second one is passed over
 gone-second : (lines : List (List ℕ)) → LeftAt lets_go Over 1 one_went_first lines []
 gone-second lines = record {
-  got = answers (rules lets_go) 1 one_went_first;
+  got = answers (rules lets_go.gives) 1 one_went_first;
   answered = refl;
   events = refl;
   fits = record { leaves = refl; events = λ more. refl; bytes = λ more. refl };
@@ -117,7 +117,7 @@ in-order (suc (suc zero)) inside = behind-second
 in-order (suc (suc (suc zero))) inside = behind-blank
 in-order (suc (suc (suc (suc i)))) inside = absurd (omega (arith, inside))
 
-strange : (who : ℕ) → 2 ≤ who → own (rules lets_go) who both_went ≡ []
+strange : (who : ℕ) → 2 ≤ who → own (rules lets_go.gives) who both_went ≡ []
 strange who past = rw (ne_eqb 0 who (λ e. absurd (omega (arith, past, e))), ne_eqb 1 who (λ e. absurd (omega (arith, past, e)))) refl
 
 pub whole-replay : IsWholeReplay

@@ -1,7 +1,9 @@
+pub mod Settings
 pub mod Written
 pub mod WrittenPlaces
 pub mod Boxes
 pub mod Clients
+pub mod Staying
 pub mod Players
 pub mod Partings
 pub mod Phases

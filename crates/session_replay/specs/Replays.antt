@@ -18,21 +18,22 @@ use Rattle.session_turns.specs.Headline.{End, Left, Closed, Refused, Lost, Stand
 use Rattle.session_events.specs.declared.event.Entry.{Entry}
 use Rattle.session_events.specs.Entries.{is_leave}
 use Rattle.session_events.specs.Legal.{Away, is_here, presence_from}
-use Rattle.session_events.specs.Meaning.{Gives, rules}
+use Rattle.session_events.specs.Meaning.{rules}
 use Rattle.session_lines.specs.declared.playing.Stop.{Stop}
 use Rattle.session_lines.specs.declared.playing.Stop.TheVariants.{HistoryFull, Broken, NoMemory, WriteFault}
 use Rattle.session_lines.specs.Session.{protocol}
 use Rattle.session_lines.specs.Stops.{NoneFailed}
+use Rattle.session_replay.specs.Settings.{Setting}
 use Rattle.session_replay.specs.declared.ends.ReplayEnd.{ReplayEnd}
 use Rattle.session_replay.specs.declared.ends.ReplayEnd.TheVariants.{Over, Ended, BadClient, ReadFault, Full}
 use Rattle.session_replay.specs.declared.places.ClientPlace.{ClientPlace}
 use Rattle.session_replay.specs.Written.{Written, Blank, Of, Bad, written, lines_for}
-use Rattle.session_replay.specs.Clients.{ClientStands}
+use Rattle.session_replay.specs.Clients.{ClientStands, NoStrangers}
 
 -- What a replay has come to.
 pub record Replay : Type 0 where
   -- what an entry gives its client
-  pub gives : Gives
+  pub with : Setting
   -- how many entries the history may have, leavings aside
   pub limit : ℕ
   -- the written lines that were read, in order
@@ -52,13 +53,13 @@ sent_to replay who = json_lines (get_or replay.shown who (untold Silent)).told
 
 -- What stands for a client at an end of its connection. One that has no line never came: it has no entry, and was sent
 -- nothing.
-abbrev pub StandsAt : End → Gives → ℕ → List Entry → List (List ℕ) → List ℕ → Type 0
-StandsAt end gives who history [] told = (own (rules gives) who history ≡ []) × (told ≡ [])
-StandsAt end gives who history (line ∷ lines) told = StandsFor (protocol []) (rules gives) end who history (turns_of (line ∷ lines)) told
+abbrev pub StandsAt : End → Setting → ℕ → List Entry → List (List ℕ) → List ℕ → Type 0
+StandsAt end with who history [] told = (own (rules with.gives) who history ≡ []) × (told ≡ [])
+StandsAt end with who history (line ∷ lines) told = StandsFor (protocol with.reads []) (rules with.gives) end who history (turns_of (line ∷ lines)) told
 
 -- so a client ended
 abbrev pub EndedAs : End → Replay → ℕ → Type 0
-EndedAs end replay who = StandsAt end replay.gives who replay.history (replay_lines_of replay who replay.lines) (sent_to replay who)
+EndedAs end replay who = StandsAt end replay.with who replay.history (replay_lines_of replay who replay.lines) (sent_to replay who)
 
 -- a client was let go by one of its lines, or left when the replay ended, or never came
 abbrev pub ClientHasEnded : Replay → ℕ → Type 0
@@ -96,7 +97,7 @@ pub record ReachesLines (replay : Replay) (lines : List (List ℕ)) (over : Bool
   pub front : List Entry
   pub rest : List Entry
   pub split : replay.history ≡ front ++ rest
-  pub clients : (who : ℕ) → who < length replay.shown → (at : ClientPlace) × (told : List ℕ) × ClientStands replay.gives at who front (replay_lines_of replay who lines) told
+  pub clients : (who : ℕ) → who < length replay.shown → (at : ClientPlace) × (told : List ℕ) × ClientStands replay.with at who front (replay_lines_of replay who lines) told
   pub over_is : is_over front ≡ over
 
 -- Some of the lines were reached, and no others: behind them those who were here leave, in the order of their numbers.
@@ -164,7 +165,7 @@ ReplayEnds (Err WriteFault) replay left bytes = ⊥
 pub record IsReplayed (replay : Replay) (ended : Result ReplayEnd Stop) (left : Inlet) (bytes : List ℕ) : Type 0 where
   pub first : AreFirst left bytes replay.lines
   pub order : (i : ℕ) → i < length replay.lines → ReachesLines replay (take i replay.lines) false
-  pub strangers : (who : ℕ) → length replay.shown ≤ who → own (rules replay.gives) who replay.history ≡ []
+  pub strangers : NoStrangers replay.with (length replay.shown) replay.history
   pub ends : ReplayEnds ended replay left bytes
 
 -- what is answered where the reports couldn't be written: that, where nothing else was met
@@ -185,16 +186,20 @@ Reports (Err (Broken at)) result before now reports = (result ≡ Err (Broken at
 Reports (Err NoMemory) result before now reports = (result ≡ Err NoMemory) × (now ≡ before)
 Reports ended result before now reports = WritesReports ended result before now reports
 
+-- this holds, unless memory was wanting or the session is broken
+abbrev pub UnlessLost : {A : Type 0} → Result A Stop → Type 0 → Type 0
+UnlessLost (Err (Broken at)) P = ⊤
+UnlessLost (Err NoMemory) P = ⊤
+UnlessLost _ P = P
+
 -- by the numbers of their clients, the boxes have shown this, unless something was lost
 abbrev pub HaveShown : Result ReplayEnd Stop → (ℕ → Option Shown) → List Shown → Type 0
-HaveShown (Err (Broken at)) boxes shown = ⊤
-HaveShown (Err NoMemory) boxes shown = ⊤
-HaveShown _ boxes shown = (who : ℕ) → who < length shown → boxes who ≡ Some (get_or shown who (untold Silent))
+HaveShown ended boxes shown = UnlessLost ended ((who : ℕ) → who < length shown → boxes who ≡ Some (get_or shown who (untold Silent)))
 
 -- The headline for many clients: lines of the input were replayed for clients with boxes of these kinds, and the reports
 -- of all boxes are written, one after another, in the order of the clients' numbers. What the clients were sent is what
 -- their boxes have shown at the end.
-pub record WasReplayed (gives : Gives) (limit : ℕ) (kinds : List Kind) (boxes : ℕ → Option Shown) (history : List Entry) (left rest : Inlet) (before now : Outlet) (result : Result ReplayEnd Stop) : Type 0 where
+pub record WasReplayed (with : Setting) (limit : ℕ) (kinds : List Kind) (boxes : ℕ → Option Shown) (history : List Entry) (left rest : Inlet) (before now : Outlet) (result : Result ReplayEnd Stop) : Type 0 where
   pub bytes : List ℕ
   pub takes : Consumes left.left rest.left bytes
   pub few : length bytes ≤ MAX_INPUT
@@ -203,7 +208,7 @@ pub record WasReplayed (gives : Gives) (limit : ℕ) (kinds : List Kind) (boxes 
   pub kinds_are : map (λ box. box.kind) shown ≡ kinds
   pub ended : Result ReplayEnd Stop
   pub boxes_are : HaveShown ended boxes shown
-  pub replayed : IsReplayed (record { gives = gives; limit = limit; lines = lines; history = history; shown = shown }) ended left bytes
+  pub replayed : IsReplayed (record { with = with; limit = limit; lines = lines; history = history; shown = shown }) ended left bytes
   pub reports : Reports ended result before now (flat_map report_of shown)
 
 -- A read fault is told only where the source counted one, and else none was met; but behind one memory may be wanting, or

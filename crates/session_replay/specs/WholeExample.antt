@@ -1,19 +1,21 @@
 -- A whole replay of two clients: the first one comes, the second one comes and is let go, and the first one leaves at the
 -- end.
-use Rattle.std.specs.Prelude.{ℕ, ◌==◌, true, List, [], ◌∷◌, ◌++◌, codes, Ok, Some, None}
+use Rattle.std.specs.Prelude.{ℕ, ◌==◌, true, List, [], ◌∷◌, ◌++◌, codes, Ok, Some}
 use Rattle.ui_board.specs.declared.ui.Kind.TheVariants.{Json, Silent}
 use Rattle.ui_board.specs.Told.{untold}
 use Rattle.ui_board.specs.Boards.{seat_at}
 use Rattle.session_events.specs.declared.event.Event.TheVariants.{Join, Refresh, Leave}
 use Rattle.session_events.specs.declared.event.Entry.{Entry}
 use Rattle.session_events.specs.Entries.{entry_of}
-use Rattle.session_events.specs.Meaning.{Gives}
+use Rattle.session_events.specs.Meaning.{no_output}
+use Rattle.requests.specs.declared.request.Request.TheVariants.{Nothing}
+use Rattle.session_replay.specs.Settings.{Setting, setting}
 use Rattle.session_replay.specs.declared.ends.ReplayEnd.TheVariants.{Ended}
 use Rattle.session_replay.specs.Replays.{WasReplayed}
 
--- client 1 may leave as soon as it has come, and nothing is drawn
-abbrev pub lets_go : Gives
-lets_go before entry = record { drawing = None; leaving = entry.who == 1 }
+-- client 1 may leave as soon as it has come, nothing is drawn, and no line asks for anything
+abbrev pub lets_go : Setting
+lets_go = setting (λ before entry. record no_output { leaving = entry.who == 1 }) (λ line. Ok Nothing)
 
 -- a line of client 0, one of client 1, a blank one, and one of client 1 again, which is passed over
 abbrev pub typed_lines : List ℕ

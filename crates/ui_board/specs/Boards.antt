@@ -1,6 +1,7 @@
 -- Seats by number, each of which is free or has a box.
 use Rattle.std.specs.Prelude.{◌≡◌, ℕ, Bool, false, List, [], get_or, set, Option, Some, None, option_map, is_none}
 use Rattle.tables.specs.Tables.{place_where, put_where}
+use Rattle.ui_board.specs.declared.board.Board.{Board}
 use Rattle.ui_board.specs.Told.{Shown, report_of}
 
 -- the box at a seat, None where the seat is free or there is no such seat
@@ -10,6 +11,10 @@ seat_at n seats = get_or seats n None
 -- what the box at a seat has shown, by a word for what a box has shown
 abbrev pub shown_at : {B : Type 0} → (B → Shown) → ℕ → List (Option B) → Option Shown
 shown_at shown n seats = option_map shown (seat_at n seats)
+
+-- what the box at a seat of a board has shown
+abbrev pub box_at : {U : Type 0} → (U → Shown) → ℕ → Board U → Option Shown
+box_at shown n board = shown_at shown n board.seats.items
 
 -- whether a seat is free
 abbrev pub is_free : {B : Type 0} → Option B → Bool

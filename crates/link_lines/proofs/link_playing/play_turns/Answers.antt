@@ -41,7 +41,7 @@ loop-preserved-else-branch g c = record {
   so_far = λ opens. heard-still _ _ _ _ _ _ _ c.play_line.ensures.reading (line-heard _ _ _ _ _ _ _ _ _ _ _ c.if-branch.false c.loop.invariant.stays.same c.hear.ensures.sent c.play_line.ensures.heard (heard _ _ _ _ _ _ c.in-Line.is c.in_ok-hear.ensures.hears) (c.loop.invariant.so_far opens) (c.in_ok-play_line-in-Line.ensures.serves opens));
   faults = c.play_line.ensures.heard.1 ∙ (let f = rw c.in-Line.is at c.in_ok-hear.ensures.fault in f) ∙ c.loop.invariant.faults;
   counted = c.in_ok-play_line-in-Line.ensures.cause ∙ ap (λ o. o.faults) c.hear.ensures.sent ∙ c.loop.invariant.counted;
-  drawn = λ d. line-draws _ _ _ _ _ _ _ _ c.loop.invariant.stays.same.number (c.in_ok-play_line-in-Line.ensures.serves []) (c.loop.invariant.drawn d);
+  drawn = λ d. line-draws g.S.Seat.gives g.Q.Reader.reads [] _ _ _ _ _ _ _ c.loop.invariant.stays.same.number (c.in_ok-play_line-in-Line.ensures.serves []) (c.loop.invariant.drawn d);
   told = told-trans _ _ _ c.loop.invariant.told (told-trans _ _ _ c.hear.ensures.no_more c.play_line.ensures.no_more);
 }
 
@@ -64,17 +64,17 @@ loop-preserved g c = record {
   stays = stays-then c.loop.invariant.stays c.draw_missed.ensures.stays;
   kept = c.draw_missed.ensures.kept ∙ c.loop.invariant.kept;
   whole = whole-still c.loop.invariant.whole c.in_ok-draw_missed-in-Idle.ensures.whole;
-  so_far = λ opens. heard-still _ _ _ _ _ _ _ (ap (λ t. t.reading) c.draw_missed.ensures.same) (idle-heard c.in_ok-draw_missed-in-Idle.field-0 _ _ _ _ _ _ _ _ _ _ c.loop.invariant.stays.same c.hear.ensures.sent c.draw_missed.ensures.heard (heard _ _ _ _ _ _ c.in-Idle.is c.in_ok-hear.ensures.hears) (c.loop.invariant.so_far opens) (unasked _ _ _ _ _ _ (c.in_ok-draw_missed-in-Idle.ensures.draws opens)));
+  so_far = λ opens. heard-still _ _ _ _ _ _ _ (ap (λ t. t.reading) c.draw_missed.ensures.same) (idle-heard c.in_ok-draw_missed-in-Idle.field-0 _ _ _ _ _ _ _ _ _ _ c.loop.invariant.stays.same c.hear.ensures.sent c.draw_missed.ensures.heard (heard _ _ _ _ _ _ c.in-Idle.is c.in_ok-hear.ensures.hears) (c.loop.invariant.so_far opens) (unasked _ _ _ _ _ _ (c.in_ok-draw_missed-in-Idle.ensures.draws g.Q.Reader.reads opens)));
   faults = c.draw_missed.ensures.heard.1 ∙ (let f = rw c.in-Idle.is at c.in_ok-hear.ensures.fault in f) ∙ c.loop.invariant.faults;
   counted = c.in_ok-draw_missed-in-Idle.ensures.cause ∙ ap (λ o. o.faults) c.hear.ensures.sent ∙ c.loop.invariant.counted;
-  drawn = λ d. missed-draws (Ok c.in_ok-draw_missed-in-Idle.field-0) (service g.S.Seat.gives []) (g.S.Seat.seated c.loop.seat) (g.S.Seat.seated c.draw_missed.new.seat) (g.L.Link.wire c.hear.new.link).outlet (g.L.Link.wire c.draw_missed.new.link).outlet _ c.loop.invariant.stays.same.number (c.in_ok-draw_missed-in-Idle.ensures.draws []) (c.loop.invariant.drawn d);
+  drawn = λ d. missed-draws (Ok c.in_ok-draw_missed-in-Idle.field-0) (service g.S.Seat.gives g.Q.Reader.reads []) (g.S.Seat.seated c.loop.seat) (g.S.Seat.seated c.draw_missed.new.seat) (g.L.Link.wire c.hear.new.link).outlet (g.L.Link.wire c.draw_missed.new.link).outlet _ refl c.loop.invariant.stays.same.number (c.in_ok-draw_missed-in-Idle.ensures.draws g.Q.Reader.reads []) (c.loop.invariant.drawn d);
   told = told-trans _ _ _ c.loop.invariant.told (told-trans _ _ _ c.hear.ensures.no_more c.draw_missed.ensures.no_more);
 }
 
 pub returns-in_err-draw_missed-in-Idle-clause-plays : goal.returns-in_err-draw_missed-in-Idle-clause-plays
 returns-in_err-draw_missed-in-Idle-clause-plays g c =
     let p = err_from_is_err_and c.from_residual-in_err-draw_missed-in-Idle.result c.from_residual-in_err-draw_missed-in-Idle.ensures.1 in
-    rw (p.1, p.2) (λ opens. idle-stopped {A = Unit {0}} _ _ _ _ _ _ _ _ _ _ _ c.loop.invariant.stays.same c.hear.ensures.sent c.draw_missed.ensures.heard (heard _ _ _ _ _ _ c.in-Idle.is c.in_ok-hear.ensures.hears) (c.loop.invariant.so_far opens) (unasked _ _ _ _ _ _ (c.in_err-draw_missed-in-Idle.ensures.draws opens)))
+    rw (p.1, p.2) (λ opens. idle-stopped {A = Unit {0}} _ _ _ _ _ _ _ _ _ _ _ c.loop.invariant.stays.same c.hear.ensures.sent c.draw_missed.ensures.heard (heard _ _ _ _ _ _ c.in-Idle.is c.in_ok-hear.ensures.hears) (c.loop.invariant.so_far opens) (unasked _ _ _ _ _ _ (c.in_err-draw_missed-in-Idle.ensures.draws g.Q.Reader.reads opens)))
 
 pub returns-in-ReadFault-clause-plays : goal.returns-in-ReadFault-clause-plays
 returns-in-ReadFault-clause-plays g c = λ opens. link-failed _ _ _ _ _ _ _ _ c.hear.ensures.sent (heard _ _ _ _ _ _ c.in-ReadFault.is c.in_ok-hear.ensures.hears) (c.loop.invariant.so_far opens)
@@ -83,19 +83,19 @@ pub returns-in-Full-clause-plays : goal.returns-in-Full-clause-plays
 returns-in-Full-clause-plays g c = λ opens. link-full _ _ _ _ _ _ _ _ c.hear.ensures.sent (heard _ _ _ _ _ _ c.in-Full.is c.in_ok-hear.ensures.hears) (c.loop.invariant.so_far opens)
 
 pub returns-in_err-play_line-in-Line-clause-drawn : goal.returns-in_err-play_line-in-Line-clause-drawn
-returns-in_err-play_line-in-Line-clause-drawn g c = λ d. line-draws _ _ _ _ _ _ _ _ c.loop.invariant.stays.same.number (c.in_err-play_line-in-Line.ensures.serves []) (c.loop.invariant.drawn d)
+returns-in_err-play_line-in-Line-clause-drawn g c = λ d. line-draws g.S.Seat.gives g.Q.Reader.reads [] _ _ _ _ _ _ _ c.loop.invariant.stays.same.number (c.in_err-play_line-in-Line.ensures.serves []) (c.loop.invariant.drawn d)
 
 pub returns-then-branch-clause-drawn : goal.returns-then-branch-clause-drawn
-returns-then-branch-clause-drawn g c = λ d. line-draws _ _ _ _ _ _ _ _ c.loop.invariant.stays.same.number (c.in_ok-play_line-in-Line.ensures.serves []) (c.loop.invariant.drawn d)
+returns-then-branch-clause-drawn g c = λ d. line-draws g.S.Seat.gives g.Q.Reader.reads [] _ _ _ _ _ _ _ c.loop.invariant.stays.same.number (c.in_ok-play_line-in-Line.ensures.serves []) (c.loop.invariant.drawn d)
 
 pub returns-in_err-leaving-in-Last-clause-drawn : goal.returns-in_err-leaving-in-Last-clause-drawn
-returns-in_err-leaving-in-Last-clause-drawn g c = λ d. line-draws _ _ _ _ _ _ _ _ c.loop.invariant.stays.same.number (c.in_err-leaving-in-Last.ensures.serves []) (c.loop.invariant.drawn d)
+returns-in_err-leaving-in-Last-clause-drawn g c = λ d. line-draws g.S.Seat.gives g.Q.Reader.reads [] _ _ _ _ _ _ _ c.loop.invariant.stays.same.number (c.in_err-leaving-in-Last.ensures.serves []) (c.loop.invariant.drawn d)
 
 pub returns-then-leaving-clause-drawn : goal.returns-then-leaving-clause-drawn
-returns-then-leaving-clause-drawn g c = λ d. line-draws _ _ _ _ _ _ _ _ c.loop.invariant.stays.same.number (c.in_ok-leaving-in-Last.ensures.serves []) (c.loop.invariant.drawn d)
+returns-then-leaving-clause-drawn g c = λ d. line-draws g.S.Seat.gives g.Q.Reader.reads [] _ _ _ _ _ _ _ c.loop.invariant.stays.same.number (c.in_ok-leaving-in-Last.ensures.serves []) (c.loop.invariant.drawn d)
 
 pub returns-in-Last-clause-drawn : goal.returns-in-Last-clause-drawn
-returns-in-Last-clause-drawn g c = λ d. line-draws _ _ _ _ _ _ _ _ c.loop.invariant.stays.same.number (c.in_ok-leaving-in-Last.ensures.serves []) (c.loop.invariant.drawn d)
+returns-in-Last-clause-drawn g c = λ d. line-draws g.S.Seat.gives g.Q.Reader.reads [] _ _ _ _ _ _ _ c.loop.invariant.stays.same.number (c.in_ok-leaving-in-Last.ensures.serves []) (c.loop.invariant.drawn d)
 
 pub returns-in_err-draw_missed-in-Idle-clause-drawn : goal.returns-in_err-draw_missed-in-Idle-clause-drawn
-returns-in_err-draw_missed-in-Idle-clause-drawn g c = λ d. missed-draws {A = Unit {0}} (Err c.in_err-draw_missed-in-Idle.field-0.0) (service g.S.Seat.gives []) (g.S.Seat.seated c.loop.seat) (g.S.Seat.seated c.draw_missed.new.seat) (g.L.Link.wire c.hear.new.link).outlet (g.L.Link.wire c.draw_missed.new.link).outlet _ c.loop.invariant.stays.same.number (c.in_err-draw_missed-in-Idle.ensures.draws []) (c.loop.invariant.drawn d)
+returns-in_err-draw_missed-in-Idle-clause-drawn g c = λ d. missed-draws {A = Unit {0}} (Err c.in_err-draw_missed-in-Idle.field-0.0) (service g.S.Seat.gives g.Q.Reader.reads []) (g.S.Seat.seated c.loop.seat) (g.S.Seat.seated c.draw_missed.new.seat) (g.L.Link.wire c.hear.new.link).outlet (g.L.Link.wire c.draw_missed.new.link).outlet _ refl c.loop.invariant.stays.same.number (c.in_err-draw_missed-in-Idle.ensures.draws g.Q.Reader.reads []) (c.loop.invariant.drawn d)

@@ -1,4 +1,5 @@
-use Rattle.link_lines.proofs.ComingLemmas.{never-yet, not-joined, joined-own}
+use Rattle.session_lines.proofs.OpeningLemmas.{came-only}
+use Rattle.link_lines.proofs.ComingLemmas.{never-yet, not-joined}
 use Rattle.link_lines.proofs.link_serving.come.Goals as goal
 
 pub unreachable-requires-in-Err-Joined : goal.unreachable-requires-in-Err-Joined
@@ -7,7 +8,7 @@ unreachable-requires-in-Err-Joined g c =
     not-joined g.S.Seat.gives (g.S.Seat.seated c.step.new.self) (never-yet _ _ _ c.step.ensures.same c.requires c.in-Err-Joined.ensures.err) why.2
 
 pub returns-in-Ok-clause-new : goal.returns-in-Ok-clause-new
-returns-in-Ok-clause-new g c = joined-own _ _ _ _ c.step.ensures.same c.requires c.in-Ok.ensures.ok
+returns-in-Ok-clause-new g c = came-only _ _ _ c.in-Ok.output c.step.ensures.same c.requires c.in-Ok.ensures.ok
 
 pub returns-in-Err-Full-clause-refused : goal.returns-in-Err-Full-clause-refused
 returns-in-Err-Full-clause-refused g c =

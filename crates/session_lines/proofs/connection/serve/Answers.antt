@@ -25,7 +25,7 @@ returns-in_err-leave-clause-cause g c =
     rw (p.1, p.2) (loss-causes c.play_connection-played.result _ _ _ _ _ (sym c.is_unwritten.ensures ∙ c.if-is_unwritten.false) c.play_connection-played.ensures.cause c.in_err-leave.ensures.leaves.1)
 
 pub returns-clause-served : goal.returns-clause-served
-returns-clause-served g c = (all-left c.play_connection-played.result _ _ _ _ _ _ _ _ _ refl (unseen-same c.play_connection-played.ensures.stays.same) (sym c.is_unwritten.ensures ∙ c.if-is_unwritten.false) c.play_connection-played.ensures.plays c.in_ok-leave.ensures.leaves).0
+returns-clause-served g c = (all-left c.play_connection-played.result _ _ _ _ _ _ _ _ _ refl refl (unseen-same c.play_connection-played.ensures.stays.same) (sym c.is_unwritten.ensures ∙ c.if-is_unwritten.false) c.play_connection-played.ensures.plays c.in_ok-leave.ensures.leaves).0
 
 pub returns-clause-cause : goal.returns-clause-cause
 returns-clause-cause g c = causes-later c.play_connection-played.result _ _ _ _ c.leave.ensures.same c.in_ok-leave.ensures.leaves c.leave.ensures.marked c.play_connection-played.ensures.cause

@@ -12,7 +12,7 @@ invariant-lines g l = record {
   stays : Stays (g.S.Seat.seated l.fn.seat) (g.S.Seat.seated l.seat);
   kept : g.S.Seat.kept l.seat ≡ g.S.Seat.kept l.fn.seat;
   whole : IsWholeStill (g.S.Seat.seated l.fn.seat).mark (g.S.Seat.seated l.seat).mark;
-  so_far : (opens : List Key) → HasRead false (service g.S.Seat.gives opens) (g.S.Seat.seated l.fn.seat) (g.S.Seat.seated l.seat) (g.K.Sink.outlet l.fn.sink) (g.K.Sink.outlet l.sink) (g.I.Source.inlet l.fn.source) (g.I.Source.inlet l.source) l.reader.taken l.reader.pending;
+  so_far : (opens : List Key) → HasRead false (service g.S.Seat.gives g.Q.Reader.reads opens) (g.S.Seat.seated l.fn.seat) (g.S.Seat.seated l.seat) (g.K.Sink.outlet l.fn.sink) (g.K.Sink.outlet l.sink) (g.I.Source.inlet l.fn.source) (g.I.Source.inlet l.source) l.reader.taken l.reader.pending;
   faults : (g.I.Source.inlet l.source).faults ≡ (g.I.Source.inlet l.fn.source).faults;
   counted : NoneFailed (g.K.Sink.outlet l.fn.sink) (g.K.Sink.outlet l.sink);
 }

@@ -1,5 +1,5 @@
 use Rattle.std.proofs.Common.{Ok, refl, sym, ap, subst, ◌∙◌}
-use Rattle.json_ui.specs.Requests.{read_request, IsLineError}
+use Rattle.requests.specs.Reading.{IsLineError}
 use Rattle.json_writing.specs.Refusals.{refusal_bytes}
 use Rattle.session_lines.specs.Session.{played_by, bytes_of_refusal}
 use Rattle.session_lines.proofs.TakingLemmas.{said-answered}
@@ -12,5 +12,5 @@ returns-in-Ok-Nothing-clause-answers g c =
 
 pub returns-in-Err-Refused-clause-answers : goal.returns-in-Err-Refused-clause-answers
 returns-in-Err-Refused-clause-answers g c =
-    let read = subst (λ e. IsLineError e (read_request c.args.line.now)) c.in-Err-Refused.field-0-is c.in-Err-Refused.ensures.error in
+    let read = subst (λ e. IsLineError e (g.Q.Reader.reads c.args.line.now)) c.in-Err-Refused.field-0-is c.in-Err-Refused.ensures.error in
     said-answered _ _ _ _ _ (ap played_by read) (ap refusal_bytes c.in-Err-Refused.refusal-is ∙ sym (ap bytes_of_refusal read)) refl

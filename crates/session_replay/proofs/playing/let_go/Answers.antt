@@ -1,35 +1,32 @@
 use Rattle.std.proofs.lemmas.Result.{err_from_is_err_and}
+use Rattle.session_replay.specs.Settings.{setting}
 use Rattle.session_replay.proofs.PlayingLemmas.{loss-memory, gone-grows, sees-grow, sees-got, gone-left, gone-leaves}
 use Rattle.session_replay.proofs.playing.let_go.Goals as goal
 
 pub returns-in_err-leave-clause-grows : goal.returns-in_err-leave-clause-grows
 returns-in_err-leave-clause-grows g c = sees-grow _ _ (g.S.Seat.seated c.args.seats.now) _ _ c.turn_to.ensures.turned c.leave.ensures.same (g.met.S.Seats.alone c.leave.new.seat) c.in_err-leave.ensures.leaves.0
 
-pub returns-in_err-leave-clause-memory : goal.returns-in_err-leave-clause-memory
-returns-in_err-leave-clause-memory g c =
+pub returns-in_err-leave-clause-still : goal.returns-in_err-leave-clause-still
+returns-in_err-leave-clause-still g c =
     let p = err_from_is_err_and c.from_residual.result c.from_residual.ensures.1 in
-    rw (p.1, p.2) (λ how lines told got is. absurd (loss-memory _ _ is c.in_err-leave.ensures.leaves.1))
-
-pub returns-in_err-leave-clause-broken : goal.returns-in_err-leave-clause-broken
-returns-in_err-leave-clause-broken g c =
-    let p = err_from_is_err_and c.from_residual.result c.from_residual.ensures.1 in
-    rw (p.1, p.2) (λ how lines told got loss. sees-got _ _ _ (g.S.Seat.seated c.args.seats.now) _ _ lines told c.turn_to.ensures.turned c.in_err-leave.ensures.leaves.0 got)
+    rw (p.1, p.2) (λ how lines told got. (
+      λ is. absurd (loss-memory _ _ is c.in_err-leave.ensures.leaves.1),
+      λ loss. sees-got _ _ _ (g.S.Seat.seated c.args.seats.now) _ _ lines told c.turn_to.ensures.turned c.in_err-leave.ensures.leaves.0 got,
+    ))
 
 pub returns-in_err-report-clause-grows : goal.returns-in_err-report-clause-grows
 returns-in_err-report-clause-grows g c = gone-grows _ _ (g.S.Seat.seated c.args.seats.now) _ _ c.turn_to.ensures.turned c.leave.ensures.same (g.met.S.Seats.alone c.leave.new.seat) c.in_ok-leave.ensures.leaves
 
-pub returns-in_err-report-clause-memory : goal.returns-in_err-report-clause-memory
-returns-in_err-report-clause-memory g c =
+pub returns-in_err-report-clause-still : goal.returns-in_err-report-clause-still
+returns-in_err-report-clause-still g c =
     let p = err_from_is_err_and c.from_residual-in_err-report.result c.from_residual-in_err-report.ensures.1 in
-    rw p.1 (λ how lines told got is. gone-left _ how _ (g.S.Seat.seated c.args.seats.now) _ _ lines told c.turn_to.ensures.turned c.in_ok-leave.ensures.leaves got)
-
-pub returns-in_err-report-clause-broken : goal.returns-in_err-report-clause-broken
-returns-in_err-report-clause-broken g c =
-    let p = err_from_is_err_and c.from_residual-in_err-report.result c.from_residual-in_err-report.ensures.1 in
-    rw p.1 (λ how lines told got loss. absurd (loss-memory _ _ p.2 loss))
+    rw p.1 (λ how lines told got. (
+      λ is. gone-left _ how _ (g.S.Seat.seated c.args.seats.now) _ _ lines told c.turn_to.ensures.turned c.in_ok-leave.ensures.leaves got,
+      λ loss. absurd (loss-memory _ _ p.2 loss),
+    ))
 
 pub returns-clause-grows : goal.returns-clause-grows
 returns-clause-grows g c = gone-grows _ _ (g.S.Seat.seated c.args.seats.now) _ _ c.turn_to.ensures.turned c.leave.ensures.same (g.met.S.Seats.alone c.leave.new.seat) c.in_ok-leave.ensures.leaves
 
 pub returns-clause-leaves : goal.returns-clause-leaves
-returns-clause-leaves g c = gone-leaves _ _ (g.S.Seat.seated c.args.seats.now) _ _ c.turn_to.ensures.turned c.leave.ensures.same (g.met.S.Seats.alone c.leave.new.seat) c.in_ok-leave.ensures.leaves
+returns-clause-leaves g c = gone-leaves (setting g.S.Seat.gives g.Q.Reader.reads) _ (g.S.Seat.seated c.args.seats.now) _ _ c.turn_to.ensures.turned c.leave.ensures.same (g.met.S.Seats.alone c.leave.new.seat) c.in_ok-leave.ensures.leaves

@@ -16,8 +16,8 @@ returns-in-Bad-clause-plays g c = λ limit kinds lines many p. plays-bad _ limit
 
 pub returns-then-is_anybody_here-clause-plays : goal.returns-then-is_anybody_here-clause-plays
 returns-then-is_anybody_here-clause-plays g c = λ limit kinds lines many p.
-    plays-left _ limit _ kinds lines _ _ _ _ _ _ c.in-Left.is (many ∙ sym c.take_written.ensures.count) p (c.in_ok-take_written.ensures.takes kinds lines many p.moment) (c.is_anybody_here.ensures.yes c.if-is_anybody_here.true)
+    plays-left _ limit _ kinds lines _ _ _ _ _ _ c.in-Left.is (many ∙ sym c.take_written.ensures.still.count) p (c.in_ok-take_written.ensures.takes kinds lines many p.moment) (c.is_anybody_here.ensures.yes c.if-is_anybody_here.true)
 
 pub returns-else-is_anybody_here-clause-plays : goal.returns-else-is_anybody_here-clause-plays
 returns-else-is_anybody_here-clause-plays g c = λ limit kinds lines many p.
-    plays-over _ limit _ kinds lines _ _ _ _ _ _ c.in-Left.is (many ∙ sym c.take_written.ensures.count) p (c.in_ok-take_written.ensures.takes kinds lines many p.moment) (c.is_anybody_here.ensures.no c.if-is_anybody_here.false)
+    plays-over _ limit _ kinds lines _ _ _ _ _ _ c.in-Left.is (many ∙ sym c.take_written.ensures.still.count) p (c.in_ok-take_written.ensures.takes kinds lines many p.moment) (c.is_anybody_here.ensures.no c.if-is_anybody_here.false)

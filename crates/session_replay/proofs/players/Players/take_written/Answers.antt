@@ -18,18 +18,18 @@ pub returns-in_err-take_line-in-Of-clause-takes : goal.returns-in_err-take_line-
 returns-in_err-take_line-in-Of-clause-takes g c =
     let p = err_from_is_err_and c.from_residual.result c.from_residual.ensures.1 in
     rw (p.1, p.2) (λ kinds lines many m.
-    written-cut _ _ kinds c.in-Of.who lines c.args.line.now _ _ _ _ _ m c.in_err-take_line-in-Of.ensures.grows
+    written-cut _ _ kinds c.in-Of.who lines c.args.line.now _ _ _ _ _ m c.in_err-take_line-in-Of.ensures.alone.grows
     (below c.in-Of.who _ _ kinds c.in-Of.ensures.client c.count.ensures many)
     (written-of _ _ kinds c.args.line.now _ _ c.in-Of.who c.in-Of.from c.count.ensures many c.read_written.ensures.reading c.in-Of.is (rest-of c.args.line.now c.in-Of.from))
-    c.in_err-take_line-in-Of.ensures.others
+    c.in_err-take_line-in-Of.ensures.alone.others
     (c.in_err-take_line-in-Of.ensures.takes (get_or kinds c.in-Of.who Silent) (lines_for (length kinds) c.in-Of.who lines) (m.clients c.in-Of.who (below c.in-Of.who _ _ kinds c.in-Of.ensures.client c.count.ensures many))))
 
 pub returns-then-branch-clause-takes : goal.returns-then-branch-clause-takes
 returns-then-branch-clause-takes g c = λ kinds lines many m.
-    written-left _ kinds c.in-Of.who lines c.args.line.now _ _ _ _ _ c.in_ok-take_line-in-Of.field-0 c.if-branch.true m c.in_ok-take_line-in-Of.ensures.grows
+    written-left _ kinds c.in-Of.who lines c.args.line.now _ _ _ _ _ c.in_ok-take_line-in-Of.field-0 c.if-branch.true m c.in_ok-take_line-in-Of.ensures.alone.grows
     (below c.in-Of.who _ _ kinds c.in-Of.ensures.client c.count.ensures many)
     (written-of _ _ kinds c.args.line.now _ _ c.in-Of.who c.in-Of.from c.count.ensures many c.read_written.ensures.reading c.in-Of.is (rest-of c.args.line.now c.in-Of.from))
-    c.in_ok-take_line-in-Of.ensures.others
+    c.in_ok-take_line-in-Of.ensures.alone.others
     (c.in_ok-take_line-in-Of.ensures.takes (get_or kinds c.in-Of.who Silent) (lines_for (length kinds) c.in-Of.who lines) (m.clients c.in-Of.who (below c.in-Of.who _ _ kinds c.in-Of.ensures.client c.count.ensures many)))
 
 pub returns-in-Blank-clause-takes : goal.returns-in-Blank-clause-takes
@@ -37,8 +37,8 @@ returns-in-Blank-clause-takes g c = λ kinds lines many m. written-blank _ _ _ k
 
 pub returns-else-branch-clause-takes : goal.returns-else-branch-clause-takes
 returns-else-branch-clause-takes g c = λ kinds lines many m.
-    written-stayed _ kinds c.in-Of.who lines c.args.line.now _ _ _ _ _ c.in_ok-take_line-in-Of.field-0 c.if-branch.false m c.in_ok-take_line-in-Of.ensures.grows
+    written-stayed _ kinds c.in-Of.who lines c.args.line.now _ _ _ _ _ c.in_ok-take_line-in-Of.field-0 c.if-branch.false m c.in_ok-take_line-in-Of.ensures.alone.grows
     (below c.in-Of.who _ _ kinds c.in-Of.ensures.client c.count.ensures many)
     (written-of _ _ kinds c.args.line.now _ _ c.in-Of.who c.in-Of.from c.count.ensures many c.read_written.ensures.reading c.in-Of.is (rest-of c.args.line.now c.in-Of.from))
-    c.in_ok-take_line-in-Of.ensures.others
+    c.in_ok-take_line-in-Of.ensures.alone.others
     (c.in_ok-take_line-in-Of.ensures.takes (get_or kinds c.in-Of.who Silent) (lines_for (length kinds) c.in-Of.who lines) (m.clients c.in-Of.who (below c.in-Of.who _ _ kinds c.in-Of.ensures.client c.count.ensures many)))
