@@ -1,8 +1,7 @@
 -- What a refusal at a desk is to the seat of its client.
-use Rattle.std.proofs.Common.{◌≡◌, ⊎_elim, inl, inr, ℕ, Bool, true, false, List, length, refl, sym, ap, ◌∙◌, subst, Err}
-use Rattle.std.specs.Prelude.{if◌then◌else◌, ◌&&◌, not, nat_le, IfSome, Some, None, ⊤}
+use Rattle.std.proofs.Common.{◌≡◌, ⊎_elim, inl, inr, ℕ, Bool, false, List, length, refl, sym, ap, ◌∙◌, subst, Err}
+use Rattle.std.specs.Prelude.{IfSome, Some, None}
 use Rattle.std.specs.declared.option.Option.{Option}
-use Rattle.std.proofs.lemmas.Bool.{leb-true}
 use Rattle.session_desk.specs.Histories.{Met}
 use Rattle.session_desk.specs.Tokens.{Home, DeskPlace, IsOf, PassView, IsSamePass, PassRefuses}
 use Rattle.session_desk.proofs.HistoryLemmas.{met_through}
@@ -11,52 +10,14 @@ use Rattle.session_events.specs.declared.event.Entry.{Entry}
 use Rattle.session_events.specs.declared.event.Output.{Output}
 use Rattle.session_events.specs.declared.fault.StepFault.{StepFault}
 use Rattle.session_events.specs.declared.fault.StepFault.TheVariants.{Broken, NoClient, Joined, HistoryFull, Full, NoMemory}
-use Rattle.session_events.specs.Entries.{is_join, is_leave, has_joined}
-use Rattle.session_events.specs.Legal.{Away, is_here, presence_from}
+use Rattle.session_events.specs.Entries.{is_leave}
 use Rattle.session_events.specs.Seats.{Refuses as SeatRefuses, StaysUnbroken}
 use Rattle.kak_engine.specs.Held.{refused_at, refused_by}
-use Rattle.kak_engine.specs.Steps.{run, is_session_full, crowded_by}
+use Rattle.kak_engine.specs.Steps.{crowded_by}
+use Rattle.kak_engine.proofs.WhyLemmas.{IsPlain, plain-reason}
 use Rattle.engine_desk.specs.Sharing.{Frame, MoveAnswers, marked_behind}
 use Rattle.engine_desk.specs.Sitting.{IsAtDesk, told_behind}
 use Rattle.engine_desk.proofs.SeatLemmas.{whose, begins-refused}
-
--- a refusal for a reason that the history gives
-abbrev IsPlain : StepFault → Type 0
-IsPlain (Broken at) = ⊥
-IsPlain NoMemory = ⊥
-IsPlain _ = ⊤
-
--- the first reason that holds has what is shown of each
-chain : (P : StepFault → Type 0) (who : ℕ) (a b c d : Bool) (fault : StepFault) → (a ≡ true → P (NoClient who)) → (b ≡ true → P (Joined who)) → (c ≡ true → P HistoryFull) → (d ≡ true → P Full)
-    → (if a then Some (NoClient who) else (if b then Some (Joined who) else (if c then Some HistoryFull else (if d then Some Full else None)))) ≡ Some fault → P fault
-chain P who true b c d fault f g h k e = subst P (let s : NoClient who ≡ fault = cc in s) (f refl)
-chain P who false true c d fault f g h k e = subst P (let s : Joined who ≡ fault = cc in s) (g refl)
-chain P who false false true d fault f g h k e = subst P (let s : HistoryFull ≡ fault = cc in s) (h refl)
-chain P who false false false true fault f g h k e = subst P (let s : Full ≡ fault = cc in s) (k refl)
-chain P who false false false false fault f g h k e = cc
-
-both-not : (a b : Bool) → (not a && not b) ≡ true → (a ≡ false) × (b ≡ false)
-both-not true b e = cc
-both-not false true e = cc
-both-not false false e = (refl, refl)
-
-both : (a b : Bool) → (a && b) ≡ true → (a ≡ true) × (b ≡ true)
-both true b e = (refl, e)
-both false b e = cc
-
-not-and : (a b : Bool) → (not a && b) ≡ true → (a ≡ false) × (b ≡ true)
-not-and true b e = cc
-not-and false b e = (refl, e)
-
-plain-reason : (limit : ℕ) (h : List Entry) (who : ℕ) (event : Event) (fault : StepFault) (mark : Option ℕ) (others : Option (List Entry)) → refused_by h limit who event ≡ Some fault
-    → IsPlain fault × SeatRefuses crowded_by fault (record { number = who; limit = limit; mark = mark; seen = h; others = others }) event
-plain-reason limit h who event fault mark others e =
-    chain (λ f. IsPlain f × SeatRefuses crowded_by f (record { number = who; limit = limit; mark = mark; seen = h; others = others }) event) who
-    (not (is_join event) && not (is_here (presence_from who Away h))) (is_join event && has_joined who h) (not (is_leave event) && nat_le limit (length h)) (is_join event && is_session_full (run h)) fault
-    (λ a. let s = both-not (is_join event) (is_here (presence_from who Away h)) a in (tt, (refl, s.0, s.1)))
-    (λ b. let s = both (is_join event) (has_joined who h) b in (tt, (refl, s.0, s.1)))
-    (λ c. let s = not-and (is_leave event) (nat_le limit (length h)) c in (tt, (s.0, leb-true limit (length h) s.1)))
-    (λ d. (tt, both (is_join event) (is_session_full (run h)) d)) e
 
 -- What a refusal is to the client.
 pub record IsRefusal (limit : ℕ) (h : List Entry) (who : ℕ) (event : Event) (fault : StepFault) (told told' mark' : Option ℕ) : Type 0 where

@@ -3,21 +3,23 @@ use Rattle.std.proofs.Common.{◌≡◌, ⊎_elim, inl, ℕ, Bool, true, false, 
 use Rattle.std.specs.Prelude.{if◌then◌else◌, ◌==◌, ◌&&◌, not, Some, None, IfSome}
 use Rattle.std.specs.declared.option.Option.{Option}
 use Rattle.std.proofs.lemmas.Bool.{eq-eqb}
-use Rattle.session_desk.specs.Histories.{entries_by as own_entries, StartsWith, Met}
+use Rattle.session_turns.specs.Growth.{Begins}
+use Rattle.session_desk.specs.Histories.{entries_by as own_entries, Met}
 use Rattle.session_desk.specs.Tokens.{Home, DeskPlace, IsOf, PassView, IsSamePass, PassAdds, PassRefuses, SeesMore}
 use Rattle.session_desk.proofs.HistoryLemmas.{starts_itself, starts_through, none_between, met_through}
 use Rattle.session_turns.specs.Histories.{own}
 use Rattle.session_events.specs.declared.event.Event.{Event}
-use Rattle.session_events.specs.declared.event.Event.TheVariants.{Join, Key as Struck, Refresh, Leave}
 use Rattle.session_events.specs.declared.event.Entry.{Entry}
 use Rattle.session_events.specs.declared.event.Output.{Output}
 use Rattle.session_events.specs.declared.fault.StepFault.{StepFault}
-use Rattle.session_events.specs.Entries.{is_leave, entry_with}
+use Rattle.session_events.specs.declared.kind.Kind.{Kind}
+use Rattle.session_events.specs.declared.kind.Kind.TheVariants.{Coming, Doing, Drawing, Going}
+use Rattle.session_events.specs.Entries.{kind_of, is_going, is_leave, is_drawing, entry_with}
 use Rattle.session_events.specs.Legal.{Presence, Away, is_here, presence_after, presence_from}
 use Rattle.session_events.specs.Meaning.{Gives, rules}
 use Rattle.session_events.specs.Seats.{Seated, IsIn, Steps, Sees}
 use Rattle.session_events.proofs.LegalLemmas.{presence-append}
-use Rattle.session_events.specs.Missing.{is_drawing, has_news, has_missed}
+use Rattle.session_events.specs.Missing.{has_news, has_missed}
 use Rattle.session_events.proofs.MissingLemmas.{news-new, news-drawn}
 use Rattle.kak_engine.specs.Steps.{given_by}
 use Rattle.engine_desk.specs.Sharing.{Frame, MoveAnswers, TakesMove}
@@ -40,7 +42,7 @@ presence-foreign : (who : ℕ) (p : Presence) (entries : List Entry) → own_ent
 presence-foreign who p [] h = refl
 presence-foreign who p (e ∷ entries) h = by (e.who == who) (presence-foreign who p entries) h
   where
-    by : (t : Bool) → (own_entries whose who entries ≡ [] → presence_from who p entries ≡ p) → (if t then e ∷ own_entries whose who entries else own_entries whose who entries) ≡ [] → presence_from who (if t then presence_after e.event p else p) entries ≡ p
+    by : (t : Bool) → (own_entries whose who entries ≡ [] → presence_from who p entries ≡ p) → (if t then e ∷ own_entries whose who entries else own_entries whose who entries) ≡ [] → presence_from who (if t then presence_after (kind_of e.event) p else p) entries ≡ p
     by true f g = cc
     by false f g = f g
 
@@ -89,7 +91,7 @@ sees-twice a b c same first second = record {
 }
 
 -- what the client has missed behind its own event
-pub missed-own : (limit : ℕ) (before : List Entry) (mark : Option ℕ) (who : ℕ) (event : Event) (output : Output) (after : List Entry) (marked : Option ℕ) → TakesMove limit before mark who event output after marked → missed_behind event ≡ has_missed who after
+pub missed-own : (limit : ℕ) (before : List Entry) (mark : Option ℕ) (who : ℕ) (event : Event) (output : Output) (after : List Entry) (marked : Option ℕ) → TakesMove limit before mark who event output after marked → missed_behind (kind_of event) ≡ has_missed who after
 missed-own limit before mark who event output after marked t = by (is_leave event) (is_drawing event) refl refl ∙ sym (ap (has_missed who) t.stands)
   where
     now : List Entry
@@ -98,14 +100,14 @@ missed-own limit before mark who event output after marked t = by (is_leave even
     here : is_leave event ≡ false → is_here (presence_from who Away now) ≡ true
     here l = ap (λ (h : List Entry). is_here (presence_from who Away h)) (sym t.stands) ∙ t.here l
 
-    left : (e : Event) → is_leave e ≡ true → (p : Presence) → is_here (presence_after e p) ≡ false
-    left Leave l p = refl
-    left Join l p = cc
-    left (Struck key) l p = cc
-    left (Refresh asked) l p = cc
+    left : (kind : Kind) → is_going kind ≡ true → (p : Presence) → is_here (presence_after kind p) ≡ false
+    left Going l p = refl
+    left Coming l p = cc
+    left Doing l p = cc
+    left Drawing l p = cc
 
     away : is_leave event ≡ true → is_here (presence_from who Away now) ≡ false
-    away l = ap is_here (presence-append who Away before (entry_with who event t.answers ∷ [])) ∙ ap (λ (m : Bool). is_here (if m then presence_after event (presence_from who Away before) else presence_from who Away before)) (eq-eqb who who refl) ∙ left event l (presence_from who Away before)
+    away l = ap is_here (presence-append who Away before (entry_with who event t.answers ∷ [])) ∙ ap (λ (m : Bool). is_here (if m then presence_after (kind_of event) (presence_from who Away before) else presence_from who Away before)) (eq-eqb who who refl) ∙ left (kind_of event) l (presence_from who Away before)
 
     by : (l d : Bool) → is_leave event ≡ l → is_drawing event ≡ d → (not d && not l) ≡ (is_here (presence_from who Away now) && has_news who now)
     by true d e f = and-not d ∙ sym (ap (λ (p : Bool). p && has_news who now) (away e))
@@ -117,11 +119,11 @@ missed-own limit before mark who event output after marked t = by (is_leave even
     by false false e f = sym (ap (λ (p : Bool). p && has_news who now) (here e) ∙ news-new who before (entry_with who event t.answers) f)
 
 -- what a pass had seen at first stands in front of what it has seen: behind a move that was taken, or refused, and behind a look
-pub begins-taken : (home : Home Frame) (b a : PassView Entry Frame) (first : List Entry) (event : Event) (output : Output) → PassAdds whose (MoveAnswers home.frame) b a event output → StartsWith b.seen first → StartsWith a.seen first
+pub begins-taken : (home : Home Frame) (b a : PassView Entry Frame) (first : List Entry) (event : Event) (output : Output) → PassAdds whose (MoveAnswers home.frame) b a event output → Begins b.seen first → Begins a.seen first
 begins-taken home b a first event output s begins =
     starts_through a.seen (b.seen ++ s.between) first (s.entry ∷ [], s.seen) (starts_through (b.seen ++ s.between) b.seen first (s.between, refl) begins)
 
-pub begins-refused : (home : Home Frame) (b a : PassView Entry Frame) (first : List Entry) (event : Event) (fault : StepFault) → PassRefuses whose (MoveAnswers home.frame) b a event fault → StartsWith b.seen first → StartsWith a.seen first
+pub begins-refused : (home : Home Frame) (b a : PassView Entry Frame) (first : List Entry) (event : Event) (fault : StepFault) → PassRefuses whose (MoveAnswers home.frame) b a event fault → Begins b.seen first → Begins a.seen first
 begins-refused home b a first event fault s begins = starts_through a.seen b.seen first (s.between, s.seen) begins
 
 -- a seat that was made
@@ -168,7 +170,7 @@ desk_glanced home b a first told missed at same s count =
 pub ruleset looking = (desk_seen, desk_looked, desk_glanced)
 
 -- behind a move that was taken, the pass is of the desk still, and it is known whether its client has missed something
-pub desk-taken : (home : Home Frame) (b a : PassView Entry Frame) (first : List Entry) (told : Option ℕ) (event : Event) (output : Output) (missed : Bool) {old : Option Bool} → IsAtDesk home b first told old → IsSamePass b a → PassAdds whose (MoveAnswers home.frame) b a event output → missed ≡ missed_behind event
+pub desk-taken : (home : Home Frame) (b a : PassView Entry Frame) (first : List Entry) (told : Option ℕ) (event : Event) (output : Output) (missed : Bool) {old : Option Bool} → IsAtDesk home b first told old → IsSamePass b a → PassAdds whose (MoveAnswers home.frame) b a event output → missed ≡ missed_behind (kind_of event)
     → IsAtDesk home a first told (Some missed)
 desk-taken home b a first told event output missed at same s m = record {
   own = subst (λ (p : DeskPlace Frame). IsOf p home) (sym same.place) at.own;

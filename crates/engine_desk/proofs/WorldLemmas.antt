@@ -6,7 +6,7 @@ use Rattle.std.specs.declared.option.Option.{Option}
 use Rattle.session_events.specs.declared.event.Event.{Event}
 use Rattle.session_events.specs.declared.event.Answered.{Answered}
 use Rattle.session_events.specs.declared.event.Entry.{Entry}
-use Rattle.session_events.specs.Entries.{is_join, entry_with}
+use Rattle.session_events.specs.Entries.{kind_of, is_join, entry_with}
 use Rattle.session_events.specs.Missing.{has_news, has_missed}
 use Rattle.kak_world.specs.declared.world.TheConstants.{MAX_CLIENTS}
 use Rattle.kak_engine.specs.Honesty.{Outside}
@@ -42,12 +42,12 @@ module _ (x y : HeldEngine) (here : List ℕ) (room joins : ℕ) (mark : Option 
 
   -- what stands beside an engine behind an event that was taken
   pub beside-taken : (who : ℕ) (event : Event) (answers : List Answered) → refused_at x.mark x.history x.limit who event ≡ None → y.history ≡ x.history ++ entry_with who event answers ∷ [] → y.mark ≡ x.mark
-      → (here' : List ℕ) (room' joins' : ℕ) → here' ≡ here_after who event here → room' ≡ room → joins' ≡ joins + (if is_join event then 1 else 0) → IsBeside y here' room' joins' mark
+      → (here' : List ℕ) (room' joins' : ℕ) → here' ≡ here_after who (kind_of event) here → room' ≡ room → joins' ≡ joins + (if is_join event then 1 else 0) → IsBeside y here' room' joins' mark
   beside-taken who event answers e stands same here' room' joins' h r j = record {
-    here_is = ap here_among stands ∙ here-more x.history who event answers ∙ ap (here_after who event) beside.here_is ∙ sym h;
+    here_is = ap here_among stands ∙ here-more x.history who event answers ∙ ap (here_after who (kind_of event)) beside.here_is ∙ sym h;
     joins_is = ap comings stands ∙ comings-more x.history who event answers ∙ ap (λ (n : ℕ). n + (if is_join event then 1 else 0)) beside.joins_is ∙ sym j;
     mark_is = same ∙ beside.mark_is;
-    few = fewer (ap length h) (here-few who event here MAX_CLIENTS beside.few (room-beside who event e));
+    few = fewer (ap length h) (here-few who (kind_of event) here MAX_CLIENTS beside.few (room-beside who event e));
     fits = roomy r beside.fits;
   }
     where

@@ -13,7 +13,7 @@ use Rattle.session_events.specs.Legal.{Away, is_here, presence_from, IsLegal}
 use Rattle.session_events.specs.Missing.{has_missed}
 use Rattle.kak_world.specs.declared.world.TheConstants.{MAX_CLIENTS}
 use Rattle.kak_engine.specs.Honesty.{Outside}
-use Rattle.kak_engine.specs.Held.{HeldEngine, refused_at, marked_by}
+use Rattle.kak_engine.specs.Held.{HeldEngine, new_engine, refused_at, marked_by}
 use Rattle.kak_engine.specs.Seating.{WasHonest}
 use Rattle.kak_engine.specs.Steps.{run, given_by, AreAskedFor}
 use Rattle.engine_desk.specs.declared.glimpse.Glimpse.{Glimpse}
@@ -35,7 +35,7 @@ frame_of shared = record { limit = shared.engine.limit; first = shared.first }
 -- an engine to which nothing happened
 abbrev pub new_shared : Outside → ℕ → Shared
 new_shared outside limit = record {
-  engine = record { history = []; mark = None; limit = limit; outside = outside };
+  engine = new_engine outside limit;
   first = outside;
 }
 

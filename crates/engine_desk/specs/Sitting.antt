@@ -1,15 +1,16 @@
 -- The seat of one client at a desk.
 use Rattle.std.specs.Prelude.{◌≡◌, ℕ, Bool, not, ◌&&◌, List, IfSome, Some, None}
 use Rattle.std.specs.declared.option.Option.{Option}
-use Rattle.session_desk.specs.Histories.{StartsWith, Met}
+use Rattle.session_turns.specs.Growth.{Begins}
+use Rattle.session_desk.specs.Histories.{Met}
 use Rattle.session_desk.specs.Tokens.{Home, DeskPlace, IsOf, PassView}
-use Rattle.session_events.specs.declared.event.Event.{Event}
 use Rattle.session_events.specs.declared.event.Entry.{Entry}
 use Rattle.session_events.specs.declared.fault.StepFault.{StepFault}
 use Rattle.session_events.specs.declared.fault.StepFault.TheVariants.{Broken, NoMemory}
-use Rattle.session_events.specs.Entries.{is_leave}
+use Rattle.session_events.specs.declared.kind.Kind.{Kind}
+use Rattle.session_events.specs.Entries.{is_going, draws}
 use Rattle.session_events.specs.Seats.{Seated}
-use Rattle.session_events.specs.Missing.{is_drawing, has_missed}
+use Rattle.session_events.specs.Missing.{has_missed}
 use Rattle.engine_desk.specs.Sharing.{Frame}
 
 -- A seat: the desk, the client's pass, what this had seen when the seat was made, and the mark of the session where the client
@@ -49,7 +50,7 @@ pub record IsAtDesk (home : Home Frame) (pass : PassView Entry Frame) (first : L
   pub own : IsOf pass.place home
   pub met : Met told pass.mark
   pub known : IfSome missed (λ m. m ≡ has_missed pass.number pass.seen)
-  pub begins : StartsWith pass.seen first
+  pub begins : Begins pass.seen first
 
 -- the mark that a client was told, behind a refusal: that of a session which was found to be broken, or broke then
 abbrev pub told_behind : StepFault → Option ℕ → ℕ → Option ℕ
@@ -57,6 +58,6 @@ told_behind (Broken at) told count = Some at
 told_behind NoMemory told count = Some count
 told_behind _ told count = told
 
--- whether a client has missed something behind an event of its own: what it did wasn't drawn yet
-abbrev pub missed_behind : Event → Bool
-missed_behind event = not (is_drawing event) && not (is_leave event)
+-- whether a client has missed something behind an event of its own, of some kind: what it did wasn't drawn yet
+abbrev pub missed_behind : Kind → Bool
+missed_behind kind = not (draws kind) && not (is_going kind)

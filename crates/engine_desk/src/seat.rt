@@ -1,14 +1,15 @@
 //! The seat of one client at a desk.
 
 ghost use Rattle.std.specs.Prelude.{◌≡◌};
-ghost use Rattle.session_desk.specs.Histories.{StartsWith, Met};
+ghost use Rattle.session_turns.specs.Growth.{Begins};
+ghost use Rattle.session_desk.specs.Histories.{Met};
 ghost use Rattle.session_desk.specs.Tokens.{IsOf};
 ghost use Rattle.engine_desk.specs.Sitting.{new_seat, told_behind, missed_behind};
 
 use crate::shared::SharedEngine;
 use kak_engine::Outside;
 use session_desk::{Desk, Pass};
-use session_events::{Event, LiveSeat, Missed, Output, Seat, StepFault, is_drawing, is_leave};
+use session_events::{Event, Kind, LiveSeat, Missed, Output, Seat, StepFault, kind_of};
 use std::alloc::Global;
 use std::marker::Model;
 use std::snapshot::Snapshot;
@@ -47,11 +48,11 @@ fn told_by(fault: StepFault, told: Option<u64>, count: u64) -> Option<u64>
     }
 }
 
-// Whether the client has missed something behind an event of its own.
-fn misses(event: Event) -> bool
-    ensures { result ≡ missed_behind event }
+// Whether the client has missed something behind an event of its own, of some kind.
+fn misses(kind: Kind) -> bool
+    ensures { result ≡ missed_behind kind }
 {
-    !is_drawing(event) && !is_leave(event)
+    !matches!(kind, Kind::Drawing | Kind::Going)
 }
 
 impl<'a, R: Wait, O: Outside + Drop> DeskSeat<'a, R, O> {
@@ -81,7 +82,7 @@ impl<'a, R: Wait, O: Outside + Drop> DeskSeat<'a, R, O> {
         ensures pass { result ≡ self.entry.pass }
         ensures own { IsOf result.place self.entry.home }
         ensures met { Met self.entry.told result.mark }
-        ensures sees { StartsWith result.seen self.entry.first }
+        ensures sees { Begins result.seen self.entry.first }
     {
         let DeskSeat {
             rt: _,
@@ -109,10 +110,11 @@ impl<'a, R: Wait, O: Outside + Drop> Seat for DeskSeat<'a, R, O> {
 
     ghost kept = { desk_of };
 
-    fn step(&mut self, alloc: Global, event: Event) -> Result<Output, StepFault> {
+    fn step(&mut self, alloc: Global, event: &Event) -> Result<Output, StepFault> {
+        let kind = kind_of(event);
         match self.desk.step(self.rt, alloc, &mut self.pass, event) {
             Ok(output) => {
-                self.missed = Some(misses(event));
+                self.missed = Some(misses(kind));
                 Ok(output)
             }
             Err(fault) => {

@@ -2,7 +2,7 @@
 
 ghost use Rattle.std.specs.Prelude.{◌≡◌, ◌==◌, ◌<◌, ◌+◌, ◌^◌, ◌&&◌, if◌then◌else◌, IfOk, IfErr, IfSome, None, true, length, vec_len, vec_capacity};
 ghost use Rattle.std.specs.List.{list_any};
-ghost use Rattle.session_events.specs.Entries.{is_join};
+ghost use Rattle.session_events.specs.Entries.{is_coming};
 ghost use Rattle.session_events.specs.Legal.{IsLegal};
 ghost use Rattle.session_events.specs.Missing.{has_news};
 ghost use Rattle.kak_engine.specs.Honesty.{IsUntouched, IsKept};
@@ -16,7 +16,7 @@ use crate::glimpse::Glimpse;
 use kak_engine::{Engine, NoEngine, Outside};
 use kak_world::MAX_CLIENTS;
 use session_desk::Played;
-use session_events::{Entry, Event, Output, StepFault, has_news};
+use session_events::{Entry, Event, Kind, Output, StepFault, has_news, kind_of};
 use std::alloc::Global;
 use std::marker::Model;
 use std::snapshot::Snapshot;
@@ -43,22 +43,22 @@ impl<O: Outside> Model for SharedEngine<O> {
     ghost invariant = { λ s. WasHonest s.engine.history s.engine.mark s.first.value.outside s.engine.outside × IsBeside s.engine s.here.items (vec_capacity s.here) s.joins s.mark };
 }
 
-// Notes who is here, and how many have come, behind an event that was taken.
-fn note(here: &mut Vec<u32>, joins: &mut u64, who: u32, event: Event)
-    requires room { is_join event ≡ true → vec_len here.old < vec_capacity here.old }
+// Notes who is here, and how many have come, behind an event of some kind that was taken.
+fn note(here: &mut Vec<u32>, joins: &mut u64, who: u32, kind: Kind)
+    requires room { is_coming kind ≡ true → vec_len here.old < vec_capacity here.old }
     requires fits { joins.old < 2 ^ 63 }
-    ensures here { here.new.items ≡ here_after who event here.old.items }
-    ensures joins { joins.new ≡ joins.old + (if is_join event then 1 else 0) }
+    ensures here { here.new.items ≡ here_after who kind here.old.items }
+    ensures joins { joins.new ≡ joins.old + (if is_coming kind then 1 else 0) }
     ensures room { vec_capacity here.new ≡ vec_capacity here.old }
 {
-    match event {
-        Event::Join => {
+    match kind {
+        Kind::Coming => {
             here.push_reserved(who);
             *joins += 1;
         }
-        Event::Leave => here.retain(|number| *number != who),
-        Event::Key(_) => {}
-        Event::Refresh(_) => {}
+        Kind::Doing => {}
+        Kind::Drawing => {}
+        Kind::Going => here.retain(|number| *number != who),
     }
 }
 
@@ -167,11 +167,12 @@ impl<O: Outside + Drop> Played for SharedEngine<O> {
 
     ghost shows = { Shows };
 
-    fn play(&mut self, alloc: Global, who: u32, mv: Event) -> Result<Output, StepFault> {
+    fn play(&mut self, alloc: Global, who: u32, mv: &Event) -> Result<Output, StepFault> {
         let count = self.count();
+        let kind = kind_of(mv);
         match self.engine.step(alloc, who, mv) {
             Ok(output) => {
-                note(&mut self.here, &mut self.joins, who, mv);
+                note(&mut self.here, &mut self.joins, who, kind);
                 Ok(output)
             }
             Err(fault) => {

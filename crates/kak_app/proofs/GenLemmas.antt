@@ -15,14 +15,15 @@ use Rattle.session_draws.specs.declared.draws.Strike.{Strike}
 use Rattle.session_draws.specs.Draws.{strike_from, state_behind}
 use Rattle.session_draws.specs.Summary.{head_text}
 use Rattle.session_events.specs.declared.event.Event.{Event}
-use Rattle.session_events.specs.declared.event.Event.TheVariants.{Join, Key as Struck, Refresh, Leave}
 use Rattle.session_events.specs.declared.event.Answered.{Answered}
 use Rattle.session_events.specs.declared.event.Entry.{Entry}
-use Rattle.session_events.specs.Entries.{entry_with, is_leave}
+use Rattle.session_events.specs.declared.kind.Kind.{Kind}
+use Rattle.session_events.specs.declared.kind.Kind.TheVariants.{Coming, Doing, Drawing, Going}
+use Rattle.session_events.specs.Entries.{entry_with, kind_of, is_going, is_leave}
 use Rattle.session_events.specs.Legal.{Away, is_here, presence_from}
 use Rattle.kak_engine.specs.Steps.{asked_in, answers_in, AllAsked}
 use Rattle.kak_engine.specs.Honesty.{Outside, IsHonest}
-use Rattle.kak_engine.specs.Held.{HeldEngine}
+use Rattle.kak_engine.specs.Held.{HeldEngine, new_engine}
 use Rattle.kak_engine.specs.Seating.{WasHonest}
 use Rattle.kak_engine.proofs.HonestLemmas.{honest-none, none-begun}
 use Rattle.kak_engine.proofs.LegalLemmas.{presence-more}
@@ -103,15 +104,15 @@ pub stays-here : (k who : ℕ) (event : Event) (answers : List Answered) (x y : 
 stays-here k who event answers x y keeps stays here =
     ap (λ h. is_here (presence_from k Away h)) keeps
     ∙ ap is_here (presence-more k who x event answers)
-    ∙ presence-after event (who == k) (presence_from k Away x)
-    ∙ by event (who == k) stays
+    ∙ presence-after (kind_of event) (who == k) (presence_from k Away x)
+    ∙ by (kind_of event) (who == k) stays
   where
-    by : (e : Event) (t : Bool) → is_leave e ≡ false → there_after e t (is_here (presence_from k Away x)) ≡ true
-    by Join true s = refl
-    by Join false s = here
-    by (Struck key) t s = here
-    by (Refresh asked) t s = here
-    by Leave t s = cc
+    by : (kind : Kind) (t : Bool) → is_going kind ≡ false → there_after kind t (is_here (presence_from k Away x)) ≡ true
+    by Coming true s = refl
+    by Coming false s = here
+    by Doing t s = here
+    by Drawing t s = here
+    by Going t s = cc
 
 pub here-next : (n : ℕ) (x y : List Entry) → AreHere n x → is_here (presence_from n Away y) ≡ true → AllStay x y → AreHere (n + 1) y
 here-next n x y here came stay k less = by (cases_lt k n)
@@ -255,7 +256,7 @@ session-used bytes (Ok text) status b n p e u = used-none (bytes text) status b 
 session-used bytes (Err error) status b n p e u = let no : NoMemory ≡ Usage = sym e ∙ u in cc
 
 -- an engine that was just made
-pub honest-new : (limit : ℕ) (first : Outside) (engine : HeldEngine) → engine ≡ record { history = []; mark = None; limit = limit; outside = first } → WasHonest engine.history engine.mark first engine.outside
+pub honest-new : (limit : ℕ) (first : Outside) (engine : HeldEngine) → engine ≡ new_engine first limit → WasHonest engine.history engine.mark first engine.outside
 honest-new limit first engine new =
     subst (λ (e : HeldEngine). WasHonest e.history e.mark first e.outside) (sym new) (honest-first first)
 

@@ -10,7 +10,8 @@ use Rattle.ui_board.specs.declared.ui.Kind.{Kind}
 use Rattle.ui_board.specs.Told.{Told, Shown, report_of}
 use Rattle.session_replay.specs.Players.{told_by_all}
 use Rattle.session_events.specs.declared.event.Entry.{Entry}
-use Rattle.session_events.specs.Meaning.{Gives}
+use Rattle.json_ui.specs.Requests.{read_request}
+use Rattle.session_replay.specs.Settings.{Setting, setting}
 use Rattle.session_lines.specs.declared.playing.Stop.{Stop}
 use Rattle.session_lines.specs.declared.playing.Stop.TheVariants as stop
 use Rattle.session_replay.specs.declared.ends.ReplayEnd.{ReplayEnd}
@@ -26,35 +27,27 @@ use Rattle.kak_engine.specs.Seating.{WasHonest}
 use Rattle.kak_engine.proofs.HonestLemmas.{honest-none, none-begun}
 use Rattle.session_events.specs.declared.limits.TheConstants.{MAX_ENTRIES}
 use Rattle.kak_app.specs.Runs.{Around}
-use Rattle.kak_app.specs.Replays.{Replayed, ReplayedOutside, says_kind, say_kinds, is_ui_count, is_replay_call}
-use Rattle.kak_app.proofs.RunLemmas.{nothing-legal, before, whole}
+use Rattle.kak_app.specs.Replays.{Replayed, says_kind, say_kinds, is_ui_count, is_replay_call}
+use Rattle.kak_app.proofs.RunLemmas.{nothing-legal, outside-is}
 
 -- nothing was played, since memory was wanting
 pub nothing-played : (kinds : List Kind) (boxes : ℕ → Option Shown) (a : Around) → Replayed kinds boxes (Err stop.NoMemory) a a
 nothing-played kinds boxes a = record {
   history = [];
   legal = nothing-legal MAX_ENTRIES;
-  replayed = nothing-replayed given_by MAX_ENTRIES kinds boxes [] a.inlet a.outlet refl;
+  replayed = nothing-replayed (setting given_by read_request) MAX_ENTRIES kinds boxes [] a.inlet a.outlet refl;
   asked = tt;
   honest = record { behind = a.outside; honest = honest-none a.outside; begun = none-begun [] a.outside a.outside refl };
   fault = inl refl;
 }
 
--- how the outside was left, by how the replay ended
-outside-is : (r : Result ReplayEnd Stop) (was mark : Option ℕ) (h : List Entry) (first last : Outside) → was ≡ None → StaysWhole r was mark → WasHonest h mark first last → ReplayedOutside r h first last
-outside-is (Ok end) was mark h first last none s w = whole h mark first last w (s none)
-outside-is (Err stop.HistoryFull) was mark h first last none s w = whole h mark first last w (s none)
-outside-is (Err (stop.Broken at)) was mark h first last none s w = before h mark first last w
-outside-is (Err stop.NoMemory) was mark h first last none s w = before h mark first last w
-outside-is (Err stop.WriteFault) was mark h first last none s w = whole h mark first last w (s none)
-
 -- lines were replayed
 pub lines-replayed : (kinds : List Kind) (boxes : ℕ → Option Shown) (r : Result ReplayEnd Stop) (limit after : ℕ) (was mark : Option ℕ) (h : List Entry) (a b : Around) → limit ≡ MAX_ENTRIES → was ≡ None → after ≡ limit → IsLegal after h
-    → WasReplayed given_by limit kinds boxes h a.inlet b.inlet a.outlet b.outlet r → ReplayFaultIs r a.inlet b.inlet → StaysWhole r was mark → AllAsked h → WasHonest h mark a.outside b.outside → Replayed kinds boxes r a b
+    → WasReplayed (setting given_by read_request) limit kinds boxes h a.inlet b.inlet a.outlet b.outlet r → ReplayFaultIs r a.inlet b.inlet → StaysWhole r was mark → AllAsked h → WasHonest h mark a.outside b.outside → Replayed kinds boxes r a b
 lines-replayed kinds boxes r limit after was mark h a b most none same l w f s asked honest = record {
   history = h;
   legal = subst (λ n. IsLegal n h) (same ∙ most) l;
-  replayed = subst (λ n. WasReplayed given_by n kinds boxes h a.inlet b.inlet a.outlet b.outlet r) most w;
+  replayed = subst (λ n. WasReplayed (setting given_by read_request) n kinds boxes h a.inlet b.inlet a.outlet b.outlet r) most w;
   asked = asked;
   honest = outside-is r was mark h a.outside b.outside none s honest;
   fault = f;
@@ -64,13 +57,13 @@ lines-replayed kinds boxes r limit after was mark h a b most none same l w f s a
 lost-as : (replay : Replay) (at : ℕ) (left : Inlet) (bytes : List ℕ) → IsReplayed replay (Err (stop.Broken at)) left bytes → IsReplayed replay (Err stop.NoMemory) left bytes
 lost-as replay at left bytes r = record { first = r.first; order = r.order; strangers = r.strangers; ends = r.ends }
 
-broken-lost : (g : Gives) (limit : ℕ) (kinds : List Kind) (boxes : ℕ → Option Shown) (h : List Entry) (left rest : Inlet) (before now : Outlet) (at : ℕ) → WasReplayed g limit kinds boxes h left rest before now (Err (stop.Broken at)) → WasReplayed g limit kinds boxes h left rest before now (Err stop.NoMemory)
+broken-lost : (g : Setting) (limit : ℕ) (kinds : List Kind) (boxes : ℕ → Option Shown) (h : List Entry) (left rest : Inlet) (before now : Outlet) (at : ℕ) → WasReplayed g limit kinds boxes h left rest before now (Err (stop.Broken at)) → WasReplayed g limit kinds boxes h left rest before now (Err stop.NoMemory)
 broken-lost g limit kinds boxes h left rest before now at w = by w.ended w.replayed w.reports
   where
-    lost : (at : ℕ) → IsReplayed (record { gives = g; limit = limit; lines = w.lines; history = h; shown = w.shown }) (Err (stop.Broken at)) left w.bytes → now ≡ before → WasReplayed g limit kinds boxes h left rest before now (Err stop.NoMemory)
+    lost : (at : ℕ) → IsReplayed (record { with = g; limit = limit; lines = w.lines; history = h; shown = w.shown }) (Err (stop.Broken at)) left w.bytes → now ≡ before → WasReplayed g limit kinds boxes h left rest before now (Err stop.NoMemory)
     lost at r same = record { bytes = w.bytes; takes = w.takes; few = w.few; lines = w.lines; shown = w.shown; kinds_are = w.kinds_are; ended = Err stop.NoMemory; boxes_are = tt; replayed = lost-as _ at left w.bytes r; reports = (refl, same) }
 
-    by : (ended : Result ReplayEnd Stop) → IsReplayed (record { gives = g; limit = limit; lines = w.lines; history = h; shown = w.shown }) ended left w.bytes → Reports ended (Err (stop.Broken at)) before now (flat_map report_of w.shown) → WasReplayed g limit kinds boxes h left rest before now (Err stop.NoMemory)
+    by : (ended : Result ReplayEnd Stop) → IsReplayed (record { with = g; limit = limit; lines = w.lines; history = h; shown = w.shown }) ended left w.bytes → Reports ended (Err (stop.Broken at)) before now (flat_map report_of w.shown) → WasReplayed g limit kinds boxes h left rest before now (Err stop.NoMemory)
     by (Err (stop.Broken at)) r q = lost at r q.1
     by (Err stop.NoMemory) r q = let e = q.0 in cc
     by (Err stop.HistoryFull) r (inl q) = let e = q.0 in cc
@@ -92,7 +85,7 @@ pub broken-replayed : (kinds : List Kind) (boxes : ℕ → Option Shown) (at : �
 broken-replayed kinds boxes at a b r = record {
   history = r.history;
   legal = r.legal;
-  replayed = broken-lost given_by MAX_ENTRIES kinds boxes r.history a.inlet b.inlet a.outlet b.outlet at r.replayed;
+  replayed = broken-lost (setting given_by read_request) MAX_ENTRIES kinds boxes r.history a.inlet b.inlet a.outlet b.outlet at r.replayed;
   asked = r.asked;
   honest = r.honest;
   fault = r.fault;

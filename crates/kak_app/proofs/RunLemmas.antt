@@ -3,17 +3,17 @@ use Rattle.std.proofs.Common.{◌≡◌, ℕ, inl, zero, suc, Bool, true, false,
 use Rattle.std.specs.Prelude.{if◌then◌else◌, ◌==◌}
 use Rattle.std.specs.declared.option.Option.{Option}
 use Rattle.std.specs.declared.result.Result.{Result}
-use Rattle.std.proofs.lemmas.Bool.{eqb-true, eq-eqb}
+use Rattle.std.proofs.lemmas.Bool.{eqb-true}
 use Rattle.std.proofs.KnownBytes.{Consumes-nil, Appends-nil}
 use Rattle.session_turns.specs.Headline.{Due, Sent}
 use Rattle.session_turns.specs.Histories.{own}
-use Rattle.session_turns.proofs.HistoryLemmas.{own-append}
 use Rattle.kak_ports.specs.Ports.{Inlet, Outlet}
 use Rattle.key_names.specs.declared.key.Key.{Key}
+use Rattle.json_ui.specs.Requests.{read_request}
 use Rattle.session_events.specs.declared.event.Entry.{Entry}
 use Rattle.session_events.specs.declared.event.Event.TheVariants.{Join}
 use Rattle.session_events.specs.declared.event.Output.{Output}
-use Rattle.session_events.specs.Entries.{AreOf, others_of, entry_with}
+use Rattle.session_events.specs.Entries.{AreOf, others_of}
 use Rattle.session_events.specs.Legal.{AreLeavings, IsLegal}
 use Rattle.session_events.specs.Meaning.{Gives, rules}
 use Rattle.session_events.specs.Seats.{Seated, IsSameSeat, IsAlone, Steps, Sees}
@@ -25,7 +25,8 @@ use Rattle.session_lines.specs.declared.reading.InputEnd.TheVariants as ending
 use Rattle.session_lines.specs.Session.{protocol}
 use Rattle.session_lines.specs.Stops.{StaysWhole}
 use Rattle.session_lines.specs.Reading.{FaultIs}
-use Rattle.session_lines.specs.Serving.{service}
+use Rattle.session_lines.specs.Serving.{service, HasOnlyCome}
+use Rattle.session_lines.proofs.OpeningLemmas.{came-only}
 use Rattle.session_lines.specs.Connections.{WasServed, EndCauses}
 use Rattle.kak_engine.specs.Steps.{given_by, asked_in, answers_in, AllAsked}
 use Rattle.kak_engine.specs.Honesty.{Outside, IsHonest}
@@ -58,7 +59,7 @@ nothing-ran keys a = record {
     sends = Appends-nil a.outlet.told;
     served = record {
       lines = inl refl;
-      stands = (record { front = []; begins = (Due (protocol keys) (rules given_by) 0 [] [], refl); stands = inl refl }, (Sent (protocol keys) (rules given_by) 0 [] [], refl));
+      stands = (record { front = []; begins = (Due (protocol read_request keys) (rules given_by) 0 [] [], refl); stands = inl refl }, (Sent (protocol read_request keys) (rules given_by) 0 [] [], refl));
     };
     end_is = tt;
   };
@@ -95,21 +96,11 @@ writes-are (Err stop.NoMemory) z before now c = c
 writes-are (Err stop.WriteFault) z before now c = c
 
 -- a client came with whom nothing had happened
-pub own-came : (g : Gives) (x y : Seated) (output : Output) → x.seen ≡ [] → IsSameSeat x y → Steps g x y Join output → own (rules g) y.number y.seen ≡ Join ∷ []
-own-came g x y output none same s =
-    let its : List Entry = entry_with x.number Join s.answers ∷ [] in
-    ap (λ k. own (rules g) k y.seen) same.number
-    ∙ ap (own (rules g) x.number) (s.stands ∙ ap (λ h. h ++ s.between ++ its) none)
-    ∙ own-append (rules g) x.number s.between its
-    ∙ ap (λ es. es ++ own (rules g) x.number its) s.foreign
-    ∙ mine (x.number == x.number) (eq-eqb x.number x.number refl)
-  where
-    mine : (t : Bool) → t ≡ true → (if t then Join ∷ [] else []) ≡ Join ∷ []
-    mine true e = refl
-    mine false e = cc
+pub came-first : (g : Gives) (x y : Seated) (output : Output) → x.seen ≡ [] → IsSameSeat x y → Steps g x y Join output → HasOnlyCome g y output.leaving
+came-first g x y output none same s = came-only g x y output same (ap (own (rules g) x.number) none) s
 
 -- or didn't come
-pub nothing-served : (g : Gives) (keys : List Key) (x y : Seated) (left : Inlet) (before : Outlet) → x.seen ≡ [] → Sees g x y → WasServed false (service g keys) x.number y.seen before before left left (Err stop.NoMemory)
+pub nothing-served : (g : Gives) (keys : List Key) (x y : Seated) (left : Inlet) (before : Outlet) → x.seen ≡ [] → Sees g x y → WasServed false (service g read_request keys) x.number y.seen before before left left (Err stop.NoMemory)
 nothing-served g keys x y left before none s = record {
   bytes = [];
   takes = Consumes-nil left.left;
@@ -120,7 +111,7 @@ nothing-served g keys x y left before none s = record {
   sends = Appends-nil before.told;
   served = record {
     lines = inl refl;
-    stands = (record { front = []; begins = (Due (protocol keys) (rules g) x.number y.seen [], refl); stands = inl nothing }, (Sent (protocol keys) (rules g) x.number y.seen [], refl));
+    stands = (record { front = []; begins = (Due (protocol read_request keys) (rules g) x.number y.seen [], refl); stands = inl nothing }, (Sent (protocol read_request keys) (rules g) x.number y.seen [], refl));
   };
   end_is = tt;
 }
@@ -152,23 +143,23 @@ before history mark first last w = record { behind = w.behind; honest = w.honest
 pub whole : (history : List Entry) (mark : Option ℕ) (first last : Outside) → WasHonest history mark first last → mark ≡ None → IsHonest (answers_in history) (asked_in history) first last
 whole history mark first last w none = subst (λ (o : Outside). IsHonest (answers_in history) (asked_in history) first o) (sym (w.alone none)) w.honest
 
-outside-is : (r : Result InputEnd Stop) (x z : Seated) (first last : Outside) → x.mark ≡ None → StaysWhole r x.mark z.mark → WasHonest z.seen z.mark first last → OutsideIs r z.seen first last
-outside-is (Ok ending) x z first last none s w = whole z.seen z.mark first last w (s none)
-outside-is (Err stop.HistoryFull) x z first last none s w = whole z.seen z.mark first last w (s none)
-outside-is (Err (stop.Broken at)) x z first last none s w = before z.seen z.mark first last w
-outside-is (Err stop.NoMemory) x z first last none s w = before z.seen z.mark first last w
-outside-is (Err stop.WriteFault) x z first last none s w = whole z.seen z.mark first last w (s none)
+pub outside-is : {A : Type 0} (r : Result A Stop) (was mark : Option ℕ) (h : List Entry) (first last : Outside) → was ≡ None → StaysWhole r was mark → WasHonest h mark first last → OutsideIs r h first last
+outside-is (Ok end) was mark h first last none s w = whole h mark first last w (s none)
+outside-is (Err stop.HistoryFull) was mark h first last none s w = whole h mark first last w (s none)
+outside-is (Err (stop.Broken at)) was mark h first last none s w = before h mark first last w
+outside-is (Err stop.NoMemory) was mark h first last none s w = before h mark first last w
+outside-is (Err stop.WriteFault) was mark h first last none s w = whole h mark first last w (s none)
 
 -- client 0 was served
 pub served-ran : (keys : List Key) (r : Result InputEnd Stop) (x z : Seated) (a b : Around) → x.number ≡ 0 → x.limit ≡ MAX_ENTRIES → x.mark ≡ None → IsSameSeat x z → others_of z.number z.seen ≡ [] → IsLegal z.limit z.seen
-    → WasServed false (service given_by keys) x.number z.seen a.outlet b.outlet a.inlet b.inlet r → FaultIs r a.inlet b.inlet → EndCauses r z a.outlet b.outlet → StaysWhole r x.mark z.mark → AllAsked z.seen → WasHonest z.seen z.mark a.outside b.outside → Ran keys r a b
+    → WasServed false (service given_by read_request keys) x.number z.seen a.outlet b.outlet a.inlet b.inlet r → FaultIs r a.inlet b.inlet → EndCauses r z a.outlet b.outlet → StaysWhole r x.mark z.mark → AllAsked z.seen → WasHonest z.seen z.mark a.outside b.outside → Ran keys r a b
 served-ran keys r x z a b first most none same o l s f c w asked honest = record {
   history = z.seen;
   alone = mine;
   legal = subst (λ n. IsLegal n z.seen) (same.limit ∙ most) l;
-  served = subst (λ n. WasServed false (service given_by keys) n z.seen a.outlet b.outlet a.inlet b.inlet r) first s;
+  served = subst (λ n. WasServed false (service given_by read_request keys) n z.seen a.outlet b.outlet a.inlet b.inlet r) first s;
   asked = asked;
-  honest = outside-is r x z a.outside b.outside none w honest;
+  honest = outside-is r x.mark z.mark z.seen a.outside b.outside none w honest;
   full = full-length r z a.outlet b.outlet (same.limit ∙ most) mine l c;
   reads = reads-are r a.inlet b.inlet f;
   writes = writes-are r z a.outlet b.outlet c;

@@ -14,12 +14,13 @@ use Rattle.session_replay.specs.declared.ends.ReplayEnd.{ReplayEnd}
 use Rattle.session_replay.specs.declared.ends.ReplayEnd.TheVariants as ending
 use Rattle.session_replay.specs.Players.{kinds_of}
 use Rattle.session_replay.specs.Replays.{WasReplayed, ReplayFaultIs}
-use Rattle.kak_engine.specs.Honesty.{Outside, IsHonest}
-use Rattle.kak_engine.specs.Steps.{given_by, asked_in, answers_in, AllAsked}
+use Rattle.json_ui.specs.Requests.{read_request}
+use Rattle.session_replay.specs.Settings.{setting}
+use Rattle.kak_engine.specs.Steps.{given_by, AllAsked}
 use Rattle.session_events.specs.declared.limits.TheConstants.{MAX_ENTRIES}
 use Rattle.kak_app.specs.declared.program.Status.{Status}
 use Rattle.kak_app.specs.declared.program.Status.TheVariants.{Done, Usage, ReadFault, WriteFault, NoMemory, HistoryFull, InputFull, BadClient}
-use Rattle.kak_app.specs.Runs.{Around, WasHonestBefore}
+use Rattle.kak_app.specs.Runs.{Around, OutsideIs}
 
 -- whether a word says a kind of user interface
 abbrev pub says_kind : List ℕ → Kind → Bool
@@ -46,13 +47,6 @@ is_replay_call words kinds = is_ui_count (length kinds) (length words) && say_ki
 abbrev pub is_call_for : {B : Type 0} → (B → Shown) → List (List ℕ) → List B → Bool
 is_call_for shown words uis = is_replay_call words (kinds_of shown uis)
 
--- how the outside was left: it was asked for what the whole history says and was honest, or where memory was wanting, as far as
--- to that step
-abbrev pub ReplayedOutside : Result ReplayEnd Stop → List Entry → Outside → Outside → Type 0
-ReplayedOutside (Err stop.NoMemory) history first last = WasHonestBefore history first last
-ReplayedOutside (Err (stop.Broken at)) history first last = WasHonestBefore history first last
-ReplayedOutside _ history first last = IsHonest (answers_in history) (asked_in history) first last
-
 -- Lines were replayed for clients with boxes of these kinds: there is one history that there can be, and what was read, what
 -- stands in it, what its clients were sent, and what was written belong together. In each entry the outside answered what it
 -- was asked for, it was asked for nothing else, and it was honest. By the numbers of their clients these boxes have shown at the
@@ -60,9 +54,9 @@ ReplayedOutside _ history first last = IsHonest (answers_in history) (asked_in h
 pub record Replayed (kinds : List Kind) (boxes : ℕ → Option Shown) (result : Result ReplayEnd Stop) (old new : Around) : Type 0 where
   pub history : List Entry
   pub legal : IsLegal MAX_ENTRIES history
-  pub replayed : WasReplayed given_by MAX_ENTRIES kinds boxes history old.inlet new.inlet old.outlet new.outlet result
+  pub replayed : WasReplayed (setting given_by read_request) MAX_ENTRIES kinds boxes history old.inlet new.inlet old.outlet new.outlet result
   pub asked : AllAsked history
-  pub honest : ReplayedOutside result history old.outside new.outside
+  pub honest : OutsideIs result history old.outside new.outside
   pub fault : ReplayFaultIs result old.inlet new.inlet
 
 -- what each status says

@@ -4,6 +4,7 @@ use Rattle.std.specs.Str.{bytes_eq, chars}
 use Rattle.std.specs.declared.result.Result.{Result}
 use Rattle.kak_ports.specs.Ports.{Inlet, Outlet, Rose}
 use Rattle.key_names.specs.declared.key.Key.{Key}
+use Rattle.json_ui.specs.Requests.{read_request}
 use Rattle.program_words.specs.Files.{is_file_name, edit_keys}
 use Rattle.session_events.specs.declared.event.Entry.{Entry}
 use Rattle.session_events.specs.Entries.{AreOf}
@@ -83,7 +84,7 @@ pub record WasHonestBefore (history : List Entry) (first last : Outside) : Type 
 
 -- how the outside was left: it was asked for what the whole history says and was honest, or where memory was wanting, as far as
 -- to that step
-abbrev pub OutsideIs : Result InputEnd Stop → List Entry → Outside → Outside → Type 0
+abbrev pub OutsideIs : {A : Type 0} → Result A Stop → List Entry → Outside → Outside → Type 0
 OutsideIs (Err stop.NoMemory) history first last = WasHonestBefore history first last
 OutsideIs (Err (stop.Broken at)) history first last = WasHonestBefore history first last
 OutsideIs _ history first last = IsHonest (answers_in history) (asked_in history) first last
@@ -96,7 +97,7 @@ pub record Ran (keys : List Key) (result : Result InputEnd Stop) (old new : Arou
   pub history : List Entry
   pub alone : AreOf 0 history
   pub legal : IsLegal MAX_ENTRIES history
-  pub served : WasServed false (service given_by keys) 0 history old.outlet new.outlet old.inlet new.inlet result
+  pub served : WasServed false (service given_by read_request keys) 0 history old.outlet new.outlet old.inlet new.inlet result
   pub asked : AllAsked history
   pub honest : OutsideIs result history old.outside new.outside
   pub full : IsHistoryFull result history

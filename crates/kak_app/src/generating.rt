@@ -22,14 +22,14 @@ fn play<O: Outside>(
     alloc: Global,
     engine: &mut Engine<O>,
     who: u32,
-    event: Event,
+    event: &Event,
 ) -> Result<(), AllocError>
-    ensures adds { OnOk result (Adds (made_by who event ∷ []) engine.old.history engine.new.history) }
+    ensures adds { OnOk result (Adds (made_by who event.now ∷ []) engine.old.history engine.new.history) }
     ensures stays { OnErr result (engine.new.history ≡ engine.old.history) }
     ensures whole { OnOk result (engine.new.mark ≡ engine.old.mark) }
     ensures honest { StaysHonest engine.old engine.new }
-    ensures here { OnOk result (is_leave event ≡ false → is_here (presence_from who Away engine.new.history) ≡ true) }
-    ensures others { OnOk result (is_leave event ≡ false → AllStay engine.old.history engine.new.history) }
+    ensures here { OnOk result (is_leave event.now ≡ false → is_here (presence_from who Away engine.new.history) ≡ true) }
+    ensures others { OnOk result (is_leave event.now ≡ false → AllStay engine.old.history engine.new.history) }
 {
     match engine.step(alloc, who, event) {
         Ok(_output) => Ok(()),
@@ -50,7 +50,7 @@ fn come_all<O: Outside>(
     ensures here { OnOk result (AreHere clients engine.new.history) }
 {
     for who in 0..clients {
-        play(alloc, engine, who, Event::Join)?;
+        play(alloc, engine, who, &Event::Join)?;
     }
     Ok(())
 }
@@ -72,7 +72,7 @@ fn strike_all<O: Outside>(
     let mut draws = Draws::new(session.seed);
     for _ in 0..session.keys {
         let struck = draws.strike(session.clients);
-        play(alloc, engine, struck.who, Event::Key(struck.key))?;
+        play(alloc, engine, struck.who, &Event::Key(struck.key))?;
     }
     Ok(())
 }
@@ -89,7 +89,7 @@ fn leave_all<O: Outside>(
     ensures honest { StaysHonest engine.old engine.new }
 {
     for who in 0..clients {
-        play(alloc, engine, who, Event::Leave)?;
+        play(alloc, engine, who, &Event::Leave)?;
     }
     Ok(())
 }

@@ -7,12 +7,14 @@ ghost use Rattle.session_events.specs.Seats.{IsSameSeat, IsLegalSeat};
 ghost use Rattle.session_lines.specs.Connections.{WasServed, EndCauses};
 ghost use Rattle.session_lines.specs.Reading.{FaultIs};
 ghost use Rattle.session_lines.specs.Serving.{service};
+ghost use Rattle.json_ui.specs.Requests.{read_request};
 ghost use Rattle.session_lines.specs.Stops.{StaysWhole};
 ghost use Rattle.program_words.specs.GenWords.{gen_words};
 ghost use Rattle.kak_app.specs.Runs.{Around, around_run, Ran, code_of, is_ui_json, is_client_call, keys_at_start, RunAnswers};
 ghost use Rattle.kak_app.specs.Generated.{is_call, CallAnswers};
 
 use crate::generating::generate;
+use json_ui::JsonReader;
 use kak_engine::{EngineSeats, NoEngine, Outside};
 use kak_ports::{Sink, Source};
 use key_names::Key;
@@ -90,7 +92,7 @@ fn opening_keys(alloc: Global, words: &[String]) -> Result<Vec<Key>, AllocError>
     }
 }
 
-// Lets a client come to a session in which nothing has happened, and serves it.
+// Lets a client come to a session in which nothing has happened, and serves it, also where it was let go by its coming.
 fn attend<S: Seat, I: Source, K: Sink>(
     alloc: Global,
     seat: &mut S,
@@ -103,12 +105,12 @@ fn attend<S: Seat, I: Source, K: Sink>(
     ensures kept { S.kept seat.new ≡ S.kept seat.old }
     ensures whole { StaysWhole result (S.seated seat.old).mark (S.seated seat.new).mark }
     ensures legal { IsLegalSeat (S.seated seat.new) }
-    ensures served { WasServed false (service S.gives keys.now) (S.seated seat.old).number (S.seated seat.new).seen (K.outlet output.old) (K.outlet output.new) (I.inlet input.old) (I.inlet input.new) result }
+    ensures served { WasServed false (service S.gives read_request keys.now) (S.seated seat.old).number (S.seated seat.new).seen (K.outlet output.old) (K.outlet output.new) (I.inlet input.old) (I.inlet input.new) result }
     ensures fault { FaultIs result (I.inlet input.old) (I.inlet input.new) }
     ensures cause { EndCauses result (S.seated seat.new) (K.outlet output.old) (K.outlet output.new) }
 {
-    match seat.step(alloc, Event::Join) {
-        Ok(_output) => serve(alloc, seat, input, output, keys),
+    match seat.step(alloc, &Event::Join) {
+        Ok(came) => { serve::<JsonReader, S, I, K>(alloc, seat, input, output, keys, came.leaving) }
         Err(_fault) => Err(Stop::NoMemory),
     }
 }

@@ -2,13 +2,14 @@
 
 ghost use Rattle.std.specs.Prelude.{◌≡◌, ◌≢◌, ◌==◌, [], length, map, string_bytes, true, false, Err};
 ghost use Rattle.std.specs.List.{list_all};
-ghost use Rattle.ui_board.specs.Boards.{shown_at};
+ghost use Rattle.ui_board.specs.Boards.{box_at};
 ghost use Rattle.session_replay.specs.Players.{kinds_of, told_by_all};
 ghost use Rattle.kak_engine.specs.Honesty.{IsUntouched};
 ghost use Rattle.kak_app.specs.Runs.{around_run};
 ghost use Rattle.kak_app.specs.Replays.{says_kind, say_kinds, is_ui_count, is_call_for, ReplayAnswers, StatusSays};
 
 use crate::program::Status;
+use json_ui::JsonReader;
 use kak_engine::{EngineSeats, NoEngine, Outside};
 use kak_ports::{Sink, Source};
 use session_events::MAX_ENTRIES;
@@ -107,19 +108,19 @@ fn replay_status(ended: Result<ReplayEnd, Stop>) -> Status
 /// something before, the answer is `Usage`. The board at which they sit at the end is given back, unless memory was wanting;
 /// where the answer is `Usage` it is empty. The outside is given back as what the history says of it left it: it was asked for
 /// that and for nothing else.
-pub fn replay<I: Source, K: Sink, O: Outside>(
+pub fn replay<I: Source, K: Sink, O: Outside, U: Ui>(
     alloc: Global,
     words: &[String],
     input: &mut I,
     output: &mut K,
     outside: O,
-    uis: Vec<Box<dyn Ui>>,
-) -> (Status, O, Board)
+    uis: Vec<U>,
+) -> (Status, O, Board<U>)
     requires opening { IsUntouched (O.seen outside).shelf.told }
-    ensures refused { is_call_for ⟦<Box<dyn Ui> as Ui>⟧.shown (map (λ word. string_bytes word) words.now) uis.items ≡ false → result.0 ≡ Status.Usage }
-    ensures used { told_by_all ⟦<Box<dyn Ui> as Ui>⟧.shown uis.items ≢ [] → result.0 ≡ Status.Usage }
-    ensures taken { is_call_for ⟦<Box<dyn Ui> as Ui>⟧.shown (map (λ word. string_bytes word) words.now) uis.items ≡ true → told_by_all ⟦<Box<dyn Ui> as Ui>⟧.shown uis.items ≡ [] → result.0 ≡ Status.Usage → ⊥ }
-    ensures answers { ReplayAnswers (kinds_of ⟦<Box<dyn Ui> as Ui>⟧.shown uis.items) (λ who. shown_at ⟦<Box<dyn Ui> as Ui>⟧.shown who result.2.seats.items) result.0 (around_run (I.inlet input.old) (K.outlet output.old) (O.seen outside)) (around_run (I.inlet input.new) (K.outlet output.new) (O.seen result.1)) }
+    ensures refused { is_call_for U.shown (map (λ word. string_bytes word) words.now) uis.items ≡ false → result.0 ≡ Status.Usage }
+    ensures used { told_by_all U.shown uis.items ≢ [] → result.0 ≡ Status.Usage }
+    ensures taken { is_call_for U.shown (map (λ word. string_bytes word) words.now) uis.items ≡ true → told_by_all U.shown uis.items ≡ [] → result.0 ≡ Status.Usage → ⊥ }
+    ensures answers { ReplayAnswers (kinds_of U.shown uis.items) (λ who. box_at U.shown who result.2) result.0 (around_run (I.inlet input.old) (K.outlet output.old) (O.seen outside)) (around_run (I.inlet input.new) (K.outlet output.new) (O.seen result.1)) }
 {
     let boxes = uis.as_slice();
     if !is_replay_call(words, boxes) {
@@ -130,7 +131,9 @@ pub fn replay<I: Source, K: Sink, O: Outside>(
     }
     match EngineSeats::new(alloc, outside, MAX_ENTRIES, 0) {
         Ok(seats) => {
-            let (ended, seats, board) = replay_session(alloc, seats, uis, input, output);
+            let (ended, seats, board) = replay_session::<JsonReader, EngineSeats<O>, U, I, K>(
+                alloc, seats, uis, input, output,
+            );
             (replay_status(ended), seats.into_outside(), board)
         }
         Err(NoEngine { outside }) => (Status::NoMemory, outside, Board::new(alloc)),

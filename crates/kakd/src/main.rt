@@ -3,17 +3,18 @@
 
 mod files;
 mod outside;
+mod ringing;
 
 use crate::outside::ServerOutside;
+use crate::ringing::RingingGate;
 use host_words::{NoWords, words_given};
 use jobs::{ThreadSpawner, begin};
-use line_gates::OpenGate;
 use session_server::{LinkJob, ServerStatus, run_server};
 use std::process::ExitCode;
-use unix_links::{UnixAcceptor, UnixLink};
+use unix_links::{Bell, UnixAcceptor, UnixLink};
 
 // The job of a client.
-type ClientJob = LinkJob<UnixLink, ServerOutside, OpenGate>;
+type ClientJob = LinkJob<UnixLink, ServerOutside, RingingGate>;
 
 fn main(rt: HostRuntime) -> ExitCode {
     let words = match words_given(&rt) {
@@ -22,7 +23,13 @@ fn main(rt: HostRuntime) -> ExitCode {
         Err(NoWords::NoMemory) => return ExitCode::from(ServerStatus::NoMemory.code()),
     };
     let alloc = rt.alloc();
-    let mut acceptor = UnixAcceptor::new(rt, alloc);
+    let Ok(bell) = Bell::new(&rt, alloc) else {
+        return ExitCode::from(ServerStatus::BindFault.code());
+    };
+    let Ok(rung) = bell.clone() else {
+        return ExitCode::from(ServerStatus::NoMemory.code());
+    };
+    let mut acceptor = UnixAcceptor::new(rt, alloc, bell);
     let mut spawner = ThreadSpawner::new(rt, alloc, move |job: ClientJob| begin(rt, alloc, job));
     let (status, _session) = run_server(
         &rt,
@@ -30,7 +37,7 @@ fn main(rt: HostRuntime) -> ExitCode {
         words.as_slice(),
         &mut acceptor,
         &mut spawner,
-        OpenGate,
+        RingingGate::new(rung),
         ServerOutside::new(rt, alloc),
     );
     ExitCode::from(status.code())

@@ -7,10 +7,11 @@ use mathlib.Core.Option.{some, some-injective, some-ne-none}
 use native.Mathlib.Decide.{ℕ_discrete}
 use lib.ListN.{get_elem?}
 use Rattle.atomic_table.proofs.Lists.{at_set, set_else}
+use Rattle.session_turns.specs.Growth.{Begins}
 use Rattle.session_desk.specs.declared.rule.Role.{Role}
 use Rattle.session_desk.specs.declared.rule.Role.TheVariants.{Admits, Plays, Spent}
 use Rattle.session_desk.specs.declared.rule.View.{View}
-use Rattle.session_desk.specs.Histories.{StartsWith, entries_by, AddsOne, Met, MaySetMark, GivenBack, given_number, given_list, HasGiven}
+use Rattle.session_desk.specs.Histories.{entries_by, AddsOne, Met, MaySetMark, GivenBack, given_number, given_list, HasGiven}
 use Rattle.session_desk.specs.Rule.{is_live, pass_weight, pass_count, Facts, Knows, SameOwn, Returned, Holding, SeatFits, IsHeldBy, MayBecome}
 use Rattle.session_desk.proofs.HistoryLemmas.{starts_itself, starts_more, starts_through, starts_same, own_other, own_squeezed}
 
@@ -121,13 +122,13 @@ module _ {E : Type 0} (maker : E → ℕ) where
   same_own_later Spent h h' s later same = tt
 
   -- those given back stand in a longer list too
-  pub returned_seen : (h : List E) (made : ℕ) (seat_of : ℕ → ℕ) (seen seen' : List E) → StartsWith seen' seen → (gs : List (GivenBack E))
+  pub returned_seen : (h : List E) (made : ℕ) (seat_of : ℕ → ℕ) (seen seen' : List E) → Begins seen' seen → (gs : List (GivenBack E))
       → All (Returned maker h made seat_of seen) gs → All (Returned maker h made seat_of seen') gs
   returned_seen h made seat_of seen seen' more gs all = All-weaker (Returned maker h made seat_of seen) (Returned maker h made seat_of seen')
       (λ g x. record { made_before = x.made_before; is_back = x.is_back; begins = starts_through seen' seen (given_list g) more x.begins; own_entries = x.own_entries }) gs all
 
   -- what a list that the keeper may see says of those given back
-  pub has_given : (h l : List E) (made : ℕ) (seat_of : ℕ → ℕ) (seen : List E) → StartsWith h l → StartsWith l seen → (gs : List (GivenBack E))
+  pub has_given : (h l : List E) (made : ℕ) (seat_of : ℕ → ℕ) (seen : List E) → Begins h l → Begins l seen → (gs : List (GivenBack E))
       → All (Returned maker h made seat_of seen) gs → All (HasGiven maker l) gs
   has_given h l made seat_of seen inside more gs all = All-weaker (Returned maker h made seat_of seen) (HasGiven maker l)
       (λ g x. let begins = starts_through l seen (given_list g) more x.begins in
@@ -135,7 +136,7 @@ module _ {E : Type 0} (maker : E → ℕ) where
 
   -- the history after the turn of the pass n, which found h and the mark m
   pub record Grows (n : ℕ) (h h' : List E) (m m' : Option ℕ) : Type 0 where
-    pub begins : StartsWith h' h
+    pub begins : Begins h' h
     pub others : (k : ℕ) → k ≢ n → entries_by maker k h' ≡ entries_by maker k h
     pub mark : (m ≡ m') ⊎ (m ≡ None)
 

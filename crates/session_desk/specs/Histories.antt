@@ -1,9 +1,6 @@
 -- Histories, the entries of one maker, and marks.
 use Rattle.std.specs.Prelude.{◌≡◌, ◌⊎◌, ℕ, ◌==◌, nat_lt, List, [], ◌∷◌, ◌++◌, length, filter, Option, Some, None, if◌then◌else◌}
-
--- a list begins with another
-abbrev pub StartsWith : {E : Type 0} → List E → List E → Type 0
-StartsWith {E} list front = (rest : List E) × (list ≡ front ++ rest)
+use Rattle.session_turns.specs.Growth.{Begins}
 
 -- the longer of two lists; the first where they are equally long
 abbrev pub longer : {E : Type 0} → List E → List E → List E
@@ -47,7 +44,7 @@ given_mark g = g.2
 
 -- a history begins with the list of a pass that was given back, and has no other entry with its number
 pub record HasGiven {E : Type 0} (maker : E → ℕ) (history : List E) (g : GivenBack E) : Type 0 where
-  pub begins : StartsWith history (given_list g)
+  pub begins : Begins history (given_list g)
   pub own_entries : entries_by maker (given_number g) history ≡ entries_by maker (given_number g) (given_list g)
 
 -- a pass that was given back had met this mark or none

@@ -5,10 +5,11 @@ use Rattle.std.specs.Prelude.{◌≡◌, ◌≢◌, ◌⊎◌, ℕ, ◌+◌, ◌
 use mathlib.Core.Option.{some}
 use lib.ListN.{get_elem?}
 use Rattle.atomic_table.specs.Table.{State, Me, Step}
+use Rattle.session_turns.specs.Growth.{Begins}
 use Rattle.session_desk.specs.declared.rule.Role.{Role}
 use Rattle.session_desk.specs.declared.rule.Role.TheVariants.{Admits, Plays, Spent}
 use Rattle.session_desk.specs.declared.rule.View.{View}
-use Rattle.session_desk.specs.Histories.{StartsWith, longer, entries_by, AddsOne, Met, MaySetMark, first_mark, GivenBack, given_number, given_list, HasGiven, HasMet, HasOtherNumber}
+use Rattle.session_desk.specs.Histories.{longer, entries_by, AddsOne, Met, MaySetMark, first_mark, GivenBack, given_number, given_list, HasGiven, HasMet, HasOtherNumber}
 
 -- a keeper's view or a pass's
 abbrev pub is_live : Role → Bool
@@ -65,7 +66,7 @@ Balance Spent given = Unit {0}
 pub record Returned {E : Type 0} (maker : E → ℕ) (history : List E) (made : ℕ) (seat_of : ℕ → ℕ) (seen : List E) (g : GivenBack E) : Type 0 where
   pub made_before : given_number g < made
   pub is_back : seat_of (given_number g) ≡ 0
-  pub begins : StartsWith seen (given_list g)
+  pub begins : Begins seen (given_list g)
   pub own_entries : entries_by maker (given_number g) history ≡ entries_by maker (given_number g) (given_list g)
 
 -- the view of the seat that has the turn
@@ -77,7 +78,7 @@ pub record Holding {E F : Type 0} (d : Facts E) (seat : ℕ) (v : View E F) : Ty
 
 -- what one seat's view says
 pub record SeatFits {E F : Type 0} (maker : E → ℕ) (frame : F) (d : Facts E) (seat : ℕ) (v : View E F) : Type 0 where
-  pub begins : StartsWith d.history v.seen
+  pub begins : Begins d.history v.seen
   pub framed : is_live v.role ≡ true → v.frame ≡ Some frame
   pub met : Met v.mark d.mark
   pub live : v.holds ≡ true → is_live v.role ≡ true
@@ -88,7 +89,7 @@ pub record SeatFits {E F : Type 0} (maker : E → ℕ) (frame : F) (d : Facts E)
   pub differ : AllPairs HasOtherNumber v.given
   pub returned : All (Returned maker d.history d.made d.seat_of v.seen) v.given
   pub marks : All (HasMet v.mark) v.given
-  pub earlier : StartsWith v.seen v.earlier
+  pub earlier : Begins v.seen v.earlier
 
 -- the object is at home, and stands for the history and the mark
 pub record AtHome {O E F : Type 0} (entries : O → List E) (marked : O → Option ℕ) (frame_of : O → F) (frame : F) (d : Facts E)
@@ -176,7 +177,7 @@ pub record IsSeatReady {O E F : Type 0} (role : Role) (me : Sat O E F) : Type 0 
 
 -- the object as the seat with the view v found it, which stands for all of the history
 pub record Found {O E F : Type 0} (entries : O → List E) (maker : E → ℕ) (marked : O → Option ℕ) (frame_of : O → F) (v : View E F) (o : O) : Type 0 where
-  pub begins : StartsWith (entries o) v.seen
+  pub begins : Begins (entries o) v.seen
   pub met : Met v.mark (marked o)
   pub framed : v.frame ≡ Some (frame_of o)
   pub same_own : SameOwn maker v.role (entries o) v.seen
@@ -220,7 +221,7 @@ module _ {O E F : Type 0} (entries : O → List E) (maker : E → ℕ) (marked :
 pub record Looks {E F : Type 0} (maker : E → ℕ) (v : View E F) (found : ℕ) (w : View E F) : Type 0 where
   pub view : w ≡ seeing false w.seen w.mark v
   pub word : found ≡ length_word (length w.seen) w.mark
-  pub begins : StartsWith w.seen v.seen
+  pub begins : Begins w.seen v.seen
   pub met : Met v.mark w.mark
   pub same_own : SameOwn maker v.role w.seen v.seen
 
@@ -234,7 +235,7 @@ pub record ViewTells {E F : Type 0} (maker : E → ℕ) (v : View E F) : Type 0 
   pub differ : AllPairs HasOtherNumber v.given
   pub given : All (HasGiven maker v.seen) v.given
   pub marks : All (HasMet v.mark) v.given
-  pub earlier : StartsWith v.seen v.earlier
+  pub earlier : Begins v.seen v.earlier
 
 -- a load of the turn by the keeper, after a join
 abbrev pub tells : {O E F : Type 0} → (E → ℕ) → Step (Option O) → Sat O E F → ℕ → Sat O E F → Type 0

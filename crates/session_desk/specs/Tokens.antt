@@ -1,7 +1,8 @@
 -- What contracts see of a desk, a pass and a keeper, and what a call does to them.
 use Rattle.std.specs.Prelude.{◌≡◌, ℕ, ◌<◌, List, [], ◌∷◌, ◌++◌, All, Option, Some, None, Result, Ok, Err}
 use Rattle.atomic_table.specs.Seated.{TableId}
-use Rattle.session_desk.specs.Histories.{StartsWith, entries_by, Met, MaySetMark, GivenBack, HasGiven, HasMet}
+use Rattle.session_turns.specs.Growth.{Begins}
+use Rattle.session_desk.specs.Histories.{entries_by, Met, MaySetMark, GivenBack, HasGiven, HasMet}
 
 -- which desk it is, and the frame of its object
 pub record Home (F : Type 0) : Type 0 where
@@ -46,7 +47,7 @@ pub record IsSameKeeper {E F : Type 0} (before after : KeeperView E F) : Type 0 
 
 -- a pass has seen more of the history: it has no new entry of its own, and keeps its mark or met one
 pub record SeesMore {E F : Type 0} (maker : E → ℕ) (before after : PassView E F) : Type 0 where
-  pub begins : StartsWith after.seen before.seen
+  pub begins : Begins after.seen before.seen
   pub own_entries : entries_by maker before.number after.seen ≡ entries_by maker before.number before.seen
   pub mark : Met before.mark after.mark
 
@@ -79,7 +80,7 @@ pub record PassRefuses {E F M R X : Type 0} (maker : E → ℕ)
 -- the history of a closed desk: it begins with all that the keeper saw, has under each number given back just the entries of that
 -- pass, and has no entry of a number that was not admitted; the mark is the one that the keeper or a pass had met
 pub record Closes {E F : Type 0} (maker : E → ℕ) (keeper : KeeperView E F) (history : List E) (marked : Option ℕ) : Type 0 where
-  pub begins : StartsWith history keeper.seen
+  pub begins : Begins history keeper.seen
   pub given : All (HasGiven maker history) keeper.given
   pub marks : All (HasMet marked) keeper.given
   pub numbers : All (λ e. maker e < keeper.made) history
@@ -87,7 +88,7 @@ pub record Closes {E F : Type 0} (maker : E → ℕ) (keeper : KeeperView E F) (
 
 -- a keeper has seen more of the history, in which those given back have no new entry, and keeps its mark or met one; so did they
 pub record SeesMoreOf {E F : Type 0} (maker : E → ℕ) (before after : KeeperView E F) : Type 0 where
-  pub begins : StartsWith after.seen before.seen
+  pub begins : Begins after.seen before.seen
   pub given : All (HasGiven maker after.seen) before.given
   pub marks : All (HasMet after.mark) before.given
   pub mark : Met before.mark after.mark

@@ -1,6 +1,7 @@
 //! The desk and its calls.
 ghost use Rattle.std.specs.Prelude.{◌≡◌, ◌↔◌, ◌+◌, ◌<◌, ◌≤◌, ◌++◌, [], ◌∷◌, length, All, AllPairs, Some, None, IsOk, IfOk, IfErr};
-ghost use Rattle.session_desk.specs.Histories.{StartsWith, longer, first_mark, HasGiven, HasMet, HasOtherNumber};
+ghost use Rattle.session_turns.specs.Growth.{Begins};
+ghost use Rattle.session_desk.specs.Histories.{longer, first_mark, HasGiven, HasMet, HasOtherNumber};
 ghost use Rattle.session_desk.specs.Tokens.{IsOf, IsSamePass, IsSameKeeper, SeesMore, SeesMoreOf, PassAdds, PassRefuses, Closes};
 
 use crate::played::Played;
@@ -81,12 +82,12 @@ impl<O: Played> Desk<O> {
         rt: &R,
         alloc: Global,
         pass: &mut Pass<O>,
-        mv: O::Move,
+        mv: &O::Move,
     ) -> Result<O::Reply, O::Fault>
         requires own { IsOf pass.old.place self.now }
         ensures same { IsSamePass pass.old pass.new }
-        ensures ok { IfOk result (λ reply. PassAdds O.maker (O.answers self.now.frame) pass.old pass.new mv reply) }
-        ensures fault { IfErr result (λ fault. PassRefuses O.maker (O.answers self.now.frame) pass.old pass.new mv fault) }
+        ensures ok { IfOk result (λ reply. PassAdds O.maker (O.answers self.now.frame) pass.old pass.new mv.now reply) }
+        ensures fault { IfErr result (λ fault. PassRefuses O.maker (O.answers self.now.frame) pass.old pass.new mv.now fault) }
     {
         let shared = &self.table.shared;
         let mut object = take_turn(rt, shared, &mut pass.seat);
@@ -150,7 +151,7 @@ impl<O: Played> Desk<O> {
         ensures made { keeper.new.made ≡ keeper.old.made }
         ensures given { keeper.new.given ≡ keeper.old.given ++ (pass.number, pass.seen, pass.mark) ∷ [] }
         ensures seen { keeper.new.seen ≡ longer keeper.old.seen pass.seen }
-        ensures begins { StartsWith keeper.new.seen keeper.old.seen }
+        ensures begins { Begins keeper.new.seen keeper.old.seen }
         ensures mark { keeper.new.mark ≡ first_mark keeper.old.mark pass.mark }
         ensures own_entries { All (HasGiven O.maker keeper.new.seen) keeper.new.given }
         ensures marks { All (HasMet keeper.new.mark) keeper.new.given }

@@ -41,9 +41,9 @@ pub trait Played: Drop {
     ghost shows: { Self.Frame → List Self.Entry → Option ℕ → ℕ → Self.Glimpse → Type 0 };
 
     /// Plays a move as `who`. At Ok one entry of `who` was added; at Err none, and a mark that was None may be set to the number of entries.
-    fn play(&mut self, alloc: Global, who: u32, mv: Self::Move) -> Result<Self::Reply, Self::Fault>
+    fn play(&mut self, alloc: Global, who: u32, mv: &Self::Move) -> Result<Self::Reply, Self::Fault>
         ensures frame { frame self.new ≡ frame self.old }
-        ensures answer { answers (frame self.old) (entries self.old) (marked self.old) who mv result (entries self.new) (marked self.new) }
+        ensures answer { answers (frame self.old) (entries self.old) (marked self.old) who mv.now result (entries self.new) (marked self.new) }
         ensures ok { OnOk result (AddsOne maker who (entries self.old) (entries self.new)) }
         ensures unmarked { OnOk result ((marked self.old ≡ None) × (marked self.new ≡ None)) }
         ensures err { OnErr result (entries self.new ≡ entries self.old) }

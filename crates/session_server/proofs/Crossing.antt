@@ -14,6 +14,7 @@ use Rattle.atomic_table.specs.contracts.send_lease.SendLease as SendLease
 use Rattle.atomic_table.proofs.Rights.{right_send}
 use Rattle.atomic_table.proofs.Sent.{seat_keyless, owns_keyless, shares_keyless}
 use Rattle.buffer_store.specs.contracts.buffer.Buffer as Store
+use Rattle.list_shelf.specs.contracts.shelf.Shelf as Shelf
 use Rattle.kak_engine.specs.contracts.trace.Trace as Trace
 use Rattle.kak_world.specs.contracts.buffer.WorldBuffer as Buffer
 use Rattle.kak_world.specs.contracts.clients.Clients as Clients
@@ -40,8 +41,11 @@ lease_sync T = record { shared = λ d b o ν q. part_keyless (SendLease.the_row 
 store_send : IsSend Store.the_row
 store_send = search (sendable, std_crosses) depth 60 fits 20000
 
+shelf_send : IsSend Shelf.the_row
+shelf_send = search (sendable, std_crosses) depth 60 fits 20000
+
 buffer_send : IsSend Buffer.the_row
-buffer_send = search (sendable, std_crosses, store_send) depth 60 fits 20000
+buffer_send = search (sendable, std_crosses, store_send, shelf_send) depth 60 fits 20000
 
 clients_send : IsSend Clients.the_row
 clients_send = search (sendable, std_crosses) depth 60 fits 20000

@@ -2,10 +2,11 @@
 use Rattle.std.proofs.Common.{◌≡◌, ◌≢◌, ⊎_elim, ◌<◌, ◌+◌, ℕ, suc, Bool, true, false, List, [], ◌∷◌, ◌++◌, length, map, All, Option, Some, None, IfSome, Err, refl, sym, ap, ◌∙◌, subst, arith, append_assoc, length-append, if◌then◌else◌, ◌==◌, eq-eqb}
 use Rattle.std.specs.Prelude.{IsSome}
 use Rattle.std.proofs.lemmas.List.Elements.{All-nil, All-cons, All-head, All-tail}
+use Rattle.session_turns.specs.Growth.{Begins}
 use Rattle.client_links.specs.Wires.{Wire, IsFresh}
 use Rattle.client_links.specs.Doors.{Door, counted_on, led_by, IsNextOf, NoneIsToCome}
 use Rattle.jobs.specs.Meets.{Meet}
-use Rattle.session_desk.specs.Histories.{entries_by as own_entries, StartsWith, GivenBack, HasGiven, HasMet, Met, first_mark}
+use Rattle.session_desk.specs.Histories.{entries_by as own_entries, GivenBack, HasGiven, HasMet, Met, first_mark}
 use Rattle.session_desk.specs.Tokens.{Home, DeskPlace, IsOf, PassView, KeeperView, Closes}
 use Rattle.session_desk.proofs.HistoryLemmas.{none_between, own_beyond, starts_through}
 use Rattle.session_turns.specs.Histories.{own}
@@ -16,10 +17,10 @@ use Rattle.link_lines.specs.declared.ended.Ended.{Ended}
 use Rattle.kak_engine.specs.Steps.{given_by}
 use Rattle.engine_desk.specs.Sharing.{Frame, Shared, frame_of}
 use Rattle.session_server.specs.Rows.{ServedRow, IsLinkReady, ServesLink}
-use Rattle.session_server.specs.declared.session.Served.{Served}
-use Rattle.session_server.specs.declared.session.Served.TheVariants.{Ended as AllLeft, AcceptFault, SpawnFault, Broken, LinksFull, NoMemory}
-use Rattle.session_server.specs.Sessions.{RowsFrom, CameInOrder, SessionStands, SessionCausedBy, NoneWaits}
-use Rattle.session_server.specs.Hosting.{HostView, IsHosting, LooksIn, keeper_pass, JobView, Admits, IsLinkRefused, IsHandedBack, IsAdmitted, Admitted, StopsHostingFor, noted, serving_end, passes_back, KeepsMark}
+use Rattle.session_server.specs.declared.status.ServerStatus.{ServerStatus}
+use Rattle.session_server.specs.declared.status.ServerStatus.TheVariants.{Ended as AllLeft, Usage, AcceptFault, SpawnFault, Broken, LinksFull, BindFault, NoMemory}
+use Rattle.session_server.specs.Sessions.{RowsFrom, CameInOrder, SessionStands, SessionCausedBy, NoneWaits, IfServed}
+use Rattle.session_server.specs.Hosting.{HostView, IsHosting, LooksIn, keeper_pass, JobView, Admits, IsLinkRefused, IsHandedBack, IsAdmitted, Admitted, StopsHostingFor, IsUnused, noted, serving_end, passes_back, KeepsMark}
 use Rattle.session_server.proofs.GoneLemmas.{stays-away}
 
 -- the file that the next client opens: the one that was named, until somebody was let in
@@ -52,38 +53,46 @@ led-one links link before None (Some rest) e next = absurd next
 led-one links link before (Some left) None e next = absurd next
 
 -- and it wasn't let in, or nobody could be made to serve it
-pub refused-order : (host : HostView) (why : Served) (links : List Wire) (link : Wire) (before mid now : Option (List Wire)) → IsLinkRefused host why → before ≡ led_by links mid → IsNextOf link mid now → CameInOrder why links before now
+pub refused-order : (host : HostView) (why : ServerStatus) (links : List Wire) (link : Wire) (before mid now : Option (List Wire)) → IsLinkRefused host why → before ≡ led_by links mid → IsNextOf link mid now → CameInOrder why links before now
 refused-order host LinksFull links link before mid now h e next = (link, led-one links link before mid now e next)
 refused-order host NoMemory links link before mid now h e next = (link, led-one links link before mid now e next)
 refused-order host AllLeft links link before mid now h e next = absurd h
 refused-order host AcceptFault links link before mid now h e next = absurd h
 refused-order host SpawnFault links link before mid now h e next = absurd h
 refused-order host (Broken at) links link before mid now h e next = absurd h
+refused-order host Usage links link before mid now h e next = absurd h
+refused-order host BindFault links link before mid now h e next = absurd h
 
-pub handed-order : (why : Served) (links : List Wire) (link : Wire) (before mid now : Option (List Wire)) → IsHandedBack why → before ≡ led_by links mid → IsNextOf link mid now → CameInOrder why links before now
+pub handed-order : (why : ServerStatus) (links : List Wire) (link : Wire) (before mid now : Option (List Wire)) → IsHandedBack why → before ≡ led_by links mid → IsNextOf link mid now → CameInOrder why links before now
 handed-order SpawnFault links link before mid now h e next = (link, led-one links link before mid now e next)
 handed-order NoMemory links link before mid now h e next = (link, led-one links link before mid now e next)
 handed-order AllLeft links link before mid now h e next = absurd h
 handed-order AcceptFault links link before mid now h e next = absurd h
 handed-order LinksFull links link before mid now h e next = absurd h
 handed-order (Broken at) links link before mid now h e next = absurd h
+handed-order Usage links link before mid now h e next = absurd h
+handed-order BindFault links link before mid now h e next = absurd h
 
 -- where a look told that the session is over or broken, none came behind the others, and none waits
-pub idle-order : (why : Served) (seen : List Entry) (mark : Option ℕ) (links : List Wire) (before mid now : Option (List Wire)) → LooksIn (Err why) seen mark → before ≡ led_by links mid → now ≡ mid → CameInOrder why links before now
+pub idle-order : (why : ServerStatus) (seen : List Entry) (mark : Option ℕ) (links : List Wire) (before mid now : Option (List Wire)) → LooksIn (Err why) seen mark → before ≡ led_by links mid → now ≡ mid → CameInOrder why links before now
 idle-order AllLeft seen mark links before mid now l e same = e ∙ ap (λ q. led_by links q) (sym same)
 idle-order (Broken at) seen mark links before mid now l e same = e ∙ ap (λ q. led_by links q) (sym same)
 idle-order AcceptFault seen mark links before mid now l e same = absurd l
 idle-order SpawnFault seen mark links before mid now l e same = absurd l
 idle-order LinksFull seen mark links before mid now l e same = absurd l
 idle-order NoMemory seen mark links before mid now l e same = absurd l
+idle-order Usage seen mark links before mid now l e same = absurd l
+idle-order BindFault seen mark links before mid now l e same = absurd l
 
-pub idle-waits : (why : Served) (seen : List Entry) (mark : Option ℕ) (first old new : Door) → LooksIn (Err why) seen mark → old.listens ≡ first.listens → (IsSome old.listens → NoneIsToCome old) → new.to_come ≡ old.to_come → IsSome first.listens → NoneWaits why new
+pub idle-waits : (why : ServerStatus) (seen : List Entry) (mark : Option ℕ) (first old new : Door) → LooksIn (Err why) seen mark → old.listens ≡ first.listens → (IsSome old.listens → NoneIsToCome old) → new.to_come ≡ old.to_come → IsSome first.listens → NoneWaits why new
 idle-waits AllLeft seen mark first old new l e none same some = subst (λ (q : Option (List Wire)). IfSome q (λ links. links ≡ [])) (sym same) (none (subst (λ (q : Option (List ℕ)). IsSome q) (sym e) some))
 idle-waits (Broken at) seen mark first old new l e none same some = subst (λ (q : Option (List Wire)). IfSome q (λ links. links ≡ [])) (sym same) (none (subst (λ (q : Option (List ℕ)). IsSome q) (sym e) some))
 idle-waits AcceptFault seen mark first old new l e none same some = absurd l
 idle-waits SpawnFault seen mark first old new l e none same some = absurd l
 idle-waits LinksFull seen mark first old new l e none same some = absurd l
 idle-waits NoMemory seen mark first old new l e none same some = absurd l
+idle-waits Usage seen mark first old new l e none same some = absurd l
+idle-waits BindFault seen mark first old new l e none same some = absurd l
 
 -- what stands for one more
 pub map-one : {X Y : Type 0} (f : X → Y) (xs : List X) (x : X) → map f (xs ++ x ∷ []) ≡ map f xs ++ f x ∷ []
@@ -209,10 +218,6 @@ module _ {J S : Type 0} (view : J → JobView) (came : J → Wire) (closed : S �
   rows-of history mark who file [] (r ∷ results) met all given marks = absurd met
   rows-of history mark who file (j ∷ jobs) [] met all given marks = absurd met
 
--- a pass that came back unused is the next one
-abbrev pub IsUnused : DeskPlace Frame → ℕ → PassView Entry Frame → Type 0
-IsUnused place count pass = (pass.place ≡ place) × (pass.number ≡ count) × (own_entries whose pass.number pass.seen ≡ [])
-
 -- nobody is in a history but those whose links were served
 numbers-below : (place : DeskPlace Frame) (history : List Entry) (made count : ℕ) (back : Option (PassView Entry Frame)) → made ≡ count + length (passes_back back) → IfSome back (IsUnused place count) → All (HasGiven whose history) (passes_back back) → All (λ e. whose e < made) history → All (λ e. whose e < count) history
 numbers-below place history made count None e unused given all = let same : made ≡ count = omega arith in subst (λ n. All (λ e. whose e < n) history) same all
@@ -224,7 +229,7 @@ numbers-below place history made count (Some pass) e unused given all =
 
 module _ {J S : Type 0} (view : J → JobView) (came : J → Wire) (closed : S → Wire) (home : Home Frame) (place : DeskPlace Frame) where
   -- what stands of a session whose passes are all back
-  pub session-stands : (file : Option (List ℕ)) (jobs : List J) (results : List (Ended × PassView Entry Frame × S)) (back : Option (PassView Entry Frame)) (keeper : KeeperView Entry Frame) (ends : List (Ended × S)) (shared : Shared) (frame : Frame) (before now : Option (List Wire)) (why : Served)
+  pub session-stands : (file : Option (List ℕ)) (jobs : List J) (results : List (Ended × PassView Entry Frame × S)) (back : Option (PassView Entry Frame)) (keeper : KeeperView Entry Frame) (ends : List (Ended × S)) (shared : Shared) (frame : Frame) (before now : Option (List Wire)) (why : ServerStatus)
       → CameInOrder why (map came jobs) before now → frame_of shared ≡ frame → home.frame ≡ frame → Meet (GivesOf view came closed home place) jobs results → Admitted view home place 0 file jobs
       → keeper.given ≡ map noted results ++ passes_back back → keeper.made ≡ length jobs + length (passes_back back) → IfSome back (IsUnused place (length jobs))
       → Closes whose keeper shared.engine.history shared.engine.mark → ends ≡ map serving_end results
@@ -290,7 +295,7 @@ mark-kept at a b c d is first second met =
     kept None y at is k = cc
 
 -- why a session ended, by the engine that is left
-pub caused-by : (why : Served) (shared : Shared) (first second third : List Entry) (a b c : Option ℕ) (jobs count : ℕ) → StopsHostingFor why first a jobs → StartsWith second first → StartsWith third second → StartsWith shared.engine.history third → KeepsMark a b → KeepsMark b c → Met c shared.engine.mark → count ≡ jobs
+pub caused-by : (why : ServerStatus) (shared : Shared) (first second third : List Entry) (a b c : Option ℕ) (jobs count : ℕ) → StopsHostingFor why first a jobs → Begins second first → Begins third second → Begins shared.engine.history third → KeepsMark a b → KeepsMark b c → Met c shared.engine.mark → count ≡ jobs
     → IsLegal shared.engine.limit shared.engine.history → SessionCausedBy why count shared
 caused-by AllLeft shared first second third a b c jobs count stops one two three m k met same legal =
     let begins = starts_through shared.engine.history second first (starts_through shared.engine.history third second three two) one in
@@ -300,3 +305,17 @@ caused-by LinksFull shared first second third a b c jobs count stops one two thr
 caused-by AcceptFault shared first second third a b c jobs count stops one two three m k met same legal = tt
 caused-by SpawnFault shared first second third a b c jobs count stops one two three m k met same legal = tt
 caused-by NoMemory shared first second third a b c jobs count stops one two three m k met same legal = tt
+caused-by Usage shared first second third a b c jobs count stops one two three m k met same legal = absurd stops
+caused-by BindFault shared first second third a b c jobs count stops one two three m k met same legal = absurd stops
+
+-- and it is never its words that were at fault where a session was served
+pub never-usage : (why : ServerStatus) (engine : Option Shared) (count : ℕ) → IfServed why (IsSome engine) → IfSome engine (SessionCausedBy why count) → why ≡ Usage → ⊥
+never-usage Usage (Some shared) count given caused e = caused
+never-usage Usage None count given caused e = cc
+never-usage AllLeft engine count given caused e = cc
+never-usage AcceptFault engine count given caused e = cc
+never-usage SpawnFault engine count given caused e = cc
+never-usage (Broken at) engine count given caused e = cc
+never-usage LinksFull engine count given caused e = cc
+never-usage BindFault engine count given caused e = cc
+never-usage NoMemory engine count given caused e = cc

@@ -3,11 +3,10 @@ use Rattle.std.specs.Prelude.{◌≡◌, true, List, [], ◌∷◌, ◌++◌, So
 use Rattle.session_events.specs.declared.event.Event.TheVariants.{Join, Refresh, Leave}
 use Rattle.session_events.specs.declared.event.Entry.{Entry}
 use Rattle.session_events.specs.Entries.{entry_of}
-use Rattle.session_server.specs.declared.session.Served.TheVariants.{Ended, AcceptFault, SpawnFault, Broken, LinksFull}
-use Rattle.session_server.specs.declared.run.ServerStatus.TheVariants as status
+use Rattle.session_server.specs.declared.status.ServerStatus.TheVariants.{Ended, Usage, AcceptFault, SpawnFault, Broken, LinksFull, BindFault}
 use Rattle.session_server.specs.Sessions.{AllWent, WasDeserted, lost, AcceptsFor, SpawnsFor}
 use Rattle.session_server.specs.Hosting.{LooksIn}
-use Rattle.session_server.specs.Running.{server_code, status_of}
+use Rattle.session_server.specs.Running.{server_code}
 
 abbrev pub came : List Entry
 came = entry_of 0 Join ∷ entry_of 0 (Refresh true) ∷ []
@@ -44,8 +43,8 @@ pub record Examples : Type 0 where
   pub spawning : SpawnsFor SpawnFault 0 1
   pub spawned : SpawnsFor LinksFull 0 1 → ⊥
   -- the statuses
-  pub ended : server_code (status_of Ended) ≡ 0
-  pub broke : server_code (status_of (Broken 3)) ≡ 5
-  pub full : server_code (status_of LinksFull) ≡ 6
-  pub usage : server_code status.Usage ≡ 1
-  pub unbound : server_code status.BindFault ≡ 7
+  pub ended : server_code Ended ≡ 0
+  pub broke : server_code (Broken 3) ≡ 5
+  pub full : server_code LinksFull ≡ 6
+  pub usage : server_code Usage ≡ 1
+  pub unbound : server_code BindFault ≡ 7

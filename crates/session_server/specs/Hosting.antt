@@ -1,14 +1,14 @@
 -- How the clients of a session are let in, and how their passes come back.
 use Rattle.std.specs.Prelude.{◌≡◌, ℕ, ◌+◌, ◌<◌, ◌≤◌, List, [], ◌∷◌, All, ⊤, Option, None, Some, Ok, Err}
 use Rattle.std.specs.declared.result.Result.{Result}
-use Rattle.session_desk.specs.Histories.{GivenBack}
+use Rattle.session_desk.specs.Histories.{GivenBack, entries_by}
 use Rattle.session_desk.specs.Tokens.{Home, DeskPlace, IsOf, PassView, KeeperView}
 use Rattle.session_events.specs.declared.event.Entry.{Entry}
 use Rattle.link_lines.specs.declared.ended.Ended.{Ended}
 use Rattle.session_events.specs.Counting.{joined_among, comings}
 use Rattle.engine_desk.specs.Sharing.{Frame}
-use Rattle.session_server.specs.declared.session.Served.{Served}
-use Rattle.session_server.specs.declared.session.Served.TheVariants.{Ended as AllLeft, SpawnFault, Broken, LinksFull, NoMemory}
+use Rattle.session_server.specs.declared.status.ServerStatus.{ServerStatus}
+use Rattle.session_server.specs.declared.status.ServerStatus.TheVariants.{Ended as AllLeft, Usage, SpawnFault, Broken, LinksFull, BindFault, NoMemory}
 use Rattle.session_server.specs.declared.host.TheConstants.{MAX_LINKS}
 use Rattle.session_server.specs.Sessions.{AllWent}
 
@@ -33,7 +33,7 @@ pub record IsNewHost (frame : Frame) (file : Option (List ℕ)) (host : HostView
   pub file_is : host.file ≡ file
 
 -- a look told why nobody is let in any more; or a client is here, or none has come, and the session isn't broken
-abbrev pub LooksIn : Result Unit Served → List Entry → Option ℕ → Type 0
+abbrev pub LooksIn : Result Unit ServerStatus → List Entry → Option ℕ → Type 0
 LooksIn (Ok _) seen mark = mark ≡ None × (0 < comings seen → 0 < joined_among seen)
 LooksIn (Err AllLeft) seen mark = AllWent seen
 LooksIn (Err (Broken at)) seen mark = mark ≡ Some at
@@ -61,13 +61,13 @@ pub record Admits (old new : HostView) (job : JobView) : Type 0 where
   pub job_is : job ≡ job_view old.home (keeper_pass old.keeper) old.file
 
 -- why a client wasn't let in: as many are let in as may be, or memory was wanting
-abbrev pub IsLinkRefused : HostView → Served → Type 0
+abbrev pub IsLinkRefused : HostView → ServerStatus → Type 0
 IsLinkRefused host LinksFull = host.keeper.made ≡ MAX_LINKS
 IsLinkRefused host NoMemory = ⊤
 IsLinkRefused host _ = ⊥
 
 -- a job was handed back, for a fault or for want of memory
-abbrev pub IsHandedBack : Served → Type 0
+abbrev pub IsHandedBack : ServerStatus → Type 0
 IsHandedBack SpawnFault = ⊤
 IsHandedBack NoMemory = ⊤
 IsHandedBack _ = ⊥
@@ -84,11 +84,13 @@ abbrev pub Admitted : {J : Type 0} → (J → JobView) → Home Frame → DeskPl
 Admitted view home place who file [] = ⊤
 Admitted view home place who file (job ∷ jobs) = IsAdmitted home place who file (view job) × Admitted view home place (who + 1) None jobs
 
--- why no further link is received, where so many are served
-abbrev pub StopsHostingFor : Served → List Entry → Option ℕ → ℕ → Type 0
+-- why no further link is received, where so many are served; the words and listening aren't at fault
+abbrev pub StopsHostingFor : ServerStatus → List Entry → Option ℕ → ℕ → Type 0
 StopsHostingFor AllLeft seen mark count = AllWent seen
 StopsHostingFor (Broken at) seen mark count = mark ≡ Some at
 StopsHostingFor LinksFull seen mark count = count ≡ MAX_LINKS
+StopsHostingFor Usage seen mark count = ⊥
+StopsHostingFor BindFault seen mark count = ⊥
 StopsHostingFor _ seen mark count = ⊤
 
 -- the pass of a link that was served, as a keeper notes it
@@ -103,6 +105,10 @@ serving_end result = (result.0, result.2)
 abbrev pub passes_back : Option (PassView Entry Frame) → List (GivenBack Entry)
 passes_back (Some pass) = (pass.number, pass.seen, pass.mark) ∷ []
 passes_back None = []
+
+-- a pass of that desk's place wasn't used: its number is the next one behind so many, and it has no entry
+abbrev pub IsUnused : DeskPlace Frame → ℕ → PassView Entry Frame → Type 0
+IsUnused place count pass = (pass.place ≡ place) × (pass.number ≡ count) × (entries_by (λ entry. entry.who) pass.number pass.seen ≡ [])
 
 -- a mark that was met stays
 abbrev pub KeepsMark : Option ℕ → Option ℕ → Type 0

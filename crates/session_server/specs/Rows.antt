@@ -3,13 +3,15 @@ use Rattle.std.specs.Prelude.{◌≡◌, ℕ, List, [], Option, Some, None}
 use Rattle.std.specs.Str.{chars}
 use Rattle.key_names.specs.declared.key.Key.{Key}
 use Rattle.program_words.specs.Files.{edit_keys}
+use Rattle.session_turns.specs.Growth.{Begins}
 use Rattle.client_links.specs.Wires.{Wire, IsFresh, TellsNoMore}
-use Rattle.session_desk.specs.Histories.{StartsWith, Met}
+use Rattle.session_desk.specs.Histories.{Met}
 use Rattle.session_desk.specs.Tokens.{Home, PassView, IsOf, IsSamePass}
 use Rattle.session_turns.specs.Histories.{own}
 use Rattle.session_events.specs.declared.event.Entry.{Entry}
 use Rattle.session_events.specs.Meaning.{rules}
 use Rattle.session_events.specs.Seats.{Seated}
+use Rattle.json_ui.specs.Requests.{read_request}
 use Rattle.session_lines.specs.Serving.{service}
 use Rattle.link_lines.specs.declared.ended.Ended.{Ended}
 use Rattle.link_lines.specs.Drawings.{DrawsOnlyMissed}
@@ -31,7 +33,7 @@ seat_by limit who seen mark = record { number = who; limit = limit; mark = mark;
 -- went over the link, from its coming to what is left of it.
 pub record ServedLink (limit : ℕ) (file : Option (List ℕ)) (who : ℕ) (seen : List Entry) (mark : Option ℕ) (ended : Ended) (came closed : Wire) : Type 0 where
   pub no_more : TellsNoMore came closed
-  pub served : WasServedOver (service given_by (opening_keys file)) who seen came closed ended
+  pub served : WasServedOver (service given_by read_request (opening_keys file)) who seen came closed ended
   pub left : HasLeftAt given_by ended who seen
   pub drawn : DrawsOnlyMissed who seen
   pub cause : EndsFor given_by crowded_by ended (seat_by limit who seen mark) came closed
@@ -41,7 +43,7 @@ pub record ServedLink (limit : ℕ) (file : Option (List ℕ)) (who : ℕ) (seen
 pub record ServedRow (limit : ℕ) (file : Option (List ℕ)) (who : ℕ) (history : List Entry) (mark : Option ℕ) (ended : Ended) (came closed : Wire) : Type 0 where
   pub front : List Entry
   pub met : Option ℕ
-  pub begins : StartsWith history front
+  pub begins : Begins history front
   pub alone : own (rules given_by) who begins.0 ≡ []
   pub marked : Met met mark
   pub fresh : IsFresh came
@@ -57,6 +59,6 @@ pub record IsLinkReady (home : Home Frame) (pass : PassView Entry Frame) (link :
 -- closed.
 pub record ServesLink (limit : ℕ) (file : Option (List ℕ)) (pass : PassView Entry Frame) (ended : Ended) (given : PassView Entry Frame) (came closed : Wire) : Type 0 where
   pub same : IsSamePass pass given
-  pub sees : StartsWith given.seen pass.seen
+  pub sees : Begins given.seen pass.seen
   pub fresh : IsFresh came
   pub link : ServedLink limit file pass.number given.seen given.mark ended came closed

@@ -1,18 +1,16 @@
 -- What a run of a server did.
-use Rattle.std.specs.Prelude.{◌≡◌, ◌≤◌, ℕ, ◌+◌, List, length, Option, IsSome, IfSome}
+use Rattle.std.specs.Prelude.{◌≡◌, ◌≤◌, ℕ, List, length, Option, IsSome, IfSome}
 use Rattle.kak_ports.specs.Ports.{Rose}
 use Rattle.client_links.specs.Wires.{Wire}
-use Rattle.client_links.specs.Doors.{Door, NoneCame, counted_on}
+use Rattle.client_links.specs.Doors.{Door, NoneCame}
 use Rattle.link_lines.specs.declared.ended.Ended.{Ended}
 use Rattle.kak_engine.specs.Honesty.{Outside}
 use Rattle.engine_desk.specs.Sharing.{Frame, Shared, WasAskedJustThat}
-use Rattle.session_server.specs.declared.session.Served.{Served}
-use Rattle.session_server.specs.declared.session.Served.TheVariants as served
-use Rattle.session_server.specs.declared.run.ServerStatus.{ServerStatus}
-use Rattle.session_server.specs.declared.run.ServerStatus.TheVariants.{Ended as AllLeft, Usage, AcceptFault, SpawnFault, NoMemory, Broken, LinksFull, BindFault}
+use Rattle.session_server.specs.declared.status.ServerStatus.{ServerStatus}
+use Rattle.session_server.specs.declared.status.ServerStatus.TheVariants.{Ended as AllLeft, Usage, AcceptFault, SpawnFault, NoMemory, Broken, LinksFull, BindFault}
 use Rattle.session_events.specs.declared.limits.TheConstants.{MAX_ENTRIES}
 use Rattle.session_server.specs.declared.host.TheConstants.{MAX_LINKS}
-use Rattle.session_server.specs.Sessions.{IfServed, lost, SessionStands, SessionCausedBy, NoneWaits, AcceptsFor, SpawnsFor}
+use Rattle.session_server.specs.Sessions.{IfServed, HaveCome, SessionStands, SessionCausedBy, NoneWaits, AcceptsFor, SpawnsFor}
 
 -- the status with which the process ends
 abbrev pub server_code : ServerStatus → ℕ
@@ -21,18 +19,9 @@ server_code Usage = 1
 server_code AcceptFault = 2
 server_code SpawnFault = 3
 server_code NoMemory = 4
-server_code Broken = 5
+server_code (Broken at) = 5
 server_code LinksFull = 6
 server_code BindFault = 7
-
--- the status of a run, by why the serving of its session ended
-abbrev pub status_of : Served → ServerStatus
-status_of served.Ended = AllLeft
-status_of served.AcceptFault = AcceptFault
-status_of served.SpawnFault = SpawnFault
-status_of (served.Broken at) = Broken
-status_of served.LinksFull = LinksFull
-status_of served.NoMemory = NoMemory
 
 -- an engine of a server: so many entries there may be, and the outside is at first as it was handed in
 abbrev pub frame_at : Outside → Frame
@@ -46,17 +35,15 @@ HasNone BindFault old new before now = NoneCame old new × Rose old.faults new.f
 HasNone NoMemory old new before now = (new.came ≡ old.came) × (new.faults ≡ old.faults) × (now ≡ before)
 HasNone _ old new before now = ⊥
 
--- A session was run with such an engine, whose first client opened the file, if one was named: why it ended, which the
--- status tells, and what is left of it. The outside was asked for what its history says and for nothing else.
+-- A session was run with such an engine, whose first client opened the file, if one was named: why it ended, as the status
+-- tells, and what is left of it. The outside was asked for what its history says and for nothing else.
 pub record WasRun {S : Type 0} (closed : S → Wire) (frame : Frame) (file : Option (List ℕ)) (old new : Door) (before now : ℕ) (status : ServerStatus) (engine : Option Shared) (ends : List (Ended × S)) : Type 0 where
-  pub why : Served
-  pub status_is : status ≡ status_of why
-  pub given : IfServed why (IsSome engine)
-  pub stands : IfSome engine (SessionStands closed frame file old.to_come new.to_come why ends)
+  pub given : IfServed status (IsSome engine)
+  pub stands : IfSome engine (SessionStands closed frame file old.to_come new.to_come status ends)
   pub outside : IfSome engine WasAskedJustThat
-  pub cause : IfSome engine (SessionCausedBy why (length ends))
+  pub cause : IfSome engine (SessionCausedBy status (length ends))
   pub most : length ends ≤ MAX_LINKS
-  pub came : IfServed why (new.came ≡ counted_on old.came (length ends + lost why))
-  pub waits : NoneWaits why new
-  pub accept_faults : AcceptsFor why old.faults new.faults
-  pub spawn_faults : SpawnsFor why before now
+  pub came : HaveCome status (length ends) old.came new.came
+  pub waits : NoneWaits status new
+  pub accept_faults : AcceptsFor status old.faults new.faults
+  pub spawn_faults : SpawnsFor status before now

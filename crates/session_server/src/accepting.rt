@@ -2,15 +2,13 @@
 
 ghost use Rattle.std.specs.Arc.{arc_value};
 ghost use Rattle.std.specs.Prelude.{◌≡◌, ◌+◌, ◌≤◌, ◌++◌, [], ◌∷◌, length, map, IsSome, OnOk, IfErr, IfSome, option_map, string_bytes, Some, None};
-ghost use Rattle.client_links.specs.Doors.{counted_on};
-ghost use Rattle.session_desk.specs.Histories.{entries_by};
 ghost use Rattle.session_server.specs.Rows.{IsLinkReady};
-ghost use Rattle.session_server.specs.Hosting.{Admitted, job_view, passes_back, IsHandedBack, StopsHostingFor};
-ghost use Rattle.session_server.specs.Sessions.{CameInOrder, NoneWaits, IfServed, lost, AcceptsFor, SpawnsFor};
+ghost use Rattle.session_server.specs.Hosting.{Admitted, job_view, passes_back, IsUnused, IsHandedBack, StopsHostingFor};
+ghost use Rattle.session_server.specs.Sessions.{CameInOrder, NoneWaits, HaveCome, AcceptsFor, SpawnsFor};
 
 use crate::host::Host;
 use crate::job::LinkJob;
-use crate::session::Served;
+use crate::status::ServerStatus;
 use client_links::{Acceptor, Link, Next};
 use engine_desk::SharedEngine;
 use jobs::{Spawner, Started};
@@ -22,12 +20,12 @@ use std::sync::Wait;
 /// Why no further link is received, and the pass of a link that had come and isn't served.
 #[derive(Drop)]
 pub(crate) struct Stopped<O: Outside + Drop> {
-    pub why: Served,
+    pub why: ServerStatus,
     pub back: Option<Pass<SharedEngine<O>>>,
 }
 
 // No further link is received, and all that were let in are served.
-fn stopped_by<O: Outside + Drop>(why: Served) -> Stopped<O>
+fn stopped_by<O: Outside + Drop>(why: ServerStatus) -> Stopped<O>
     ensures why { result.why ≡ why }
     ensures back { result.back ≡ None }
 {
@@ -43,16 +41,17 @@ fn start<L: Link, O: Outside + Drop, G: Gate, P: Spawner<LinkJob<L, O, G>>>(
     requires fit { P.fit spawner.old }
     ensures fit { P.fit spawner.new }
     ensures ok { OnOk result ((P.started spawner.new ≡ P.started spawner.old ++ job ∷ []) × (P.faults spawner.new ≡ P.faults spawner.old)) }
-    ensures err { IfErr result (λ stopped. (P.started spawner.new ≡ P.started spawner.old) × (stopped.back ≡ Some job.pass) × IsHandedBack stopped.why × SpawnsFor stopped.why (P.faults spawner.old) (P.faults spawner.new)) }
+    ensures err { IfErr result (λ stopped. (P.started spawner.new ≡ P.started spawner.old) × (stopped.back ≡ Some job.pass) × IsHandedBack stopped.why) }
+    ensures faults { IfErr result (λ stopped. SpawnsFor stopped.why (P.faults spawner.old) (P.faults spawner.new)) }
 {
     match spawner.start(job) {
         Started::Runs => Ok(()),
         Started::Back(job) => Err(Stopped {
-            why: Served::SpawnFault,
+            why: ServerStatus::SpawnFault,
             back: Some(job.pass),
         }),
         Started::NoMemory(job) => Err(Stopped {
-            why: Served::NoMemory,
+            why: ServerStatus::NoMemory,
             back: Some(job.pass),
         }),
     }
@@ -76,11 +75,11 @@ pub(crate) fn accept_all<
     ensures given { host.new.keeper.given ≡ host.old.keeper.given }
     ensures jobs { Admitted (λ job. job_view (arc_value job.desk) job.pass (option_map (λ name. string_bytes name) job.file)) host.old.home host.old.keeper.place 0 host.old.file (P.started spawner.new) }
     ensures made { host.new.keeper.made ≡ length (P.started spawner.new) + length (passes_back result.back) }
-    ensures back { IfSome result.back (λ pass. (pass.place ≡ host.old.keeper.place) × (pass.number ≡ length (P.started spawner.new)) × (entries_by (λ entry. entry.who) pass.number pass.seen ≡ [])) }
+    ensures back { IfSome result.back (IsUnused host.old.keeper.place (length (P.started spawner.new))) }
     ensures most { length (P.started spawner.new) ≤ 1000000 }
     ensures why { StopsHostingFor result.why host.new.keeper.seen host.new.keeper.mark (length (P.started spawner.new)) }
     ensures listens { (A.door acceptor.new).listens ≡ (A.door acceptor.old).listens }
-    ensures came { IfServed result.why ((A.door acceptor.new).came ≡ counted_on (A.door acceptor.old).came (length (P.started spawner.new) + lost result.why)) }
+    ensures came { HaveCome result.why (length (P.started spawner.new)) (A.door acceptor.old).came (A.door acceptor.new).came }
     ensures in_order { CameInOrder result.why (map (λ job. A.Link.wire job.link) (P.started spawner.new)) (A.door acceptor.old).to_come (A.door acceptor.new).to_come }
     ensures waits { IsSome (A.door acceptor.old).listens → NoneWaits result.why (A.door acceptor.new) }
     ensures accept_faults { AcceptsFor result.why (A.door acceptor.old).faults (A.door acceptor.new).faults }
@@ -101,7 +100,7 @@ pub(crate) fn accept_all<
                     return stopped_by(why);
                 }
             }
-            Next::Failed => return stopped_by(Served::AcceptFault),
+            Next::Failed => return stopped_by(ServerStatus::AcceptFault),
         }
     }
     unreachable!()

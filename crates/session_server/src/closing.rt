@@ -1,7 +1,7 @@
 //! The passes of a session, given back to the keeper of its desk once they aren't used any more.
 
 ghost use Rattle.std.specs.Prelude.{◌≡◌, ◌++◌, map, All, OnOk, IfOk, IfSome};
-ghost use Rattle.session_desk.specs.Histories.{StartsWith};
+ghost use Rattle.session_turns.specs.Growth.{Begins};
 ghost use Rattle.session_desk.specs.Tokens.{IsOf};
 ghost use Rattle.session_server.specs.Hosting.{noted, serving_end, passes_back, KeepsMark};
 
@@ -22,7 +22,7 @@ pub(crate) fn take_back<O: Outside + Drop, S: Drop>(
     requires places { All (λ result. result.1.place ≡ keeper.old.place) results.items }
     ensures place { keeper.new.place ≡ keeper.old.place }
     ensures made { keeper.new.made ≡ keeper.old.made }
-    ensures begins { OnOk result (StartsWith keeper.new.seen keeper.old.seen) }
+    ensures begins { OnOk result (Begins keeper.new.seen keeper.old.seen) }
     ensures mark { OnOk result (KeepsMark keeper.old.mark keeper.new.mark) }
     ensures given { OnOk result (keeper.new.given ≡ keeper.old.given ++ map noted results.items) }
     ensures ends { IfOk result (λ ends. ends.items ≡ map serving_end results.items) }
@@ -45,7 +45,7 @@ pub(crate) fn take_rest<O: Outside + Drop>(
     requires back { IfSome back (λ pass. pass.place ≡ keeper.old.place) }
     ensures place { keeper.new.place ≡ keeper.old.place }
     ensures made { keeper.new.made ≡ keeper.old.made }
-    ensures begins { StartsWith keeper.new.seen keeper.old.seen }
+    ensures begins { Begins keeper.new.seen keeper.old.seen }
     ensures mark { KeepsMark keeper.old.mark keeper.new.mark }
     ensures given { keeper.new.given ≡ keeper.old.given ++ passes_back back }
 {

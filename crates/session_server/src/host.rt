@@ -9,7 +9,7 @@ ghost use Rattle.engine_desk.specs.Sharing.{frame_of};
 ghost use Rattle.session_server.specs.Hosting.{IsNewHost, LooksIn, Admits, IsLinkRefused, job_view};
 
 use crate::job::LinkJob;
-use crate::session::Served;
+use crate::status::ServerStatus;
 use client_links::Link;
 use engine_desk::SharedEngine;
 use kak_engine::Outside;
@@ -71,7 +71,7 @@ impl<O: Outside + Drop, G: Gate> Host<O, G> {
     }
 
     /// Looks at the session. An `Err` tells why nobody is let in any more: all clients have left, or it is broken.
-    pub fn look_in<R: Wait>(&mut self, rt: &R) -> Result<(), Served>
+    pub fn look_in<R: Wait>(&mut self, rt: &R) -> Result<(), ServerStatus>
         ensures home { self.new.home ≡ self.old.home }
         ensures same { IsSameKeeper self.old.keeper self.new.keeper }
         ensures file { self.new.file ≡ self.old.file }
@@ -79,16 +79,16 @@ impl<O: Outside + Drop, G: Gate> Host<O, G> {
     {
         let glimpse = self.desk.watch(rt, &mut self.keeper);
         if glimpse.joins > 0 && glimpse.joined == 0 {
-            return Err(Served::Ended);
+            return Err(ServerStatus::Ended);
         }
         match glimpse.broken {
-            Some(at) => Err(Served::Broken(at)),
+            Some(at) => Err(ServerStatus::Broken(at)),
             None => Ok(()),
         }
     }
 
     /// Gives a link that came a pass of its own, and makes the job that serves this link. An `Err` tells why it was dropped.
-    pub fn admit<L: Link>(&mut self, link: L) -> Result<LinkJob<L, O, G>, Served>
+    pub fn admit<L: Link>(&mut self, link: L) -> Result<LinkJob<L, O, G>, ServerStatus>
     where
         G: Clone,
         requires { IsFresh (L.wire link) }
@@ -99,13 +99,13 @@ impl<O: Outside + Drop, G: Gate> Host<O, G> {
         ensures err { OnErr result (self.new ≡ self.old) }
     {
         if self.admitted >= MAX_LINKS {
-            return Err(Served::LinksFull);
+            return Err(ServerStatus::LinksFull);
         }
         let Ok(desk) = Arc::try_clone(&self.desk) else {
-            return Err(Served::NoMemory);
+            return Err(ServerStatus::NoMemory);
         };
         let Ok(gate) = self.gate.clone() else {
-            return Err(Served::NoMemory);
+            return Err(ServerStatus::NoMemory);
         };
         self.admitted += 1;
         Ok(LinkJob {

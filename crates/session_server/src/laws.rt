@@ -8,6 +8,7 @@ ghost use Rattle.session_events.specs.declared.event.Entry.{Entry};
 ghost use Rattle.session_events.specs.Legal.{IsLegal};
 ghost use Rattle.session_events.specs.Meaning.{rules};
 ghost use Rattle.session_lines.specs.Serving.{service};
+ghost use Rattle.json_ui.specs.Requests.{read_request};
 ghost use Rattle.link_lines.specs.declared.ended.Ended.{Ended};
 ghost use Rattle.link_lines.specs.Drawings.{DrawsOnlyMissed};
 ghost use Rattle.link_lines.specs.Endings.{WasServedOver};
@@ -23,7 +24,7 @@ pub fn rows_stay()
     ensures stays { (limit : ℕ) (file : Option (List ℕ)) (who : ℕ) (history more : List Entry) (mark later : Option ℕ) (ended : Ended) (came closed : Wire) →
         own (rules given_by) who more ≡ [] → Met mark later → ServedRow limit file who history mark ended came closed → ServedRow limit file who (history ++ more) later ended came closed }
     ensures served { (limit : ℕ) (file : Option (List ℕ)) (who : ℕ) (history : List Entry) (mark : Option ℕ) (ended : Ended) (came closed : Wire) →
-        ServedRow limit file who history mark ended came closed → WasServedOver (service given_by (opening_keys file)) who history came closed ended }
+        ServedRow limit file who history mark ended came closed → WasServedOver (service given_by read_request (opening_keys file)) who history came closed ended }
     ensures drawn { (limit : ℕ) (file : Option (List ℕ)) (who : ℕ) (history : List Entry) (mark : Option ℕ) (ended : Ended) (came closed : Wire) →
         ServedRow limit file who history mark ended came closed → DrawsOnlyMissed who history }
 {}

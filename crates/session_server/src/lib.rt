@@ -13,10 +13,12 @@ pub mod link_serving;
 pub mod run;
 pub mod serving;
 pub mod session;
+pub mod status;
 
 pub use host::MAX_LINKS;
 pub use job::LinkJob;
 pub use link_serving::serve_link;
-pub use run::{ServerStatus, run_server};
+pub use run::run_server;
 pub use serving::serve;
-pub use session::{Served, Session};
+pub use session::Session;
+pub use status::ServerStatus;

@@ -1,11 +1,12 @@
 //! A link, served at the desk of a session.
 
 ghost use Rattle.std.specs.Prelude.{◌≡◌, IfOk, option_map};
+ghost use Rattle.session_turns.specs.Growth.{Begins};
 ghost use Rattle.client_links.specs.Wires.{TellsNoMore};
-ghost use Rattle.session_desk.specs.Histories.{StartsWith};
 ghost use Rattle.session_desk.specs.Tokens.{IsOf, IsSamePass};
 ghost use Rattle.session_events.specs.Legal.{IsLegal};
 ghost use Rattle.session_lines.specs.Serving.{service};
+ghost use Rattle.json_ui.specs.Requests.{read_request};
 ghost use Rattle.link_lines.specs.Drawings.{DrawsOnlyMissed};
 ghost use Rattle.link_lines.specs.Endings.{WasServedOver, EndsFor, HasLeftAt, NeverCame};
 ghost use Rattle.kak_engine.specs.Steps.{given_by, crowded_by};
@@ -13,6 +14,7 @@ ghost use Rattle.session_server.specs.Rows.{opening_keys, seat_by};
 
 use client_links::Link;
 use engine_desk::{DeskSeat, SharedEngine};
+use json_ui::JsonReader;
 use kak_engine::Outside;
 use key_names::Key;
 use line_gates::Gate;
@@ -49,9 +51,9 @@ pub fn serve_link<R: Wait, L: Link, G: Gate, O: Outside + Drop>(
     requires own { IsOf pass.place desk.now }
     requires new { NeverCame given_by pass.number pass.seen }
     ensures same { IsSamePass pass result.1 }
-    ensures sees { StartsWith result.1.seen pass.seen }
+    ensures sees { Begins result.1.seen pass.seen }
     ensures legal { IsLegal desk.now.frame.limit pass.seen → IsLegal desk.now.frame.limit result.1.seen }
-    ensures served { WasServedOver (service given_by (opening_keys (option_map (λ name. name.now) file.entry))) pass.number result.1.seen (L.wire link.old) (L.wire link.new) result.0 }
+    ensures served { WasServedOver (service given_by read_request (opening_keys (option_map (λ name. name.now) file.entry))) pass.number result.1.seen (L.wire link.old) (L.wire link.new) result.0 }
     ensures left { HasLeftAt given_by result.0 pass.number result.1.seen }
     ensures drawn { DrawsOnlyMissed pass.number result.1.seen }
     ensures cause { EndsFor given_by crowded_by result.0 (seat_by desk.now.frame.limit pass.number result.1.seen result.1.mark) (L.wire link.old) (L.wire link.new) }
@@ -62,6 +64,14 @@ pub fn serve_link<R: Wait, L: Link, G: Gate, O: Outside + Drop>(
     };
     let who = pass.number();
     let mut seat = DeskSeat::new(rt, desk, pass);
-    let ended = serve_over(rt, alloc, who, &mut seat, keys.as_slice(), link, gate);
+    let ended = serve_over::<JsonReader, _, _, _, _>(
+        rt,
+        alloc,
+        who,
+        &mut seat,
+        keys.as_slice(),
+        link,
+        gate,
+    );
     (ended, seat.into_pass())
 }

@@ -3,11 +3,12 @@
 ghost use Rattle.std.specs.Prelude.{◌≡◌, [], map, string_bytes, true, false, IfNone, IfSome, Some};
 ghost use Rattle.kak_engine.specs.Honesty.{IsUntouched};
 ghost use Rattle.program_words.specs.ServerWords.{is_call, session_of, file_of};
-ghost use Rattle.session_server.specs.Running.{server_code, status_of, frame_at, HasNone, WasRun};
+ghost use Rattle.session_server.specs.Running.{frame_at, HasNone, WasRun};
 
 use crate::job::LinkJob;
 use crate::serving::serve;
-use crate::session::{Served, Session};
+use crate::session::Session;
+use crate::status::ServerStatus;
 use client_links::{Acceptor, Bound, Link};
 use engine_desk::SharedEngine;
 use jobs::Spawner;
@@ -17,59 +18,6 @@ use program_words::{WordsError, read_words};
 use session_events::MAX_ENTRIES;
 use std::alloc::Global;
 use std::sync::Wait;
-
-/// How a run of a server ended.
-#[derive(Clone, Copy, PartialEq, Eq, Debug)]
-pub enum ServerStatus {
-    /// A client had come, and none was here any more.
-    Ended,
-    /// The words aren't `-s` and a session's name, or these and a file's name. Nothing was done.
-    Usage,
-    /// Accepting failed.
-    AcceptFault,
-    /// Nobody could be made to serve a link that came.
-    SpawnFault,
-    /// Memory ran out.
-    NoMemory,
-    /// The session broke.
-    Broken,
-    /// As many links came as one session serves, and a further one.
-    LinksFull,
-    /// The session couldn't be listened for.
-    BindFault,
-}
-
-impl ServerStatus {
-    /// The status with which the process ends.
-    pub fn code(self) -> u8
-        ensures { result ≡ server_code self }
-    {
-        match self {
-            ServerStatus::Ended => 0,
-            ServerStatus::Usage => 1,
-            ServerStatus::AcceptFault => 2,
-            ServerStatus::SpawnFault => 3,
-            ServerStatus::NoMemory => 4,
-            ServerStatus::Broken => 5,
-            ServerStatus::LinksFull => 6,
-            ServerStatus::BindFault => 7,
-        }
-    }
-}
-
-// The status of a run, by why the serving of its session ended.
-fn status_of(served: Served) -> ServerStatus
-    ensures { result ≡ status_of served }
-{
-    match served {
-        Served::Ended => ServerStatus::Ended,
-        Served::AcceptFault => ServerStatus::AcceptFault,
-        Served::SpawnFault => ServerStatus::SpawnFault,
-        Served::Broken(_) => ServerStatus::Broken,
-        Served::LinksFull => ServerStatus::LinksFull,
-        Served::NoMemory => ServerStatus::NoMemory,
-    }
-}
 
 /// Runs a server: its words are to be `-s` and a session's name, with a file's name behind them where the first client is to
 /// open one. It listens for the session, and serves it to its end. The outside's files hold what they held when they were made,
@@ -112,6 +60,6 @@ pub fn run_server<
     let Ok(engine) = SharedEngine::new(alloc, outside, MAX_ENTRIES) else {
         return (ServerStatus::NoMemory, None);
     };
-    let (served, session) = serve(rt, alloc, engine, named.file, acceptor, spawner, gate);
-    (status_of(served), Some(session))
+    let (status, session) = serve(rt, alloc, engine, named.file, acceptor, spawner, gate);
+    (status, Some(session))
 }

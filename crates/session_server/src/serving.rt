@@ -1,15 +1,15 @@
 //! A session, served to its end.
 
-ghost use Rattle.std.specs.Prelude.{◌≡◌, ◌+◌, ◌≤◌, [], length, IsSome, IfSome, None, option_map, string_bytes};
-ghost use Rattle.client_links.specs.Doors.{counted_on};
+ghost use Rattle.std.specs.Prelude.{◌≡◌, ◌≤◌, [], length, IsSome, IfSome, None, option_map, string_bytes};
 ghost use Rattle.engine_desk.specs.Sharing.{frame_of, WasAskedJustThat};
-ghost use Rattle.session_server.specs.Sessions.{IfServed, lost, NoneWaits, AcceptsFor, SpawnsFor, SessionStands, SessionCausedBy};
+ghost use Rattle.session_server.specs.Sessions.{IfServed, HaveCome, NoneWaits, AcceptsFor, SpawnsFor, SessionStands, SessionCausedBy};
 
 use crate::accepting::accept_all;
 use crate::closing::{take_back, take_rest};
 use crate::host::Host;
 use crate::job::LinkJob;
-use crate::session::{Served, Session};
+use crate::session::Session;
+use crate::status::ServerStatus;
 use client_links::{Acceptor, Link};
 use engine_desk::SharedEngine;
 use jobs::Spawner;
@@ -19,8 +19,8 @@ use std::alloc::Global;
 use std::sync::Wait;
 
 // What is left where memory ran out.
-fn out_of_memory<O: Outside + Drop, T: Drop>(alloc: Global) -> (Served, Session<O, T>)
-    ensures why { result.0 ≡ Served.NoMemory }
+fn out_of_memory<O: Outside + Drop, T: Drop>(alloc: Global) -> (ServerStatus, Session<O, T>)
+    ensures why { result.0 ≡ ServerStatus.NoMemory }
     ensures engine { result.1.engine ≡ None }
     ensures ends { result.1.ends.items ≡ [] }
 {
@@ -28,7 +28,7 @@ fn out_of_memory<O: Outside + Drop, T: Drop>(alloc: Global) -> (Served, Session<
         engine: None,
         ends: Vec::new(alloc),
     };
-    (Served::NoMemory, session)
+    (ServerStatus::NoMemory, session)
 }
 
 /// Serves a session in which nothing has happened yet: each link that comes is served under a pass of its own, as the spawner
@@ -49,7 +49,7 @@ pub fn serve<
     acceptor: &mut A,
     spawner: &mut P,
     gate: G,
-) -> (Served, Session<O, <A::Link as Link>::Spent>)
+) -> (ServerStatus, Session<O, <A::Link as Link>::Spent>)
     requires entries { engine.engine.history ≡ [] }
     requires mark { engine.engine.mark ≡ None }
     requires idle { P.started spawner.old ≡ [] }
@@ -61,7 +61,7 @@ pub fn serve<
     ensures outside { IfSome result.1.engine WasAskedJustThat }
     ensures cause { IfSome result.1.engine (SessionCausedBy result.0 (length result.1.ends.items)) }
     ensures most { length result.1.ends.items ≤ 1000000 }
-    ensures came { IfServed result.0 ((A.door acceptor.new).came ≡ counted_on (A.door acceptor.old).came (length result.1.ends.items + lost result.0)) }
+    ensures came { HaveCome result.0 (length result.1.ends.items) (A.door acceptor.old).came (A.door acceptor.new).came }
     ensures waits { IsSome (A.door acceptor.old).listens → NoneWaits result.0 (A.door acceptor.new) }
     ensures listens { (A.door acceptor.new).listens ≡ (A.door acceptor.old).listens }
     ensures accept_faults { AcceptsFor result.0 (A.door acceptor.old).faults (A.door acceptor.new).faults }

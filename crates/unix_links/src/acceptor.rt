@@ -5,6 +5,7 @@ ghost use Rattle.kak_ports.specs.Ports.{Rose};
 ghost use Rattle.client_links.specs.Wires.{IsFresh};
 ghost use Rattle.unix_links.specs.Streams.{untold_door};
 
+use crate::bell::Bell;
 use crate::door::DoorSocket;
 use crate::link::{UnixLink, over_socket};
 use byte_texts::Utf8Text;
@@ -37,13 +38,13 @@ impl SessionDoor {
         })
     }
 
-    // Waits a while for the next link.
-    fn next(&mut self) -> io::Result<Option<UnixLink>>
+    // Waits a while for the next link, which the bell wakes.
+    fn next<H: Net>(&mut self, rt: &H, alloc: Global, bell: &Bell) -> io::Result<Option<UnixLink>>
         ensures session { self.new.session ≡ self.old.session }
         ensures fresh { IfOk result (λ came. IfSome came (λ link. IsFresh (⟦<UnixLink as Link>⟧.wire link))) }
     {
         match self.socket.next()? {
-            Some(stream) => Ok(Some(over_socket(stream)?)),
+            Some(stream) => Ok(Some(over_socket(rt, alloc, stream, bell)?)),
             None => Ok(None),
         }
     }
@@ -55,6 +56,7 @@ impl SessionDoor {
 pub struct UnixAcceptor<H: Files + Drop> {
     rt: H,
     alloc: Global,
+    bell: Bell,
     door: Option<SessionDoor>,
     faults: u64,
 }
@@ -64,6 +66,7 @@ impl<H: Files + Drop> Drop for UnixAcceptor<H> {
         let UnixAcceptor {
             rt,
             alloc: _,
+            bell: _,
             door,
             faults: _,
         } = self;
@@ -74,14 +77,15 @@ impl<H: Files + Drop> Drop for UnixAcceptor<H> {
 }
 
 impl<H: Files<File = File> + Net + Drop> UnixAcceptor<H> {
-    /// An acceptor that doesn't listen yet. The handle is for its sockets and files.
-    pub fn new(rt: H, alloc: Global) -> UnixAcceptor<H>
+    /// An acceptor that doesn't listen yet, whose links are woken by a bell. The handle is for its sockets and files.
+    pub fn new(rt: H, alloc: Global, bell: Bell) -> UnixAcceptor<H>
         ensures silent { result.door ≡ None }
         ensures faults { result.faults ≡ 0 }
     {
         UnixAcceptor {
             rt,
             alloc,
+            bell,
             door: None,
             faults: 0,
         }
@@ -128,7 +132,7 @@ impl<H: Files<File = File> + Net + Drop> Acceptor for UnixAcceptor<H> {
         let Some(door) = &mut self.door else {
             return Next::Idle;
         };
-        match door.next() {
+        match door.next(&self.rt, self.alloc, &self.bell) {
             Ok(Some(link)) => Next::Came(link),
             Ok(None) => Next::Idle,
             Err(_) => {

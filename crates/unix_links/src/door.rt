@@ -14,7 +14,7 @@ use std::time::Duration;
 use std::{fs, io};
 
 /// How long a wait for the next connection is at most, in milliseconds.
-const ACCEPTING_MILLIS: u64 = 20;
+const ACCEPTING_MILLIS: u64 = 50;
 
 /// A socket that is listened to. The lock on its session is held until it is dropped.
 #[derive(Drop)]

@@ -3,11 +3,15 @@
 #![tactic(auto)]
 
 pub mod acceptor;
+pub mod bell;
 mod door;
 pub mod link;
 mod paths;
 pub mod pausing;
+pub mod socket;
 
 pub use acceptor::UnixAcceptor;
+pub use bell::Bell;
 pub use link::{ClosedLink, StreamLink, UnixLink};
 pub use pausing::PausingRead;
+pub use socket::{SocketReader, SocketWriter};

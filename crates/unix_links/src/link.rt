@@ -5,23 +5,22 @@ ghost use Rattle.kak_ports.specs.Ports.{Puts};
 ghost use Rattle.client_links.specs.Wires.{IsFresh};
 ghost use Rattle.unix_links.specs.Streams.{told_since, StaysTold, faultless_outlet, stream_wire};
 
+use crate::bell::Bell;
 use crate::pausing::{PausingRead, is_pause};
+use crate::socket::{SocketReader, SocketWriter};
 use client_links::{Heard, Link};
 use kak_ports::Put;
+use mio::net::UnixStream;
+use std::alloc::Global;
 use std::io;
 use std::io::{Read, Write};
-use std::os::unix::net::UnixStream;
+use std::net::Net;
+use std::os::unix::net;
 use std::snapshot::Snapshot;
 use std::sync::Wait;
-use std::time::Duration;
 
-/// How long a `recv` waits for bytes at most, in milliseconds.
-pub const HEARING_MILLIS: u64 = 40;
-
-/// How long a `send` waits at once for the other side to read, in milliseconds.
-pub const PAUSE_MILLIS: u64 = 100;
-
-/// How often a `send` waits at most before it fails.
+/// How often a `send` waits at most for the other side to read before it fails. Over a socket each wait is one of
+/// `PAUSE_MILLIS`.
 pub const MOST_PAUSES: u32 = 100;
 
 /// What is left of a link that was closed: how often it failed. Each count stands still at its end. Contracts also see
@@ -52,7 +51,7 @@ pub struct StreamLink<R: Read, W: Write> {
 }
 
 /// A connection over a Unix socket.
-pub type UnixLink = StreamLink<UnixStream, UnixStream>;
+pub type UnixLink = StreamLink<SocketReader, SocketWriter>;
 
 // The bytes behind the first `count`.
 fn all_after(bytes: &[u8], count: usize) -> &[u8]
@@ -145,13 +144,19 @@ impl<R: PausingRead + Drop, W: Write + Drop> Link for StreamLink<R, W> {
     }
 }
 
-/// A link over a stream that was just accepted. An `Err` is of the system, and closes the stream.
-pub(crate) fn over_socket(stream: UnixStream) -> io::Result<UnixLink>
+/// A link over a stream that was just accepted, which the bell wakes where it waits. An `Err` is of the system, and closes
+/// the stream.
+pub(crate) fn over_socket<H: Net>(
+    net: &H,
+    alloc: Global,
+    stream: net::UnixStream,
+    bell: &Bell,
+) -> io::Result<UnixLink>
     ensures { IfOk result (λ link. IsFresh (⟦<UnixLink as Link>⟧.wire link)) }
 {
-    stream.set_nonblocking(false)?;
-    stream.set_read_timeout(Some(Duration::from_millis(HEARING_MILLIS)))?;
-    stream.set_write_timeout(Some(Duration::from_millis(PAUSE_MILLIS)))?;
-    let writer = stream.try_clone()?;
-    Ok(StreamLink::new(stream, writer))
+    stream.set_nonblocking(true)?;
+    let other = UnixStream::from_std(stream.try_clone()?);
+    let writer = SocketWriter::new(net, alloc, other)?;
+    let reader = SocketReader::new(net, alloc, UnixStream::from_std(stream), bell.clone()?)?;
+    Ok(StreamLink::new(reader, writer))
 }

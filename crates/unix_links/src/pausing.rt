@@ -9,7 +9,6 @@ ghost use Rattle.unix_links.specs.Pauses.{IsPause};
 
 use std::io;
 use std::io::{ErrorKind, Read};
-use std::os::unix::net::UnixStream;
 
 /// A reader that makes its caller wait only where something is still to come, if it tells what.
 pub trait PausingRead: Read {
@@ -19,13 +18,6 @@ pub trait PausingRead: Read {
         ensures bound { ReadsAtMost result buf.new }
         ensures bytes { ReadConsumes (Self.remaining self.old) (Self.remaining self.new) result buf.new }
         ensures waits { IfErr result (λ e. IsPause (error_kind e) → IsNotAtEnd (Self.remaining self.old)) };
-}
-
-/// A socket tells nothing.
-impl PausingRead for UnixStream {
-    fn read_or_pause(&mut self, buf: &mut [u8]) -> io::Result<usize> {
-        self.read(buf)
-    }
 }
 
 /// Whether a call would have had to wait for longer, which is no fault.

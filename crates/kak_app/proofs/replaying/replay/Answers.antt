@@ -1,5 +1,4 @@
 use Rattle.std.proofs.Common.{◌≡◌, true, false, [], map, string_bytes, sym, ap, ◌∙◌, subst}
-use Rattle.ui_board.specs.contracts.ui.BoxDynUiUi.TheImpl.{shown-value}
 use Rattle.session_replay.specs.Players.{told_by_all}
 use Rattle.kak_engine.specs.Honesty.{Outside}
 use Rattle.kak_engine.specs.Seating.{WasHonest}
@@ -9,26 +8,26 @@ use Rattle.kak_app.proofs.replaying.replay.Goals as goal
 
 pub returns-in-Err-clause-refused : goal.returns-in-Err-clause-refused
 returns-in-Err-clause-refused g c = λ no.
-    let called = is_call_for (shown-value g.dyn-1).it (map (λ word. string_bytes word) c.args.words.now) in
+    let called = is_call_for g.U.Ui.shown (map (λ word. string_bytes word) c.args.words.now) in
     let never : true ≡ false = sym c.if-not-is_replay_call.false ∙ c.is_replay_call.ensures ∙ ap called c.as_slice-boxes.ensures.value ∙ no in cc
 
 pub returns-in-Ok-clause-refused : goal.returns-in-Ok-clause-refused
 returns-in-Ok-clause-refused g c = λ no.
-    let called = is_call_for (shown-value g.dyn-1).it (map (λ word. string_bytes word) c.args.words.now) in
+    let called = is_call_for g.U.Ui.shown (map (λ word. string_bytes word) c.args.words.now) in
     let never : true ≡ false = sym c.if-not-is_replay_call.false ∙ c.is_replay_call.ensures ∙ ap called c.as_slice-boxes.ensures.value ∙ no in cc
 
 pub returns-in-Err-clause-answers : goal.returns-in-Err-clause-answers
 returns-in-Err-clause-answers g c = rw c.in-Err.ensures.none (nothing-played _ _ _)
 
 pub returns-in-Err-clause-used : goal.returns-in-Err-clause-used
-returns-in-Err-clause-used g c = λ told. absurd (told (subst (λ uis. told_by_all (shown-value g.dyn-1).it uis ≡ []) c.as_slice-boxes.ensures.value (c.are_new.ensures.new c.if-not-are_new.false)))
+returns-in-Err-clause-used g c = λ told. absurd (told (subst (λ uis. told_by_all g.U.Ui.shown uis ≡ []) c.as_slice-boxes.ensures.value (c.are_new.ensures.new c.if-not-are_new.false)))
 
 pub returns-in-Ok-clause-used : goal.returns-in-Ok-clause-used
-returns-in-Ok-clause-used g c = λ told. absurd (told (subst (λ uis. told_by_all (shown-value g.dyn-1).it uis ≡ []) c.as_slice-boxes.ensures.value (c.are_new.ensures.new c.if-not-are_new.false)))
+returns-in-Ok-clause-used g c = λ told. absurd (told (subst (λ uis. told_by_all g.U.Ui.shown uis ≡ []) c.as_slice-boxes.ensures.value (c.are_new.ensures.new c.if-not-are_new.false)))
 
 pub returns-in-Ok-clause-answers : goal.returns-in-Ok-clause-answers
 returns-in-Ok-clause-answers g c =
     let last : Outside = g.O.Outside.seen c.into_outside.result in
     let ended = c.replay_session-ended in
-    let honest = subst (λ (first : Outside). WasHonest ended.result.1.engine.history ended.result.1.engine.mark first last) (ended.ensures.kept ∙ ap (λ s. s.first) c.in-Ok.ensures.new) c.into_outside.ensures.honest in
-    c.replay_status.ensures.answers _ _ _ _ (lines-replayed _ _ ended.result.0 _ _ _ _ _ _ _ (ap (λ s. s.engine.limit) c.in-Ok.ensures.new) (ap (λ s. s.engine.mark) c.in-Ok.ensures.new) ended.ensures.limit ended.ensures.legal ended.ensures.replayed ended.ensures.fault ended.ensures.whole c.into_outside.ensures.asked honest)
+    let honest = subst (λ (first : Outside). WasHonest ended.result.1.engine.history ended.result.1.engine.mark first last) (ended.ensures.session.kept_is ∙ ap (λ s. s.first) c.in-Ok.ensures.new) c.into_outside.ensures.honest in
+    c.replay_status.ensures.answers _ _ _ _ (lines-replayed _ _ ended.result.0 _ _ _ _ _ _ _ (ap (λ s. s.engine.limit) c.in-Ok.ensures.new) (ap (λ s. s.engine.mark) c.in-Ok.ensures.new) ended.ensures.session.limit ended.ensures.session.legal ended.ensures.replayed ended.ensures.fault ended.ensures.session.whole c.into_outside.ensures.asked honest)

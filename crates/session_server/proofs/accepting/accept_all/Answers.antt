@@ -7,10 +7,10 @@ use Rattle.session_events.specs.declared.event.Entry.{Entry}
 use Rattle.kak_engine.specs.Steps.{given_by}
 use Rattle.engine_desk.specs.Sharing.{Frame}
 use Rattle.session_server.specs.declared.job.LinkJob.{LinkJob}
-use Rattle.session_server.specs.declared.session.Served.{Served}
+use Rattle.session_server.specs.declared.status.ServerStatus.{ServerStatus}
 use Rattle.session_server.specs.Sessions.{CameInOrder}
-use Rattle.session_server.specs.Hosting.{JobView, job_view, Admitted}
-use Rattle.session_server.proofs.SessionLemmas.{IsUnused, never-own, left-behind, counted-one, admitted-one, file_left, as-admitted, led-one, refused-order, handed-order, map-one}
+use Rattle.session_server.specs.Hosting.{JobView, job_view, Admitted, IsUnused}
+use Rattle.session_server.proofs.SessionLemmas.{never-own, left-behind, counted-one, admitted-one, file_left, as-admitted, led-one, refused-order, handed-order, map-one}
 use Rattle.session_server.proofs.accepting.accept_all.Goals as goal
 
 pub returns-in-Err-start-clause-back : goal.returns-in-Err-start-clause-back
@@ -35,7 +35,7 @@ pub returns-in-Err-clause-in_order : goal.returns-in-Err-clause-in_order
 returns-in-Err-clause-in_order g c =
     let i = c.loop.invariant in
     let links = map (λ job. g.A.Link.Link.wire job.link) (g.P.Spawner.started c.loop.spawner) in
-    subst (λ (why : Served). CameInOrder why links (g.A.Acceptor.door c.args.acceptor.now).to_come (g.A.Acceptor.door c.next-in-loop.new.self).to_come) (sym c.stopped_by.ensures.why)
+    subst (λ (why : ServerStatus). CameInOrder why links (g.A.Acceptor.door c.args.acceptor.now).to_come (g.A.Acceptor.door c.next-in-loop.new.self).to_come) (sym c.stopped_by.ensures.why)
     (refused-order c.loop.host c.in-Err.why links (g.A.Link.Link.wire c.in-Came.link) _ _ _ c.in-Err.ensures.why i.order c.in-Came.ensures.in_order)
 
 pub loop-preserved-in_default : goal.loop-preserved-in_default

@@ -1,6 +1,6 @@
 use Rattle.std.proofs.Common.{◌≡◌, ◌++◌, map, All}
 use Rattle.std.specs.Vec.Iter.{into_iter_items}
-use Rattle.session_desk.specs.Histories.{StartsWith}
+use Rattle.session_turns.specs.Growth.{Begins}
 use Rattle.session_server.specs.Hosting.{noted, serving_end, KeepsMark}
 use Rattle.session_server.proofs.closing.take_back.Given as goal
 
@@ -9,7 +9,7 @@ abbrev pub invariant-loop-ended : goal.invariant-loop-ended
 invariant-loop-ended g l = record {
   place : l.keeper.place ≡ l.fn.keeper.place;
   made : l.keeper.made ≡ l.fn.keeper.made;
-  begins : StartsWith l.keeper.seen l.fn.keeper.seen;
+  begins : Begins l.keeper.seen l.fn.keeper.seen;
   mark : KeepsMark l.fn.keeper.mark l.keeper.mark;
   results : into_iter_items l.initial.ended-iterator ≡ l.yielded ++ into_iter_items l.ended-iterator;
   given : l.keeper.given ≡ l.fn.keeper.given ++ map noted l.yielded;

@@ -8,7 +8,7 @@ use Rattle.session_events.specs.declared.event.Entry.{Entry}
 use Rattle.session_events.specs.Entries.{entry_with, is_leave}
 use Rattle.link_lines.specs.Endings.{EndsInLeaving, NeverCame}
 use Rattle.session_lines.specs.Stops.{IsFull}
-use Rattle.kak_world.specs.Flat.{joined_by, left_by_client, with_own, with_view, with_list_of}
+use Rattle.kak_world.specs.Flat.{joined_by, left_by_client, with_own, with_corner, with_list_of, with_rest}
 use Rattle.kak_engine.specs.Steps.{given_by}
 use Rattle.session_server.specs.Rows.{seat_by}
 use Rattle.session_server.specs.RowExamples.{both_came, one_went, behind}
@@ -41,7 +41,7 @@ not_filled : (4 < 4) ⊎ (NeverCame given_by 0 one_went × IsFull (seat_by 4 0 o
 not_filled room = ⊎_elim (λ (l : 4 < 4). absurd (omega (arith, l))) (λ (n : NeverCame given_by 0 one_went × IsFull (seat_by 4 0 one_went None)). not_none _ n.0) room
 
 pub returns : goal.returns
-unfolding chars joined_by left_by_client with_own with_view with_list_of
+unfolding chars joined_by left_by_client with_own with_corner with_list_of with_rest
 returns c = record {
   file = refl;
   no_file = refl;

@@ -1,6 +1,7 @@
 use Rattle.std.proofs.Common.{rules, ◌∙◌, List, All, sym, ap, subst}
+use Rattle.session_turns.specs.Growth.{Begins}
 use Rattle.session_desk.specs.declared.rule.View.{View}
-use Rattle.session_desk.specs.Histories.{StartsWith, HasGiven, HasMet}
+use Rattle.session_desk.specs.Histories.{HasGiven, HasMet}
 use Rattle.session_desk.proofs.RuleLemmas.{tells_kept}
 use Rattle.session_desk.proofs.TokenLemmas.{joins_kept}
 use Rattle.session_desk.proofs.desk.Desk.leave.Goals as goal
@@ -27,4 +28,4 @@ returns-clause-marks g c = let told = c.load-keeper-inside.ensures.2 in
 
 pub returns-clause-begins : goal.returns-clause-begins
 returns-clause-begins g c = let told = c.load-keeper-inside.ensures.2 in let joined = c.join_seat.ensures.2 in let entries = g.row.O-Entry.Denot in
-    subst (λ (p : List entries × List entries). StartsWith p.0 p.1) (λ i. ((sym told.0 i).0.seen, (ap (λ m. m.0.earlier) joined ∙ ap (λ k. k.seen) c.keeper.view_is) i)) told.1.earlier
+    subst (λ (p : List entries × List entries). Begins p.0 p.1) (λ i. ((sym told.0 i).0.seen, (ap (λ m. m.0.earlier) joined ∙ ap (λ k. k.seen) c.keeper.view_is) i)) told.1.earlier

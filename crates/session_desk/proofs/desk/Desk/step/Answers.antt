@@ -9,8 +9,8 @@ returns-clause-ok g c = let p = c.play-answer.ensures in let o = c.take_turn-obj
     let after : PassView g.row.O-Entry.Denot g.row.O-Frame.Denot = record { place = place; number = c.pass.inside.number; seen = seat.me.0.seen; mark = seat.me.0.mark } in
     let was = c.pass.inside.seat in let home : DeskPlace g.row.O-Frame.Denot = record { table = was.table_id; frame = was.me.0.frame } in
     let framed : g.O.Played.frame o ≡ c.args.self.now.frame = search rules in
-    subst (λ (b : PassView g.row.O-Entry.Denot g.row.O-Frame.Denot). IfOk c.play-answer.result (λ reply. PassAdds g.O.Played.maker (g.O.Played.answers c.args.self.now.frame) b after c.args.mv reply)) c.pass.view_is
-    (adds g.O.Played.entries g.O.Played.maker g.O.Played.marked g.O.Played.frame g.O.Played.answers home c.pass.inside.number c.pass.inside.seat.me.0 c.args.self.now.frame o o' c.args.mv c.play-answer.result after
+    subst (λ (b : PassView g.row.O-Entry.Denot g.row.O-Frame.Denot). IfOk c.play-answer.result (λ reply. PassAdds g.O.Played.maker (g.O.Played.answers c.args.self.now.frame) b after c.args.mv.now reply)) c.pass.view_is
+    (adds g.O.Played.entries g.O.Played.maker g.O.Played.marked g.O.Played.frame g.O.Played.answers home c.pass.inside.number c.pass.inside.seat.me.0 c.args.self.now.frame o o' c.args.mv.now c.play-answer.result after
     c.pass.invariant.0.role_is framed (ap (λ m. m.0.seen) freed) (ap (λ m. m.0.mark) freed) c.take_turn-object.ensures.found p.answer p.ok p.unmarked)
 
 pub returns-clause-fault : goal.returns-clause-fault
@@ -19,6 +19,6 @@ returns-clause-fault g c = let p = c.play-answer.ensures in let o = c.take_turn-
     let after : PassView g.row.O-Entry.Denot g.row.O-Frame.Denot = record { place = place; number = c.pass.inside.number; seen = seat.me.0.seen; mark = seat.me.0.mark } in
     let was = c.pass.inside.seat in let home : DeskPlace g.row.O-Frame.Denot = record { table = was.table_id; frame = was.me.0.frame } in
     let framed : g.O.Played.frame o ≡ c.args.self.now.frame = search rules in
-    subst (λ (b : PassView g.row.O-Entry.Denot g.row.O-Frame.Denot). IfErr c.play-answer.result (λ fault. PassRefuses g.O.Played.maker (g.O.Played.answers c.args.self.now.frame) b after c.args.mv fault)) c.pass.view_is
-    (refuses g.O.Played.entries g.O.Played.maker g.O.Played.marked g.O.Played.frame g.O.Played.answers home c.pass.inside.number c.pass.inside.seat.me.0 c.args.self.now.frame o o' c.args.mv c.play-answer.result after
+    subst (λ (b : PassView g.row.O-Entry.Denot g.row.O-Frame.Denot). IfErr c.play-answer.result (λ fault. PassRefuses g.O.Played.maker (g.O.Played.answers c.args.self.now.frame) b after c.args.mv.now fault)) c.pass.view_is
+    (refuses g.O.Played.entries g.O.Played.maker g.O.Played.marked g.O.Played.frame g.O.Played.answers home c.pass.inside.number c.pass.inside.seat.me.0 c.args.self.now.frame o o' c.args.mv.now c.play-answer.result after
     c.pass.invariant.0.role_is framed (ap (λ m. m.0.seen) freed) (ap (λ m. m.0.mark) freed) c.take_turn-object.ensures.found p.answer p.err p.mark)

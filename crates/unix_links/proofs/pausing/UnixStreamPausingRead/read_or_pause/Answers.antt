@@ -1,5 +1,0 @@
-use Rattle.unix_links.proofs.PauseLemmas.{untold-waits}
-use Rattle.unix_links.proofs.pausing.UnixStreamPausingRead.read_or_pause.Goals as goal
-
-pub returns-clause-waits : goal.returns-clause-waits
-returns-clause-waits c = untold-waits c.read.result
