@@ -26,7 +26,7 @@ not-behind o os n f h = ap (λ b. over_all os n (cond b (merged f o.face) f)) (a
 on : (o : Over) (os : List Over) (n : ℕ) (f : Face) → o.from ≤ n → n < o.to → over_all (o ∷ os) n f ≡ over_all os n (merged f o.face)
 on o os n f h l = ap (λ b. over_all os n (cond b (merged f o.face) f)) (and_from (nat_le o.from n) (nat_lt n o.to) (le-leb o.from n h) (lt-ltb n o.to l))
 
-append : (a b : List Over) (n : ℕ) (f : Face) → over_all (a ++ b) n f ≡ over_all b n (over_all a n f)
+pub append : (a b : List Over) (n : ℕ) (f : Face) → over_all (a ++ b) n f ≡ over_all b n (over_all a n f)
 append [] b n f = refl
 append (o ∷ a) b n f = append a b n (cond (nat_le o.from n && nat_lt n o.to) (merged f o.face) f)
 

@@ -1,0 +1,19 @@
+use Rattle.std.proofs.Common.{refl}
+use Rattle.regex.specs.Patterns.{find_str, slot_of}
+use Rattle.regex.proofs.OnLiterals.{regex_on_literals}
+use Rattle.regex_hir.specs.Find.{first_from, matches_from}
+use Rattle.regex_hir.specs.Re.{attempt, rounds}
+use Rattle.regex_hir.specs.Text.{is_boundary, has_bytes_at}
+use Rattle.highlight_paint.proofs.laws.match_examples.Goals as goal
+
+pub returns : goal.returns
+unfolding regex_on_literals find_str slot_of first_from matches_from attempt rounds is_boundary has_bytes_at
+returns c = record {
+  a_group = refl;
+  two_groups = refl;
+  no_part = refl;
+  no_group = refl;
+  newline = refl;
+  wide_character = refl;
+  wide_match = refl;
+}

@@ -1,0 +1,10 @@
+pub mod Painters
+pub mod Paths
+pub mod Highlighters
+pub mod Overs
+pub mod Walks
+pub mod Texts
+pub mod Painting
+pub mod Numbers
+pub mod Laws
+pub mod Examples
