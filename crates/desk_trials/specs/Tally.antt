@@ -1,6 +1,7 @@
 -- A sum, what it answers, and what is due to those who play on it.
 use Rattle.std.specs.Prelude.{◌≡◌, ℕ, ◌<◌, ◌==◌, nat_lt, nat_le, is_some, List, [], ◌∷◌, ◌++◌, length, map, take, get_or, sum_by, Option, Some, Result, Ok, Err, if◌then◌else◌}
-use Rattle.session_desk.specs.Histories.{StartsWith, entries_by, Met, first_mark}
+use Rattle.session_turns.specs.Growth.{Begins}
+use Rattle.session_desk.specs.Histories.{entries_by, Met, first_mark}
 use Rattle.desk_trials.specs.declared.tally.Addition.{Addition}
 use Rattle.desk_trials.specs.declared.tally.Refusal.{Refusal}
 use Rattle.desk_trials.specs.declared.tally.Refusal.TheVariants.{Zero, Stuck, NoMemory}
@@ -53,7 +54,7 @@ pub record IsTallyRefused (additions : List Addition) (mark : Option ℕ) (who :
 pub record WasRefused (history : List Addition) (mark : Option ℕ) (who : ℕ) (amounts : List ℕ) (place : ℕ) (refusal : Refusal) : Type 0 where
   pub additions : List Addition
   pub met : Option ℕ
-  pub begins : StartsWith history additions
+  pub begins : Begins history additions
   pub own_entries : entries_by who_of who history ≡ entries_by who_of who additions
   pub mark_is : Met met mark
   pub refused : IsTallyRefused additions met who amounts place refusal

@@ -42,7 +42,7 @@ fn play_all<R: Wait>(
     ensures stop { IfSome result.stop (λ refusal. IsTallyRefused pass.new.seen pass.new.mark pass.old.number moves.now result.played refusal) }
 {
     for (played, mv) in moves.iter().enumerate() {
-        match desk.step(rt, alloc, pass, *mv) {
+        match desk.step(rt, alloc, pass, mv) {
             Ok(_) => {}
             Err(refusal) => {
                 return Run {
@@ -91,8 +91,8 @@ pub fn tally_both<R: Threads + Wait + Sync>(
     ensures within { IfOk result (λ t. (t.first.played ≤ length first.now) × (t.second.played ≤ length second.now)) }
     ensures all_of_first { IfOk result (λ t. IfNone t.first.stop (t.first.played ≡ length first.now)) }
     ensures all_of_second { IfOk result (λ t. IfNone t.second.stop (t.second.played ≡ length second.now)) }
-    ensures stop_of_first { IfOk result (λ t. IfSome t.first.stop (λ refusal. WasRefused t.tally.additions t.tally.mark 0 first.now t.first.played refusal)) }
-    ensures stop_of_second { IfOk result (λ t. IfSome t.second.stop (λ refusal. WasRefused t.tally.additions t.tally.mark 1 second.now t.second.played refusal)) }
+    ensures stop_of_first { IfOk result (λ t. IfSome t.first.stop (WasRefused t.tally.additions t.tally.mark 0 first.now t.first.played)) }
+    ensures stop_of_second { IfOk result (λ t. IfSome t.second.stop (WasRefused t.tally.additions t.tally.mark 1 second.now t.second.played)) }
 {
     let (desk, mut keeper) = Desk::new(alloc, Tally::new(alloc))?;
     let one = desk.admit(&mut keeper);

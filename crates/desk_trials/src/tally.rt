@@ -100,22 +100,22 @@ impl Played for Tally {
 
     ghost shows = { λ f additions mark who total. total ≡ sum_of additions };
 
-    fn play(&mut self, _alloc: Global, who: u32, mv: u32) -> Result<u64, Refusal> {
+    fn play(&mut self, _alloc: Global, who: u32, mv: &u32) -> Result<u64, Refusal> {
         if self.mark.is_some() {
             return Err(Refusal::Stuck);
         }
-        if mv == 0 || self.additions.len() >= MOST {
+        if *mv == 0 || self.additions.len() >= MOST {
             return Err(Refusal::Zero);
         }
-        if mv > HIGHEST {
+        if *mv > HIGHEST {
             self.mark = Some(self.additions.len() as u64);
             return Err(Refusal::Stuck);
         }
-        if self.additions.push(Addition { who, amount: mv }).is_err() {
+        if self.additions.push(Addition { who, amount: *mv }).is_err() {
             return Err(Refusal::NoMemory);
         }
         let before = self.sum;
-        self.sum += mv as u64;
+        self.sum += *mv as u64;
         Ok(before)
     }
 

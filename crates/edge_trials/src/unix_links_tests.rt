@@ -6,13 +6,14 @@ use std::io::{Read, Write};
 use std::os::unix::fs::PermissionsExt;
 use std::os::unix::net::{UnixListener, UnixStream};
 use std::test::Fail;
-use std::time::Duration;
+use std::time::{Duration, Instant};
 use std::{fs, thread};
-use unix_links::UnixAcceptor;
+use unix_links::socket::HEARING_MILLIS;
+use unix_links::{Bell, UnixAcceptor};
 
 #[test]
 fn bytes_come_and_go_over_a_socket(rt: HostRuntime) -> Result<(), Fail> {
-    let mut acceptor = UnixAcceptor::new(&rt, rt.alloc());
+    let mut acceptor = UnixAcceptor::new(&rt, rt.alloc(), Bell::new(&rt, rt.alloc())?);
     assert_eq!(rt; acceptor.bind(&rt, "unix-links-bytes"), Bound::Up);
     let mut client = UnixStream::connect(&rt, "unix-links-bytes.kak")?;
     let Next::Came(mut link) = acceptor.next(&rt) else {
@@ -38,14 +39,14 @@ fn a_session_has_one_server_and_its_socket_is_private_and_goes_with_it(
     let path = "unix-links-door.kak";
     // what a dead server left
     drop(UnixListener::bind(&rt, path)?);
-    let mut acceptor = UnixAcceptor::new(&rt, rt.alloc());
+    let mut acceptor = UnixAcceptor::new(&rt, rt.alloc(), Bell::new(&rt, rt.alloc())?);
     assert!(rt; matches!(acceptor.next(&rt), Next::Idle));
     assert_eq!(rt; acceptor.bind(&rt, "unix-links-door"), Bound::Up);
     assert_eq!(rt;
         fs::metadata(&rt, path)?.permissions().mode() & 0o777,
         0o600
     );
-    let mut other = UnixAcceptor::new(&rt, rt.alloc());
+    let mut other = UnixAcceptor::new(&rt, rt.alloc(), Bell::new(&rt, rt.alloc())?);
     assert_eq!(rt; other.bind(&rt, "unix-links-door"), Bound::Failed);
     assert!(rt; matches!(acceptor.next(&rt), Next::Idle));
     drop(acceptor);
@@ -58,7 +59,7 @@ fn a_session_has_one_server_and_its_socket_is_private_and_goes_with_it(
 fn nothing_but_a_dead_socket_is_taken_over(rt: HostRuntime) -> Result<(), Fail> {
     let path = "unix-links-file.kak";
     fs::write(&rt, path, "not a socket")?;
-    let mut acceptor = UnixAcceptor::new(&rt, rt.alloc());
+    let mut acceptor = UnixAcceptor::new(&rt, rt.alloc(), Bell::new(&rt, rt.alloc())?);
     let bound = acceptor.bind(&rt, "unix-links-file");
     fs::remove_file(&rt, path)?;
     assert_eq!(rt; bound, Bound::Failed);
@@ -88,7 +89,7 @@ fn read_slowly(rt: &HostRuntime, client: &mut UnixStream) -> u64 {
 
 #[test]
 fn all_bytes_reach_a_client_that_reads_slowly(rt: HostRuntime) -> Result<(), Fail> {
-    let mut acceptor = UnixAcceptor::new(&rt, rt.alloc());
+    let mut acceptor = UnixAcceptor::new(&rt, rt.alloc(), Bell::new(&rt, rt.alloc())?);
     assert_eq!(rt; acceptor.bind(&rt, "unix-links-slow"), Bound::Up);
     let mut client = UnixStream::connect(&rt, "unix-links-slow.kak")?;
     let Next::Came(mut link) = acceptor.next(&rt) else {
@@ -106,5 +107,30 @@ fn all_bytes_reach_a_client_that_reads_slowly(rt: HostRuntime) -> Result<(), Fai
     );
     assert_eq!(rt; sent, Put::Done);
     assert_eq!(rt; read, 1_000_000);
+    Ok(())
+}
+
+#[test]
+fn a_bell_ends_each_wait_however_often_it_is_rung(rt: HostRuntime) -> Result<(), Fail> {
+    let bell = Bell::new(&rt, rt.alloc())?;
+    let mut acceptor = UnixAcceptor::new(&rt, rt.alloc(), bell.clone()?);
+    assert_eq!(rt; acceptor.bind(&rt, "unix-links-bell"), Bound::Up);
+    let _first = UnixStream::connect(&rt, "unix-links-bell.kak")?;
+    let _second = UnixStream::connect(&rt, "unix-links-bell.kak")?;
+    let (Next::Came(mut one), Next::Came(mut other)) = (acceptor.next(&rt), acceptor.next(&rt))
+    else {
+        panic!(rt; "no link");
+    };
+    let mut into = [0u8; 4];
+    let start = Instant::now(&rt)?;
+    for _ in 0..10 {
+        for _ in 0..1_000 {
+            bell.ring();
+        }
+        assert_eq!(rt; one.recv(&rt, &mut into), Heard::Idle);
+        assert_eq!(rt; other.recv(&rt, &mut into), Heard::Idle);
+    }
+    // a wait that no ring ends lasts longer than all of these together
+    assert!(rt; start.elapsed(&rt)? < Duration::from_millis(HEARING_MILLIS));
     Ok(())
 }

@@ -1,6 +1,6 @@
 //! What a client is shown of the world, and where its cursor stands.
 
-use draw_model::{draw, follow_cursor};
+use draw_model::redraw;
 use drawings::{Drawing, DrawnLine};
 use kak_world::{Mode, World};
 use std::alloc::Global;
@@ -32,9 +32,10 @@ fn shown_lines(alloc: Global, drawing: &Drawing) -> Result<String, Fail> {
 fn first_drawing<R: Abort>(rt: &R, alloc: Global) -> Result<Drawing, Fail> {
     let mut world = World::new(alloc)?;
     world.join(alloc, 0)?;
-    follow_cursor(&mut world, 0);
     assert!(rt; world.is_joined(0));
-    Ok(draw(alloc, &world, 0)?)
+    world.enter(0);
+    assert!(rt; world.acts(0));
+    Ok(redraw(alloc, &mut world, 0)?)
 }
 
 #[test]
@@ -70,7 +71,9 @@ fn prompt_drawing<R: Abort>(rt: &R, alloc: Global, typed: &str) -> Result<Drawin
     assert!(rt; world.is_joined(0));
     world.own_mut(0).mode = Mode::Prompt;
     assert!(rt; world.is_joined(0));
-    Ok(draw(alloc, &world, 0)?)
+    world.enter(0);
+    assert!(rt; world.acts(0));
+    Ok(redraw(alloc, &mut world, 0)?)
 }
 
 #[test]

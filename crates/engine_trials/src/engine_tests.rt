@@ -20,7 +20,7 @@ struct Shown {
 }
 
 // A step of an engine. No clause says here what it does, so none is in the way of those who call this.
-fn step(alloc: Global, engine: &mut Played, who: u32, event: Event) -> Result<Output, StepFault> {
+fn step(alloc: Global, engine: &mut Played, who: u32, event: &Event) -> Result<Output, StepFault> {
     engine.step(alloc, who, event)
 }
 
@@ -52,13 +52,13 @@ fn engine_of(alloc: Global, limit: u64, clients: u32) -> Result<Played, Fail> {
 // So many clients join.
 fn join_all(alloc: Global, engine: &mut Played, clients: u32) -> Result<(), StepFault> {
     for who in 0..clients {
-        step(alloc, engine, who, Event::Join)?;
+        step(alloc, engine, who, &Event::Join)?;
     }
     Ok(())
 }
 
 // What an event tells.
-fn told_at(alloc: Global, engine: &mut Played, who: u32, event: Event) -> Told {
+fn told_at(alloc: Global, engine: &mut Played, who: u32, event: &Event) -> Told {
     match step(alloc, engine, who, event) {
         Ok(output) if output.leaving => Told::MayLeave,
         Ok(output) if output.drawing.is_some() => Told::Drew,
@@ -75,7 +75,7 @@ fn strike(alloc: Global, engine: &mut Played, who: u32, text: &str) -> Result<To
         if told != Told::Ran {
             return Ok(Told::Unlike);
         }
-        told = told_at(alloc, engine, who, Event::Key(*key));
+        told = told_at(alloc, engine, who, &Event::Key(*key));
     }
     Ok(told)
 }
@@ -118,7 +118,7 @@ fn shown_of(alloc: Global, drawing: &Drawing) -> Result<Shown, AllocError> {
 
 // Draws a client.
 fn look(alloc: Global, engine: &mut Played, who: u32) -> Result<Shown, Fail> {
-    let output = step(alloc, engine, who, Event::Refresh(true))?;
+    let output = step(alloc, engine, who, &Event::Refresh(true))?;
     match &output.drawing {
         Some(drawing) => Ok(shown_of(alloc, drawing)?),
         None => Err("nothing is drawn".into()),
@@ -138,9 +138,9 @@ fn told_if(told: Told, is_so: bool) -> Told {
 // What a client does tells this.
 fn does(alloc: Global, engine: &mut Played, who: u32, act: Act) -> Result<Told, Fail> {
     match act {
-        Act::Join => Ok(told_at(alloc, engine, who, Event::Join)),
+        Act::Join => Ok(told_at(alloc, engine, who, &Event::Join)),
         Act::Keys(text) => strike(alloc, engine, who, text),
-        Act::Draw(asked) => Ok(told_at(alloc, engine, who, Event::Refresh(asked))),
+        Act::Draw(asked) => Ok(told_at(alloc, engine, who, &Event::Refresh(asked))),
         Act::Sees(lines, column, mode_line) => {
             let shown = look(alloc, engine, who)?;
             Ok(told_if(Told::Drew, is_seen(&shown, lines, column, mode_line)))
@@ -149,7 +149,7 @@ fn does(alloc: Global, engine: &mut Played, who: u32, act: Act) -> Result<Told, 
             let shown = look(alloc, engine, who)?;
             Ok(told_if(Told::Drew, shown.status.as_str() == status))
         }
-        Act::Leave => Ok(told_at(alloc, engine, who, Event::Leave)),
+        Act::Leave => Ok(told_at(alloc, engine, who, &Event::Leave)),
         Act::Struck(wanted) => Ok(told_if(Told::Ran, count_keys(engine, who) == wanted)),
     }
 }

@@ -79,6 +79,7 @@ fn keys_in(alloc: Global, line: &[u8]) -> Result<Option<usize>, LineError> {
     match decode_line(alloc, line)? {
         Request::Nothing => Ok(None),
         Request::Keys(keys) => Ok(Some(keys.into_vec().len())),
+        Request::Resize(_, _) => Ok(None),
     }
 }
 
@@ -104,7 +105,7 @@ static LINES: [(&str, Result<Option<usize>, Refusal>); 15] = [
     ),
     ("{\"jsonrpc\":\"2.0\",\"method\":[]}", Err(Refusal::Invalid)),
     (
-        "{\"jsonrpc\":\"2.0\",\"method\":\"resize\",\"params\":[2,2]}",
+        "{\"jsonrpc\":\"2.0\",\"method\":\"scroll\",\"params\":[2]}",
         Err(Refusal::Method),
     ),
     (
@@ -148,6 +149,46 @@ fn a_line_has_at_most_so_many_bytes_and_levels(rt: HostRuntime) -> Result<(), Fa
             keys_in(rt.alloc(), nested.as_slice()),
             Err(LineError::Refused(refusal))
         );
+    }
+    Ok(())
+}
+
+// The rows and columns of a line, if it is one of these.
+fn size_in(alloc: Global, line: &[u8]) -> Result<Option<(u16, u16)>, LineError> {
+    match decode_line(alloc, line)? {
+        Request::Nothing | Request::Keys(_) => Ok(None),
+        Request::Resize(rows, columns) => Ok(Some((rows, columns))),
+    }
+}
+
+static SIZES: [(&str, Result<Option<(u16, u16)>, Refusal>); 16] = [
+    ("[10,80]", Ok(Some((10, 80)))),
+    ("[0,0]", Ok(Some((1, 1)))),
+    ("[1000,1001]", Ok(Some((1000, 1000)))),
+    ("[65536,65537]", Ok(Some((1000, 1000)))),
+    ("[18446744073709551615,1]", Ok(Some((1000, 1)))),
+    ("[18446744073709551616,1]", Err(Refusal::Params)),
+    ("[-1,1]", Err(Refusal::Params)),
+    ("[-0,1]", Err(Refusal::Params)),
+    ("[1.0,1]", Err(Refusal::Params)),
+    ("[1,1e0]", Err(Refusal::Params)),
+    ("[\"1\",1]", Err(Refusal::Params)),
+    ("[]", Err(Refusal::Params)),
+    ("[1]", Err(Refusal::Params)),
+    ("[1,2,3]", Err(Refusal::Params)),
+    ("null", Err(Refusal::Params)),
+    ("{\"0\":1,\"1\":2}", Err(Refusal::Params)),
+];
+
+#[test]
+fn sizes_are_two_whole_numbers(rt: HostRuntime) -> Result<(), Fail> {
+    for &(params, wanted) in &SIZES {
+        let mut line = String::new(rt.alloc());
+        line.push_str("{\"jsonrpc\":\"2.0\",\"method\":\"resize\",\"params\":")?;
+        line.push_str(params)?;
+        line.push_str("}")?;
+        let read = size_in(rt.alloc(), line.as_bytes());
+        assert_eq!(rt; read, wanted.map_err(LineError::Refused), "from {params}");
     }
     Ok(())
 }

@@ -16,6 +16,8 @@ mod gen_tests;
 #[cfg(test)]
 mod json_tests;
 #[cfg(test)]
+mod lagging_tests;
+#[cfg(test)]
 mod outside_tests;
 #[cfg(test)]
 mod refusal_tests;

@@ -5,10 +5,11 @@ ghost use Rattle.std.specs.List.{AllByRecursion};
 ghost use Rattle.selection_set.specs.Listing.{IsPairInside};
 ghost use Rattle.selection_set.specs.Held.{IsHeld};
 
+use directions::Direction;
 use kak_text::{Chars, Coord, Text};
 use line_buffer::Lines;
 use regex_ports::{Made, PatternMaker, RegexMaker, RegexPattern};
-use regex_select::{Search, Way, next_match, search};
+use regex_select::{Search, next_match, search};
 use selection_set::{Pair, Sel, Sels};
 use std::alloc::Global;
 use std::process::Abort;
@@ -89,13 +90,13 @@ fn assert_found<R: Abort>(
 fn searches_go_round_the_ends(rt: HostRuntime) -> Result<(), Fail> {
     let both = [sel(0, 1, false), sel(4, 5, false)];
     let search = Search {
-        way: Way::Forward,
+        direction: Direction::Forward,
         extend: false,
     };
     assert_found(&rt, rt.alloc(), search, both.as_slice(), 0)?;
     let stretched = [sel(1, 2, true), sel(5, 10, true)];
     let search = Search {
-        way: Way::Backward,
+        direction: Direction::Backward,
         extend: true,
     };
     assert_found(&rt, rt.alloc(), search, stretched.as_slice(), 1)
@@ -108,11 +109,11 @@ fn next_ends<R: Abort>(
     lines: &Lines,
     pattern: &RegexPattern,
     from: usize,
-    way: Way,
+    direction: Direction,
 ) -> Result<(Coord, Coord), Fail> {
     assert!(rt; from < lines.len());
     let from = Sel::only(lines.coord_of(from));
-    let found = next_match(alloc, lines, from, pattern, way)?;
+    let found = next_match(alloc, lines, from, pattern, direction)?;
     Ok((found.anchor, found.cursor))
 }
 
@@ -120,23 +121,23 @@ fn next_ends<R: Abort>(
 fn one_match_is_found_either_way(rt: HostRuntime) -> Result<(), Fail> {
     let alloc = rt.alloc();
     let rows = [
-        ("abc ab é ab\n", "é a|b c", 9, Way::Forward, (7, 9)),
-        ("abc ab é ab\n", "ab", 10, Way::Forward, (0, 1)),
-        ("abc ab é ab\n", "ab", 9, Way::Forward, (0, 1)),
-        ("abc ab é ab\n", "ab", 0, Way::Backward, (9, 10)),
-        ("abc ab é ab\n", "ab", 10, Way::Backward, (9, 10)),
-        ("éaéa\n", "a", 1, Way::Forward, (3, 3)),
-        ("éaéa\n", "a", 3, Way::Backward, (1, 1)),
-        ("ab\n", "x*", 0, Way::Forward, (1, 1)),
-        ("ab\n", "x*", 2, Way::Forward, (0, 0)),
-        ("ab\n", "x*", 0, Way::Backward, (2, 2)),
-        ("ab\n", "\n", 0, Way::Forward, (2, 2)),
+        ("abc ab é ab\n", "é a|b c", 9, Direction::Forward, (7, 9)),
+        ("abc ab é ab\n", "ab", 10, Direction::Forward, (0, 1)),
+        ("abc ab é ab\n", "ab", 9, Direction::Forward, (0, 1)),
+        ("abc ab é ab\n", "ab", 0, Direction::Backward, (9, 10)),
+        ("abc ab é ab\n", "ab", 10, Direction::Backward, (9, 10)),
+        ("éaéa\n", "a", 1, Direction::Forward, (3, 3)),
+        ("éaéa\n", "a", 3, Direction::Backward, (1, 1)),
+        ("ab\n", "x*", 0, Direction::Forward, (1, 1)),
+        ("ab\n", "x*", 2, Direction::Forward, (0, 0)),
+        ("ab\n", "x*", 0, Direction::Backward, (2, 2)),
+        ("ab\n", "\n", 0, Direction::Forward, (2, 2)),
     ];
-    for (text, source, from, way, expected) in rows {
+    for (text, source, from, direction, expected) in rows {
         let lines = lines(alloc, text)?;
         let sought = pattern(&rt, alloc, source)?;
         let (low, high) = expected;
-        let (anchor, cursor) = next_ends(&rt, alloc, &lines, &sought, from, way)?;
+        let (anchor, cursor) = next_ends(&rt, alloc, &lines, &sought, from, direction)?;
         assert_eq!(rt; anchor, coord(low), "{source} from {from} of {text}");
         assert_eq!(rt; cursor, coord(high), "{source} from {from} of {text}");
     }

@@ -81,7 +81,7 @@ fn told_at<S: LiveSeat>(alloc: Global, seat: &mut S, act: Act) -> Told
     let Some(event) = event_of(act) else {
         return Told::Saw(seat.look());
     };
-    match seat.step(alloc, event) {
+    match seat.step(alloc, &event) {
         Ok(_) => Told::Taken,
         Err(_) => Told::Refused,
     }

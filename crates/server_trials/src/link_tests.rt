@@ -4,9 +4,11 @@ ghost use Rattle.std.specs.Prelude.{if◌then◌else◌, Some, None, [], ◌∷�
 ghost use Rattle.client_links.specs.Memory.{memory_wire};
 ghost use Rattle.session_events.specs.declared.event.Event.TheVariants.{Join};
 ghost use Rattle.session_events.specs.Entries.{entry_of};
+ghost use Rattle.session_events.specs.Meaning.{no_output};
 
 use client_links::{Heard, Link, MemLink};
 use engine_desk::{DeskSeat, SharedEngine};
+use json_ui::JsonReader;
 use kak_engine::NoOutside;
 use kak_ports::{FailingCalls, Put};
 use key_names::{Base, Key};
@@ -47,7 +49,7 @@ struct FragileSeat {
 }
 
 impl Seat for FragileSeat {
-    ghost gives = { λ _ _. record { drawing = None; leaving = false } };
+    ghost gives = { λ _ _. no_output };
 
     ghost crowded = { λ _. false };
 
@@ -63,7 +65,7 @@ impl Seat for FragileSeat {
 
     ghost kept = { λ _. tt };
 
-    fn step(&mut self, _alloc: Global, event: Event) -> Result<Output, StepFault> {
+    fn step(&mut self, _alloc: Global, event: &Event) -> Result<Output, StepFault> {
         if self.came || self.broken {
             self.broken = true;
             return Err(StepFault::Broken(1));
@@ -96,7 +98,15 @@ fn serve_fragile<R: Wait>(rt: &R, alloc: Global) -> Result<(Ended, bool, String)
         came: false,
         broken: false,
     };
-    let ended = serve_over(rt, alloc, 0, &mut seat, &[], &mut link, &mut OpenGate);
+    let ended = serve_over::<JsonReader, _, _, _, _>(
+        rt,
+        alloc,
+        0,
+        &mut seat,
+        &[],
+        &mut link,
+        &mut OpenGate,
+    );
     Ok((ended, seat.came, sent_over(alloc, link.finish())?))
 }
 
@@ -135,8 +145,8 @@ impl<S: Seat + Drop> Link for OvertypedLink<S> {
     ghost spent = { memory_wire };
 
     fn recv<R: Wait>(&mut self, rt: &R, into: &mut [u8]) -> Heard {
-        let _insert = self.other.step(self.alloc, letter('i'));
-        let _typed = self.other.step(self.alloc, letter('x'));
+        let _insert = self.other.step(self.alloc, &letter('i'));
+        let _typed = self.other.step(self.alloc, &letter('x'));
         self.link.recv(rt, into)
     }
 
@@ -156,7 +166,7 @@ impl<S: Seat + Drop> Link for OvertypedLink<S> {
 
 // Has a client come at a seat.
 fn join<S: Seat>(alloc: Global, seat: &mut S) -> Result<(), Fail> {
-    match seat.step(alloc, Event::Join) {
+    match seat.step(alloc, &Event::Join) {
         Ok(_) => Ok(()),
         Err(_) => Err("the other one comes".into()),
     }

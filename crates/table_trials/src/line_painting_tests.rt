@@ -14,7 +14,7 @@ use selection_set::{Pair, Sels};
 use std::alloc::Global;
 use std::process::Abort;
 use std::test::Fail;
-use window_view::Window;
+use window_view::{Tabstop, Window};
 
 // The lines of a text, to which a newline is added where it lacks.
 fn lines_of(alloc: Global, text: &str) -> Result<Lines, Fail> {
@@ -89,11 +89,9 @@ fn seen(
     sels: &Sels,
     top: u32,
     left: u32,
-    tabstop: u32,
+    tabstop: Tabstop,
 ) -> Result<String, Fail>
     requires held { IsHeld lines.now sels.now }
-    requires some { 1 ≤ tabstop }
-    requires few { tabstop ≤ MAX_TABSTOP }
 {
     let window = Window {
         top,
@@ -123,7 +121,7 @@ fn seen_by_one<R: Abort>(
     let sels = select(rt, alloc, &lines, pairs.as_slice(), 0)?;
     assert!(rt; 1 <= tabstop);
     assert!(rt; tabstop <= MAX_TABSTOP);
-    seen(alloc, &lines, &sels, 0, left, tabstop)
+    seen(alloc, &lines, &sels, 0, left, Tabstop { columns: tabstop })
 }
 
 // What a window at the top shows of a line with two selections, given by their ends.
@@ -141,7 +139,7 @@ fn seen_by_two<R: Abort>(
         pair(rt, &lines, second.0, second.1),
     ];
     let sels = select(rt, alloc, &lines, pairs.as_slice(), main)?;
-    seen(alloc, &lines, &sels, 0, left, 8)
+    seen(alloc, &lines, &sels, 0, left, Tabstop { columns: 8 })
 }
 
 #[test]
@@ -207,7 +205,7 @@ fn selections_go_over_lines(rt: HostRuntime) -> Result<(), Fail> {
         (4, 0, ""),
     ];
     for (top, left, expected) in &rows {
-        let shown = seen(alloc, &lines, &sels, *top, *left, 8)?;
+        let shown = seen(alloc, &lines, &sels, *top, *left, Tabstop { columns: 8 })?;
         assert_eq!(rt; shown.as_str(), *expected);
     }
     Ok(())

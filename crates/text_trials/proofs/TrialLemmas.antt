@@ -1,5 +1,5 @@
 -- What the trials try can be caught up with, at once and one by one, and is marks and shifts of changes.
-use Rattle.std.proofs.Common.{◌≡◌, ℕ, Bool, true, false, ◌&&◌, List, [], ◌∷◌, length, map, refl, sym, subst, eqb-true, ltb-true, leb-true, ltb, leb}
+use Rattle.std.proofs.Common.{◌≡◌, ℕ, Bool, true, false, ◌&&◌, List, [], ◌∷◌, length, map, refl, sym, subst, arith, eqb-true, ltb-true, leb-true, ltb, leb}
 use Rattle.std.proofs.lemmas.Bool.{false≢true}
 use Rattle.text_model.specs.declared.coords.Coord.{Coord}
 use Rattle.text_model.specs.declared.coords.Shift.{Shift}
@@ -12,6 +12,7 @@ use Rattle.undo_model.specs.Steps.{size, AreSteps}
 use Rattle.list_model.specs.Settling.{carried}
 use Rattle.selection_set.specs.declared.sel.Sel.{Sel}
 use Rattle.selection_set.specs.Listing.{Listed, ranges_of, AreInside, LowsDontFall, IsSettledIn}
+use Rattle.selection_set.specs.Held.{IsHeld}
 use Rattle.selection_set.proofs.HeldLemmas.{settled-held, held-order}
 use Rattle.selection_map.specs.Carrying.{IsShiftStep, AllSmall}
 use Rattle.selection_map.specs.Catching.{Step, Lead, shifts_of, AreShiftsOf, IsCatchable}
@@ -64,7 +65,15 @@ trial-catchable given shifts main s t settles =
     subst (λ (l : List Shift). IsCatchable l s) (sym t.shifts_are)
     (changes-catchable t.text t.changes (shifts_by t.text t.changes) s (kept-stored t.text t.kept) (shifts-are t.text t.changes t.lie_in) (settled-held t.text (ranges_of t.text given) main s (settles t.text given_in)))
 
-all-small : (old : List ℕ) (st : Step) (list : List Sel) → IsStored old → IsStored st.text → IsShift old st.text st.shift st.move → AreInside old list → AllSmall list st.shift
+-- the list of one selection of a trial can
+pub trial-one : (x : Sel) (shifts : List Shift) → IsTrialOfList (x ∷ []) shifts → IsCatchable shifts (record { list = x ∷ []; main = 0 })
+trial-one x shifts t =
+    let given : AreInside t.text (x ∷ []) = inside-are t.text (x ∷ []) t.inside in
+    let held : IsHeld t.text (record { list = x ∷ []; main = 0 }) = record { inside = given; settled = record { ranges = (given.0.ordered, tt); apart = (tt, tt); main_is = omega arith } } in
+    subst (λ (l : List Shift). IsCatchable l (record { list = x ∷ []; main = 0 })) (sym t.shifts_are)
+    (changes-catchable t.text t.changes (shifts_by t.text t.changes) (record { list = x ∷ []; main = 0 }) (kept-stored t.text t.kept) (shifts-are t.text t.changes t.lie_in) held)
+
+pub all-small : (old : List ℕ) (st : Step) (list : List Sel) → IsStored old → IsStored st.text → IsShift old st.text st.shift st.move → AreInside old list → AllSmall list st.shift
 all-small old st [] h k f i = tt
 all-small old st (x ∷ xs) h k f i = (both-small old st.text x st.shift st.move h k f i.0, all-small old st xs h k f i.1)
 

@@ -10,6 +10,8 @@ mod kak_text_tests;
 #[cfg(test)]
 mod key_names_tests;
 #[cfg(test)]
+mod list_shelf_tests;
+#[cfg(test)]
 mod move_marks_tests;
 #[cfg(test)]
 mod program_words_tests;
@@ -21,6 +23,8 @@ mod selection_map_tests;
 mod selection_set_tests;
 #[cfg(test)]
 mod selection_texts_tests;
+#[cfg(test)]
+mod shelf_log_tests;
 #[cfg(test)]
 mod text_coding_tests;
 #[cfg(test)]

@@ -2,7 +2,7 @@
 
 use compact_chars::CharsRef;
 use std::test::Fail;
-use window_view::{cell_of, offset_at};
+use window_view::{Tabstop, cell_of, offset_at};
 
 #[test]
 fn places_have_their_display_columns(rt: HostRuntime) -> Result<(), Fail> {
@@ -10,7 +10,7 @@ fn places_have_their_display_columns(rt: HostRuntime) -> Result<(), Fail> {
     let columns = [0, 1, 8, 10, 11, 11, 13, 14, 15];
     for (i, column) in columns.iter().enumerate() {
         assert!(rt; i <= line.len());
-        assert_eq!(rt; cell_of(line, i, 8), *column, "at {i}");
+        assert_eq!(rt; cell_of(line, i, Tabstop { columns: 8 }), *column, "at {i}");
     }
     Ok(())
 }
@@ -31,8 +31,15 @@ fn cells_lead_to_the_characters_that_hold_them(rt: HostRuntime) -> Result<(), Fa
         (u32::MAX, None),
     ];
     for (cell, holder) in rows {
-        assert_eq!(rt; offset_at(line, cell, 4), holder, "at {cell}");
+        assert_eq!(rt;
+            offset_at(line, cell, Tabstop { columns: 4 }),
+            holder,
+            "at {cell}"
+        );
     }
-    assert_eq!(rt; offset_at(CharsRef::Narrow(&[]), 0, 4), None);
+    assert_eq!(rt;
+        offset_at(CharsRef::Narrow(&[]), 0, Tabstop { columns: 4 }),
+        None
+    );
     Ok(())
 }

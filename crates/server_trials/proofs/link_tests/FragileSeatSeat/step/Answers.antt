@@ -1,6 +1,6 @@
 use Rattle.std.proofs.Common.{◌≡◌, true, [], ◌∷◌, refl, sym, ap, ◌∙◌}
 use Rattle.session_events.specs.declared.event.Event.{Event}
-use Rattle.session_events.specs.declared.event.Event.TheVariants.{Join, Key as Struck, Refresh, Leave}
+use Rattle.session_events.specs.declared.event.Event.TheVariants.{Join, Key as Struck, Resize, Refresh, Leave}
 use Rattle.session_events.specs.Entries.{entry_with, is_join}
 use Rattle.server_trials.proofs.link_tests.FragileSeatSeat.step.Goals as goal
 
@@ -8,6 +8,7 @@ use Rattle.server_trials.proofs.link_tests.FragileSeatSeat.step.Goals as goal
 join-is : (event : Event) → is_join event ≡ true → Join ≡ event
 join-is Join e = refl
 join-is (Struck key) e = cc
+join-is (Resize rows columns) e = cc
 join-is (Refresh asked) e = cc
 join-is Leave e = cc
 
@@ -16,6 +17,6 @@ returns-then-is_join-clause-ok c = record {
   between = [];
   answers = [];
   foreign = refl;
-  stands = rw c.if-self.false (ap (λ e. entry_with c.args.self.now.who e [] ∷ []) (join-is c.args.event (sym c.is_join.ensures ∙ c.if-is_join.true)));
+  stands = rw c.if-self.false (ap (λ e. entry_with c.args.self.now.who e [] ∷ []) (join-is c.args.event.now (sym c.is_join.ensures ∙ c.if-is_join.true)));
   is = c.nothing.ensures;
 }
