@@ -15,7 +15,7 @@ from processes import run_with_files
 # how long a drawing may take, and the end of a server
 SECONDS = 30
 # how long nothing has to come before nothing is said to come
-QUIET = 0.3
+QUIET = 2.5
 REFRESH = b'"method":"refresh"'
 
 

@@ -10,12 +10,14 @@ TOP = pathlib.Path(__file__).resolve().parent.parent
 # the session that README.md tells of, and that of docs/PROTOCOL.md
 README_SESSION = [keys_line("ihi<esc>"), keys_line("ia", "<nope>")]
 PROTOCOL_SESSION = [keys_line("ihi<esc>"), keys_line("h"), keys_line(":wr"), keys_line("<ret>"), keys_line("ia", "<nope>")]
+# how requests begin
+REQUESTS = tuple(b'{"jsonrpc":"2.0","method":"%s"' % method for method in (b"keys", b"resize"))
 
 
 def shown_lines(text):
     """The lines of JSON that stand by themselves, requests aside."""
     return [line for line in text.encode().splitlines(True)
-            if line.startswith((b'{"jsonrpc"', b'{"error"')) and b'"method":"keys"' not in line]
+            if line.startswith((b'{"jsonrpc"', b'{"error"')) and not line.startswith(REQUESTS)]
 
 
 def protocol_pages():

@@ -68,3 +68,8 @@ def key(number):
 def keys_line(*texts):
     """The line that plays these key texts."""
     return (compact({"jsonrpc": "2.0", "method": "keys", "params": list(texts)}) + "\n").encode()
+
+
+def resize_line(*numbers):
+    """The line that asks for so many rows and columns."""
+    return (compact({"jsonrpc": "2.0", "method": "resize", "params": list(numbers)}) + "\n").encode()

@@ -1,47 +1,101 @@
-"""The picture of two windows in README.md is what the front end in `examples` shows of such a session."""
-import json
+"""The pictures of docs/pictures are what the front end in `examples` shows in terminals."""
 import pathlib
+import shlex
+import sys
 
-from connections import play, settle
-from drawings import CURSOR, CURSOR_ON_NEWLINE
+import svg
+import tmux
+from connections import Place
 
 TOP = pathlib.Path(__file__).resolve().parent.parent
-FILES = {"notes.txt": b"milk\nbread\neggs\n"}
+PICTURES = TOP / "docs/pictures"
+FRONT_END = shlex.join([sys.executable, str(TOP / "examples/terminal.py")])
+NOTES = b"milk\nbread\neggs\n"
+CODE = b"""def greet(name, words):
+    for word in words:
+        print(word, name)
+
+greet("world", ["hello", "good morning"])
+"""
+ESC = "\x1b"
 
 
-def run(program, report):
-    play(program, report, two_windows, files=FILES)
+class Session:
+    """Terminals beside each other in one folder, in which things are typed by turns."""
+
+    def __init__(self, program, server, windows, place, size):
+        self.setting = {"KAK": str(program), "KAKD": str(server), "COLORTERM": "truecolor"}
+        self.windows, self.place, self.size = windows, place, size
+        self.shown = []
+
+    def open(self, *words):
+        """A terminal on these words, which are its title."""
+        terminal = self.windows.window(self.place.folder, f"{FRONT_END} {shlex.join(words)}", *self.size, self.setting)
+        self.shown.append((terminal, "examples/terminal.py " + shlex.join(words)))
+        return terminal
+
+    def picture(self):
+        """What all of them show."""
+        return svg.picture([(terminal.rows("-e", "-N"), self.size[1], title) for terminal, title in self.shown])
+
+    def close(self):
+        for terminal, _ in self.shown:
+            terminal.type("\x1c")
+            terminal.has_ended()
 
 
-def pictured():
-    """The two windows of the picture, each the rows between its frames."""
-    picture = (TOP / "README.md").read_text().partition("\n┌")[2].partition("\n└")[0]
-    rows = [row.split("│") for row in picture.splitlines()[1:]]
-    return [[row[place][1:].rstrip() for row in rows] for place in (1, 3)]
+def typed(terminal, *turns):
+    """Types texts, each when what the one before leads to is shown."""
+    for text, shown in turns:
+        terminal.type(text)
+        if not terminal.shows(shown):
+            raise OSError(f"a terminal doesn't show {shown!r}")
 
 
-def text_of(atoms):
-    """The characters of a line, with brackets around those in a face of cursors."""
-    texts = [(atom["contents"].replace("\n", " "), atom["face"] in (CURSOR, CURSOR_ON_NEWLINE)) for atom in atoms]
-    return "".join(f"[{text}]" if is_cursor else text for text, is_cursor in texts).rstrip()
+def two_windows(session):
+    """Two windows on one session: in the first three cursors typed before three lines, and in the second a command is typed."""
+    first = session.open("-s", "work", "notes.txt")
+    typed(first, ("", "notes.txt 1:1 normal 1/1 - client0"))
+    second = session.open("-s", "work", "notes.txt")
+    typed(second, ("", "notes.txt 1:1 normal 1/1 - client1"))
+    typed(first, ("%" + ESC + "s", " 3/3 "), ("I- ", "3:3 insert 3/3"))
+    typed(second, ("", "- eggs"), (":w", ":w"))
 
 
-def window_of(drawn):
-    """The window of a drawing: its lines, a row below them, and the status line and the mode line."""
-    parts = {part["method"]: part["params"] for part in map(json.loads, drawn.splitlines())}
-    status, mode, _ = parts["draw_status"]
-    return [*map(text_of, parts["draw"][0]), "~", text_of(status), text_of(mode)]
+def many_selections(session):
+    """All places of a word in a program are selected."""
+    window = session.open("greet.py")
+    typed(window, ("", "greet.py 1:1 normal"), ("%s", "select:"), ("word\\b|name\r", " 4/4 "))
 
 
-def two_windows(place, report):
-    server = place.serve("notes.txt")
-    clients = server.clients(2)
-    drawn = [None, None]
-    for who, keys in ((1, ":b notes.txt<ret>"), (0, "%<a-s>I- "), (1, ":w")):
-        drawn[who] = clients[who].play(keys)
-        drawn = [last or before for last, before in zip(settle(clients), drawn)]
-    for who, rows in enumerate(pictured()):
-        report.check(f"README.md: the picture of window {who}", window_of(drawn[who]), rows)
-    for client in clients:
-        client.close()
-    report.check("README.md: the picture's server ends", (0, b""), server.end())
+# the pictures by their names: the files that are there, the rows and columns of a terminal, and what is done
+ALL = {
+    "two_windows": ({"notes.txt": NOTES}, (8, 44), two_windows),
+    "many_selections": ({"greet.py": CODE}, (9, 60), many_selections),
+}
+
+
+def drawn(name, program, server):
+    """A picture, as the text of its file."""
+    files, size, steps = ALL[name]
+    with tmux.Tmux() as windows, Place(server, files) as place:
+        session = Session(program, server, windows, place, size)
+        try:
+            steps(session)
+            return session.picture()
+        finally:
+            session.close()
+
+
+def run(program, server, report):
+    stored = sorted(path.stem for path in PICTURES.iterdir())
+    report.check("docs/pictures has these pictures, which e2e/pictures draws", sorted(ALL), stored)
+    if not tmux.IS_THERE:
+        report.not_run("docs/pictures", "no tmux")
+        return
+    for name in ALL:
+        try:
+            stored_bytes = (PICTURES / f"{name}.svg").read_bytes()
+            report.check_output(f"docs/pictures/{name}.svg: e2e/pictures draws it anew", stored_bytes, drawn(name, program, server).encode())
+        except OSError as fault:
+            report.fail(f"docs/pictures/{name}.svg", "expected a session to its end", f"came     {fault!r}")

@@ -26,6 +26,7 @@ class Report:
     def __init__(self):
         self.passed = 0
         self.failed = 0
+        self.left_out = 0
 
     def check(self, name, wanted, came):
         """The value that came is the one that was wanted."""
@@ -52,8 +53,14 @@ class Report:
         self.failed += 1
         print(f"e2e: FAILED: {name}", *lines, sep="\n    ", flush=True)
 
+    def not_run(self, name, why):
+        """Checks that this machine can't run: that is said, and they count neither as passed nor as failed."""
+        self.left_out += 1
+        print(f"e2e: {name}: not run: {why}", flush=True)
+
     def all_passed(self):
         return self.failed == 0
 
     def counts(self):
-        return f"e2e: {self.passed} passed, {self.failed} failed"
+        left_out = f", {self.left_out} not run" if self.left_out else ""
+        return f"e2e: {self.passed} passed, {self.failed} failed{left_out}"

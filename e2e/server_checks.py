@@ -10,7 +10,7 @@ import time
 
 from connections import REFRESH, SECONDS, play, settle, text_of
 from document_checks import protocol_pages, shown_lines
-from drawings import CURSOR, CURSOR_ON_NEWLINE, DEFAULT, INVALID, METHOD, OPENING, PARAMS, PARSE, TOO_LONG, atom, drawing, key, keys_line, opening
+from drawings import CURSOR, CURSOR_ON_NEWLINE, DEFAULT, INVALID, METHOD, OPENING, PARAMS, PARSE, TOO_LONG, atom, drawing, key, keys_line, opening, resize_line
 from edit_checks import last_drawing
 from file_checks import FOLDER as COMMANDS, files_of, words_of
 from session_checks import HERE, TOPICS
@@ -26,8 +26,11 @@ REFUSED = {
     "not UTF-8": (b"\xff\n", PARSE),
     "a zero byte": (b"\0\n", PARSE),
     "no object": (b"[]\n", INVALID),
-    "another method": (keys_line("x").replace(b'"keys"', b'"resize"'), METHOD),
+    "another method": (keys_line("x").replace(b'"keys"', b'"scroll"'), METHOD),
     "no texts": (keys_line("x").replace(b'["x"]', b"[1]"), PARAMS),
+    "no numbers": (keys_line("x").replace(b'"keys"', b'"resize"'), PARAMS),
+    "one number": (resize_line(10), PARAMS),
+    "no whole number": (resize_line(10, 80.0), PARAMS),
     "no such key": (keys_line("ix", "<nope>"), key(1)),
     "too long": (b" " * 1_048_577 + b"\n", TOO_LONG),
 }

@@ -162,7 +162,7 @@ def refusals(report):
 def statuses(report):
     """docs/PROTOCOL.md has each status with which a program ends."""
     for section, path, never in (("The end", "kak_app/specs/Runs.antt", "BadClient"), ("Replays", "kak_app/specs/Runs.antt", None), ("Servers", "session_server/specs/Running.antt", None)):
-        coded = [number for name, number in re.findall(r"^(?:code_of|server_code) (\w+) = (\d+)", source(path), re.MULTILINE) if name != never]
+        coded = [number for name, number in re.findall(r"^(?:code_of|server_code) \(?(\w+)[^=\n]*= (\d+)", source(path), re.MULTILINE) if name != never]
         agree(report, f"docs/PROTOCOL.md, {section}: statuses", [cells[0] for cells in rows("PROTOCOL.md", section, "Status")], coded)
 
 

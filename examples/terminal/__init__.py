@@ -1,0 +1,1 @@
+"""The parts of `examples/terminal.py`, the front end for a terminal."""
