@@ -161,6 +161,7 @@ pub fn catch_up(sels: &mut Sels, shifts: &[Shift])
 
 /// The same for shifts that rise, in one walk with a count of its turns: each finishes one end of a selection or passes one
 /// shift. There are two for each selection that moves at least, and two for each selection and one for each shift at most.
+/// The searches by halves for the next selection that moves, and the settling afterwards, are no turns.
 pub fn catch_up_forward<L: Ledger>(sels: &mut Sels, shifts: &[Shift], steps: &mut Steps<L>)
     requires can { IsCatchable shifts.now sels.old }
     requires rise { AreRising shifts.now }
