@@ -3,6 +3,7 @@ pub mod LagLemmas
 pub mod FollowLemmas
 pub mod StandLemmas
 pub mod StoreLemmas
+pub mod StayLemmas
 pub mod UpLemmas
 pub mod CodeLemmas
 pub mod NoteLemmas

@@ -19,7 +19,7 @@ use Rattle.list_shelf.proofs.FollowLemmas.{all-noted-follows}
 use Rattle.list_shelf.proofs.StandLemmas.{brought-rows, least-below, trim-from}
 
 -- a list that is one holder's is no other's
-holders-apart : (holder other : Holder) → same_holder holder other ≡ false → AreApart (is_of holder) (is_of other)
+pub holders-apart : (holder other : Holder) → same_holder holder other ≡ false → AreApart (is_of holder) (is_of other)
 holders-apart (Of a) (Of b) apart row mine = by row.holder mine
   where
     by : (h : Holder) → same_holder (Of a) h ≡ true → same_holder (Of b) h ≡ false

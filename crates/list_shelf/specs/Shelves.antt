@@ -1,6 +1,6 @@
 -- A shelf: the lists of all holders on one text, each with the stamp at which it stands and the corner at which its holder's
 -- window on the text stands, and the log of the shifts since.
-use Rattle.std.specs.Prelude.{◌≡◌, ◌+◌, ◌≤◌, ℕ, Bool, true, false, not, nat_lt, min, ◌==◌, if◌then◌else◌, List, [], ◌∷◌, map, filter}
+use Rattle.std.specs.Prelude.{◌≡◌, ◌+◌, ◌≤◌, ℕ, zero, suc, Bool, true, false, not, nat_lt, nat_le, min, ◌==◌, if◌then◌else◌, List, [], ◌∷◌, map, filter}
 use Rattle.std.specs.List.{AllByRecursion, list_any}
 use Rattle.tables.specs.Tables.{first_where, changed_where, with_row}
 use Rattle.text_model.specs.declared.coords.Shift.{Shift}
@@ -133,6 +133,20 @@ KeepsUp old new = (holder : Holder) → IsUp holder old → IsUp holder new
 -- what other holders have stays as it is stored, where the log has room for so many shifts
 abbrev pub LeavesOthers : Holder → ℕ → Shelved → Shelved → Type 0
 LeavesOthers holder count old new = stamp_of old.log + count ≤ old.limit → (other : Holder) → same_holder holder other ≡ false → row_of other new ≡ row_of other old
+
+-- whether a log has room for so many shifts more: there is room for none always, and for some where it doesn't pass its limit with them
+abbrev pub has_room : ℕ → Shelved → Bool
+has_room zero shelf = true
+has_room (suc count) shelf = nat_le (stamp_of shelf.log + suc count) shelf.limit
+
+-- a list is left as it is stored: its holder has it still, with its stamp and the corner of its window
+pub record LeavesRow (holder : Holder) (old new : Shelved) : Type 0 where
+  pub there : has_row holder new ≡ true
+  pub same : row_of holder new ≡ row_of holder old
+
+-- what other holders have is left so, where the log has room for so many shifts
+abbrev pub LeavesRows : Holder → ℕ → Shelved → Shelved → Type 0
+LeavesRows holder count old new = has_room count old ≡ true → (other : Holder) → same_holder holder other ≡ false → has_row other old ≡ true → LeavesRow other old new
 
 -- the log begins with the first shift that some list has yet to go through: with no list it holds none
 abbrev pub IsTrimmed : Shelved → Type 0

@@ -4,7 +4,7 @@ ghost use Rattle.std.specs.Prelude.{◌≡◌, ◌<◌, ◌≤◌, true, length,
 ghost use Rattle.change_list.specs.Logs.{stamp_of};
 ghost use Rattle.change_list.specs.declared.log.TheConstants.{MAX_STAMP};
 ghost use Rattle.list_shelf.specs.Lagging.{seen_by};
-ghost use Rattle.list_shelf.specs.Shelves.{empty_shelf, has_row, row_of, brought_up, with_sels, with_main, listed, unlisted, with_corner, entered, room_made, noted, all_noted, all_moved, trimmed_shelf, CanStand, CanFollow};
+ghost use Rattle.list_shelf.specs.Shelves.{empty_shelf, has_row, has_room, row_of, brought_up, with_sels, with_main, listed, unlisted, with_corner, entered, room_made, noted, all_noted, all_moved, trimmed_shelf, CanStand, CanFollow};
 
 use crate::holder::Holder;
 use crate::lag::{Lag, copy_up};
@@ -102,6 +102,20 @@ impl Shelf {
     {
         let row = &self.rows[place(self.rows.as_slice(), holder)];
         copy_up(&row.lag, alloc, &self.log)
+    }
+
+    /// Whether the log has room for so many shifts more: it doesn't begin again when they are noted.
+    pub fn has_room(&self, count: usize) -> bool
+        ensures { result ≡ has_room count self.now }
+    {
+        if count == 0 {
+            return true;
+        }
+        let stamp = self.log.stamp();
+        if stamp > self.limit {
+            return false;
+        }
+        count as u64 <= self.limit - stamp
     }
 
     /// Gives a holder another list, of the text as it is now.

@@ -10,7 +10,9 @@ use Rattle.std.proofs.lemmas.Fmt.{digits_decimal, digits_value-decimal}
 use Rattle.text_model.proofs.CoordLemmas.{test_cases}
 use Rattle.command_forms.specs.declared.places.ArgumentPlace.{ArgumentPlace}
 use Rattle.command_forms.specs.declared.places.Described.{Described}
-use Rattle.command_forms.specs.Places.{greatest_number, is_digit, value_on, number_of, Parts, parted, place_by, place_of, described_by, described_of}
+use Rattle.command_forms.specs.Numbers.{greatest_number, is_digit, value_on, whole_on, whole_number, number_of}
+use Rattle.command_forms.specs.Parting.{Parts, parted}
+use Rattle.command_forms.specs.Places.{place_by, place_of, described_by, described_of}
 use Rattle.command_forms.proofs.WordLemmas.{parted-at}
 use Rattle.selection_texts.specs.Telling.{description_text}
 
@@ -32,17 +34,24 @@ digits_fold = record { empty = λ n. refl; more = λ n c cs h. refl }
 numerals : IsNumeralModel AreDigits (value_on 0)
 numerals = numerals_by_fold AreDigits digits_test value_on digits_fold
 
-abbrev picked : Bool → ℕ → Option ℕ
-picked digits n = cond (digits && ltb 0 n) (Some n) None
+-- digits of a number above 0 are there
+whole-above : (ds : List ℕ) → 0 < value_on 0 ds → whole_number ds ≡ whole_on 0 ds
+whole-above [] h = absurd (omega arith)
+whole-above (d ∷ ds) h = refl
 
 -- a number that is written is read
 number-read : (n : ℕ) → 0 < n → n ≤ greatest_number → number_of (decimal n) ≡ Some n
 number-read n some small =
     let fits : n < 2 ^ 64 = omega arith in
+    let value : value_on 0 (decimal n) ≡ n = digits_value-decimal numerals n fits in
     let whole : min n greatest_number ≡ n = omega arith in
-    ap (λ b. picked b (min (value_on 0 (decimal n)) greatest_number)) (digits_decimal numerals n fits)
-    ∙ ap (λ v. picked true (min v greatest_number)) (digits_value-decimal numerals n fits)
-    ∙ ap (picked true) whole ∙ ap (λ b. cond b (Some n) None) (lt-ltb 0 n some)
+    let above : 0 < value_on 0 (decimal n) = omega (arith, value) in
+    let read : whole_number (decimal n) ≡ Some n =
+    whole-above (decimal n) above
+    ∙ ap (λ b. cond b (Some (min (value_on 0 (decimal n)) greatest_number)) None) (digits_decimal numerals n fits)
+    ∙ ap (λ v. Some (min v greatest_number)) value ∙ ap (λ v. Some v) whole in
+    let from_one : ℕ → Option ℕ = λ m. cond (ltb 0 m) (Some m) None in
+    ap (option_and_then from_one) read ∙ ap (λ b. cond b (Some n) None) (lt-ltb 0 n some)
 
 prefix-first : (q : ℕ → Bool) (xs rest : List ℕ) (m : ℕ) → list_all q xs ≡ true → q m ≡ false → prefix_len q (xs ++ m ∷ rest) ≡ length xs
 prefix-first q [] rest m all stop = ap (λ b. cond b (1 + prefix_len q rest) 0) stop
@@ -65,7 +74,7 @@ parted-first mark xs rest others =
     let inside : length xs < length text = omega (arith, length-append xs (mark ∷ rest)) in
     let found : position (λ c. c == mark) text ≡ Some (length xs) =
     ap (λ k. cond (ltb k (length text)) (Some k) None) first ∙ ap (λ b. cond b (Some (length xs)) None) (lt-ltb (length xs) (length text) inside) in
-    parted-at mark (length xs) text xs (mark ∷ rest) rest found (sym (take-append_seam xs (mark ∷ rest))) (sym (drop-append_seam xs (mark ∷ rest))) refl
+    parted-at mark text xs rest (length xs) (mark ∷ rest) found (sym (take-append_seam xs (mark ∷ rest))) (sym (drop-append_seam xs (mark ∷ rest))) refl
 
 other-digit : (m d : ℕ) → is_digit m ≡ false → is_digit d ≡ true → is_other m d ≡ true
 other-digit m d apart is_one = elim (test_cases (eqb d m)) [
