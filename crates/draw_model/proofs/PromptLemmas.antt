@@ -1,5 +1,5 @@
 -- The cursor of a prompt.
-use Rattle.std.proofs.Common.{◌≡◌, ℕ, ◌+◌, ◌<◌, ◌≤◌, List, [], ◌∷◌, ◌++◌, length, take, drop, get_or, refl, sym, ap, ap₂, ◌∙◌, append_assoc, subst, arith}
+use Rattle.std.proofs.Common.{◌≡◌, ℕ, ◌+◌, ◌<◌, ◌≤◌, false, List, [], ◌∷◌, ◌++◌, length, take, drop, get_or, refl, sym, ap, ap₂, ◌∙◌, append_assoc, subst, arith}
 use Rattle.unicode_width.specs.Width.{char_width}
 use Rattle.kak_text.specs.Cells.{cells_of, column_behind}
 use Rattle.std.proofs.lemmas.List.{take_more, take-append-drop}
@@ -63,4 +63,4 @@ prompt-least tabstop purpose typed i column least e h =
     ap (λ k. column_behind tabstop k (drop i typed)) e
     ∙ sym (behind-append tabstop 0 (prompt_name purpose ++ take i typed) (drop i typed))
     ∙ ap (column_behind tabstop 0) (append_assoc (prompt_name purpose) (take i typed) (drop i typed) ∙ ap (λ t. prompt_name purpose ++ t) (take-append-drop i typed)) in
-    subst (λ n. least ≤ n) whole (column_behind-right tabstop least column (drop i typed) h)
+    subst (λ n. least ≤ n) whole (column_behind-right tabstop false least column (drop i typed) h)

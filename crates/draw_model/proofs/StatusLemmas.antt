@@ -1,8 +1,7 @@
 -- The status line and the mode line.
 use Rattle.std.proofs.Common.{◌≡◌, ℕ, List, [], ◌∷◌, ◌++◌, drop, refl, sym, ap, ap₂, ◌∙◌, append_assoc}
 use Rattle.kak_faces.specs.declared.face.Face.{Face}
-use Rattle.kak_faces.specs.declared.standard.StandardFace.TheVariants as name
-use Rattle.kak_faces.specs.Standard.{standard_face}
+use Rattle.face_texts.specs.declared.palette.Palette.{Palette}
 use Rattle.drawings.specs.declared.drawing.Atom.{Atom}
 use Rattle.line_painting.specs.Atoms.{ShownChar, shown_in, with_shown, with_all_shown, atoms_of}
 use Rattle.std.specs.Str.{chars}
@@ -47,11 +46,14 @@ four_parts first second third fourth f g h begin before rest under a b c d =
     (sym (append_assoc name (front ++ cursor) back ∙ ap (λ t. name ++ t) (append_assoc front cursor back)))
 
 -- so it is drawn
-pub prompt-drawn : (purpose : Purpose) (none first second third fourth : List Atom) (f g h : Face) (begin before behind rest : List ℕ) (under : ℕ) → f ≡ standard_face name.Prompt → g ≡ standard_face name.StatusLine → h ≡ standard_face name.StatusCursor
-    → begin ≡ prompt_name purpose → under ≡ under_cursor behind → rest ≡ drop 1 behind → none ≡ [] → first ≡ with_all_shown none (shown_in f begin) → second ≡ with_all_shown first (shown_in g before) → third ≡ with_shown second (record { char = under; face = h }) → fourth ≡ with_all_shown third (shown_in g rest)
-    → fourth ≡ atoms_of (prompt_shown purpose (record { before = before; behind = behind }))
-prompt-drawn purpose none first second third fourth f g h begin before behind rest under ef eg eh en eu er n a b c d =
+pub prompt-drawn : (palette : Palette) (purpose : Purpose) (none first second third fourth : List Atom) (begin before behind rest : List ℕ) (under : ℕ)
+    → begin ≡ prompt_name purpose → under ≡ under_cursor behind → rest ≡ drop 1 behind → none ≡ [] → first ≡ with_all_shown none (shown_in palette.prompt begin) → second ≡ with_all_shown first (shown_in palette.status_line before)
+    → third ≡ with_shown second (record { char = under; face = palette.status_cursor }) → fourth ≡ with_all_shown third (shown_in palette.status_line rest)
+    → fourth ≡ atoms_of (prompt_shown palette purpose (record { before = before; behind = behind }))
+prompt-drawn palette purpose none first second third fourth begin before behind rest under en eu er n a b c d =
+    let f : Face = palette.prompt in
+    let g : Face = palette.status_line in
+    let h : Face = palette.status_cursor in
     four_parts first second third fourth f g h begin before rest under (a ∙ ap (λ r. with_all_shown r (shown_in f begin)) n) b c d
     ∙ ap₂ (λ u r. atoms_of (parts f g h begin before u r)) eu er
-    ∙ ap₂ (λ x y. atoms_of (parts x y h begin before (under_cursor behind) (drop 1 behind))) ef eg
-    ∙ ap₂ (λ z t. atoms_of (parts (standard_face name.Prompt) (standard_face name.StatusLine) z t before (under_cursor behind) (drop 1 behind))) eh en
+    ∙ ap (λ t. atoms_of (parts f g h t before (under_cursor behind) (drop 1 behind))) en

@@ -2,9 +2,11 @@
 //! stands.
 #![tactic(auto)]
 
+mod boxes;
 mod drawing;
 mod laws;
 mod status;
 
+pub use boxes::note_drawn;
 pub use drawing::redraw;
 pub use laws::worked_examples;

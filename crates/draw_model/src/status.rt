@@ -3,21 +3,23 @@
 ghost use Rattle.std.specs.Prelude.{◌≡◌, ◌<◌, length, drop, IfOk};
 ghost use Rattle.list_model.specs.Ranges.{Selected};
 ghost use Rattle.line_painting.specs.Atoms.{shown_in, atoms_of};
-ghost use Rattle.draw_model.specs.Drawings.{status_shown, under_cursor, search_name, use_name, prompt_name, prompt_shown, status_line, mode_name, mode_line_text, IsModeLine};
+ghost use Rattle.draw_model.specs.Boxes.{line_in};
+ghost use Rattle.draw_model.specs.Drawings.{status_shown, under_cursor, search_name, use_name, prompt_name, prompt_shown, status_line, mode_name, mode_line_text, IsModeText};
 
 use directions::Direction;
 use drawings::{Atoms, DrawnLine};
 use edit_line::EditLine;
-use kak_faces::{Face, StandardFace};
+use face_texts::Palette;
+use kak_faces::Face;
 use kak_text::{Chars, Coord};
 use kak_world::{Mode, Purpose, StatusText, Use};
 use line_painting::{push_run, push_shown};
 use selection_set::Sels;
 use std::alloc::{AllocError, Global};
 
-// A line of characters in one face.
-fn run_line(alloc: Global, chars: &[char], face: Face) -> Result<DrawnLine, AllocError>
-    ensures { IfOk result (λ line. line ≡ record { atoms = atoms_of (shown_in face chars.now) }) }
+/// A line of characters in one face.
+pub(crate) fn run_line(alloc: Global, chars: &[char], face: Face) -> Result<DrawnLine, AllocError>
+    ensures { IfOk result (λ line. line ≡ line_in face chars.now) }
 {
     let mut atoms = Vec::new(alloc);
     push_run(alloc, &mut atoms, chars, face)?;
@@ -78,67 +80,54 @@ pub(crate) fn prompt_name(purpose: Purpose) -> &'static str
 }
 
 // The line of a prompt.
-fn prompt_line(alloc: Global, purpose: Purpose, prompt: &EditLine) -> Result<DrawnLine, AllocError>
-    ensures { IfOk result (λ line. line ≡ record { atoms = atoms_of (prompt_shown purpose prompt.now) }) }
+fn prompt_line(
+    alloc: Global,
+    palette: &Palette,
+    purpose: Purpose,
+    prompt: &EditLine,
+) -> Result<DrawnLine, AllocError>
+    ensures { IfOk result (λ line. line ≡ record { atoms = atoms_of (prompt_shown palette.now purpose prompt.now) }) }
 {
     let name = Chars::from_str(alloc, prompt_name(purpose))?;
     let behind = prompt.behind();
     let mut atoms = Vec::new(alloc);
-    push_run(
-        alloc,
-        &mut atoms,
-        name.as_slice(),
-        StandardFace::Prompt.face(),
-    )?;
-    push_run(
-        alloc,
-        &mut atoms,
-        prompt.before(),
-        StandardFace::StatusLine.face(),
-    )?;
-    push_shown(
-        alloc,
-        &mut atoms,
-        under_cursor(behind),
-        StandardFace::StatusCursor.face(),
-    )?;
-    push_run(
-        alloc,
-        &mut atoms,
-        past_cursor(behind),
-        StandardFace::StatusLine.face(),
-    )?;
+    push_run(alloc, &mut atoms, name.as_slice(), palette.prompt)?;
+    push_run(alloc, &mut atoms, prompt.before(), palette.status_line)?;
+    let under = under_cursor(behind);
+    push_shown(alloc, &mut atoms, under, palette.status_cursor)?;
+    push_run(alloc, &mut atoms, past_cursor(behind), palette.status_line)?;
     Ok(DrawnLine {
         atoms: Atoms::of_vec(atoms),
     })
 }
 
 // What a command said, or why one was refused.
-fn said_line(alloc: Global, status: &StatusText) -> Result<DrawnLine, AllocError>
-    ensures { IfOk result (λ line. line ≡ record { atoms = atoms_of (status_shown status.now) }) }
+fn said_line(alloc: Global, palette: &Palette, status: &StatusText) -> Result<DrawnLine, AllocError>
+    ensures { IfOk result (λ line. line ≡ record { atoms = atoms_of (status_shown palette.now status.now) }) }
 {
     match status {
         StatusText::Quiet => Ok(DrawnLine {
             atoms: Atoms::new(alloc),
         }),
-        StatusText::Said(text) => run_line(alloc, text.as_slice(), StandardFace::StatusLine.face()),
-        StatusText::Refused(text) => run_line(alloc, text.as_slice(), StandardFace::Error.face()),
+        StatusText::Said(text) => run_line(alloc, text.as_slice(), palette.status_line),
+        StatusText::Refused(text) => run_line(alloc, text.as_slice(), palette.error),
     }
 }
 
 /// Draws the status line: the prompt where the mode is one, else what a command said or why one was refused.
 pub fn draw_status(
     alloc: Global,
+    palette: &Palette,
     mode: Mode,
     status: &StatusText,
     purpose: Purpose,
     prompt: &EditLine,
 ) -> Result<DrawnLine, AllocError>
-    ensures { IfOk result (λ line. line ≡ record { atoms = atoms_of (status_line mode status.now purpose prompt.now) }) }
+    ensures { IfOk result (λ line. line ≡ record { atoms = atoms_of (status_line palette.now mode status.now purpose prompt.now) }) }
 {
     match mode {
-        Mode::Prompt => prompt_line(alloc, purpose, prompt),
-        Mode::Normal | Mode::Insert => said_line(alloc, status),
+        Mode::Prompt => prompt_line(alloc, palette, purpose, prompt),
+        Mode::Normal | Mode::Insert => said_line(alloc, palette, status),
     }
 }
 
@@ -174,20 +163,20 @@ fn place_chars(
     Chars::from_str(alloc, text.as_str())
 }
 
-/// Draws the mode line: the buffer's name, the coordinate of the main cursor, the mode, the place of the main selection
+/// What the mode line says: the buffer's name, the coordinate of the main cursor, the mode, the place of the main selection
 /// and how many there are, and the number in the client's name.
-pub fn draw_mode(
+pub fn mode_chars(
     alloc: Global,
     buffer: &[char],
     at: Coord,
     mode: Mode,
     sels: &Sels,
     number: u32,
-) -> Result<DrawnLine, AllocError>
-    ensures { IfOk result (IsModeLine buffer.now at mode sels.now.main (length sels.now.list) number) }
+) -> Result<Chars, AllocError>
+    ensures { IfOk result (IsModeText buffer.now at mode sels.now.main (length sels.now.list) number) }
 {
     let place = place_chars(alloc, at, mode, sels.main(), sels.len(), number)?;
     let mut text = Chars::from_slice(alloc, buffer)?;
     text.extend_from_slice(place.as_slice())?;
-    run_line(alloc, text.as_slice(), StandardFace::StatusLine.face())
+    Ok(text)
 }

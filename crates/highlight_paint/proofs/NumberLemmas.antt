@@ -1,12 +1,13 @@
 -- Number cells one behind the other, up to a last column.
-use Rattle.std.proofs.Common.{◌≡◌, ℕ, ◌+◌, ◌^◌, ◌<◌, ◌≤◌, min, true, false, List, [], ◌∷◌, ◌++◌, length, drop, get_or, inl, inr, refl, sym, ap, ◌∙◌, arith}
+use Rattle.std.proofs.Common.{◌≡◌, ℕ, ◌+◌, ◌^◌, ◌<◌, ◌≤◌, min, true, false, List, [], ◌∷◌, ◌++◌, length, drop, get_or, Bool, inl, inr, refl, sym, ap, ap₂, ◌∙◌, arith, ◌||◌, append_assoc, append-nil}
 use Rattle.std.specs.Prelude.{decimal}
 use Rattle.std.proofs.lemmas.Bool.{cases_lt}
 use Rattle.std.proofs.lemmas.List.{drop_more, drop_all}
+use Rattle.std.proofs.lemmas.List.Folds.{list_any-append}
 use Rattle.kak_text.specs.Cells.{cells_of, column_behind}
 use Rattle.scope_options.specs.declared.scope.Scope.{Scope}
 use Rattle.highlight_paint.specs.Painters.{Paints, Fills, Matches, Numbers, MarksLine, MarksColumn, ShowsWhitespaces, HoldsOthers, Highlighter, is_of_scope, painting_at}
-use Rattle.highlight_paint.specs.Numbers.{painter_behind, numbers_behind}
+use Rattle.highlight_paint.specs.Numbers.{painter_behind, numbers_behind, Numbering, painter_numbers, numbers_of, draws_signs, has_signs}
 use Rattle.highlight_paint.proofs.RowLemmas.{painting-not, painting-more}
 
 -- columns don't fall
@@ -71,3 +72,57 @@ numbers-all tabstop lines a b c p q r x y z =
     y ∙ numbers-last tabstop lines (numbers_behind tabstop lines 0 p) a q x ∙ ap (λ n. min n (2 ^ 31)) (sym (numbers-append tabstop lines 0 p q)) in
     z ∙ numbers-last tabstop lines (numbers_behind tabstop lines 0 (p ++ q)) b r two
     ∙ ap (λ n. min n (2 ^ 31)) (sym (numbers-append tabstop lines 0 (p ++ q) r))
+
+-- the numbers before lines, one highlighter behind the other
+numbers_of-append : (p q : List Paints) → numbers_of (p ++ q) ≡ numbers_of p ++ numbers_of q
+numbers_of-append [] q = refl
+numbers_of-append (x ∷ p) q = ap (λ t. painter_numbers x ++ t) (numbers_of-append p q) ∙ sym (append_assoc (painter_numbers x) (numbers_of p) (numbers_of q))
+
+module _ (scope : Scope) (rows : List Highlighter) (i : ℕ) (row : Highlighter) where
+  pub numbering-not : (old now : List Numbering) → i < length rows → row ≡ get_or rows i row → is_of_scope scope row ≡ false
+      → now ++ numbers_of (painting_at scope (drop i rows)) ≡ old ++ numbers_of (painting_at scope rows) → now ++ numbers_of (painting_at scope (drop (i + 1) rows)) ≡ old ++ numbers_of (painting_at scope rows)
+  numbering-not old now inside is fails e = ap (λ ps. now ++ numbers_of ps) (sym (painting-not scope rows i row inside is fails)) ∙ e
+
+  pub numbering-more : (old now new : List Numbering) → i < length rows → row ≡ get_or rows i row → is_of_scope scope row ≡ true → new ≡ now ++ painter_numbers row.paints
+      → now ++ numbers_of (painting_at scope (drop i rows)) ≡ old ++ numbers_of (painting_at scope rows) → new ++ numbers_of (painting_at scope (drop (i + 1) rows)) ≡ old ++ numbers_of (painting_at scope rows)
+  numbering-more old now new inside is holds next e =
+      ap (λ t. t ++ numbers_of (painting_at scope (drop (i + 1) rows))) next
+      ∙ append_assoc now (painter_numbers row.paints) (numbers_of (painting_at scope (drop (i + 1) rows)))
+      ∙ ap (λ ps. now ++ numbers_of ps) (sym (painting-more scope rows i row inside is holds)) ∙ e
+
+  pub signs-not : i < length rows → row ≡ get_or rows i row → is_of_scope scope row ≡ false → has_signs (painting_at scope (drop (i + 1) rows)) ≡ has_signs (painting_at scope (drop i rows))
+  signs-not inside is fails = ap has_signs (sym (painting-not scope rows i row inside is fails))
+
+  pub signs-more : i < length rows → row ≡ get_or rows i row → is_of_scope scope row ≡ true → draws_signs row.paints ≡ false → has_signs (painting_at scope (drop (i + 1) rows)) ≡ has_signs (painting_at scope (drop i rows))
+  signs-more inside is holds none =
+      sym (ap has_signs (painting-more scope rows i row inside is holds) ∙ ap (λ t. t || has_signs (painting_at scope (drop (i + 1) rows))) none)
+
+  pub signs-here : i < length rows → row ≡ get_or rows i row → is_of_scope scope row ≡ true → draws_signs row.paints ≡ true → has_signs (painting_at scope (drop i rows)) ≡ true
+  signs-here inside is holds some =
+      ap has_signs (painting-more scope rows i row inside is holds) ∙ ap (λ t. t || has_signs (painting_at scope (drop (i + 1) rows))) some
+
+pub numbering-none : (scope : Scope) (rows : List Highlighter) (i : ℕ) (old now : List Numbering) → length rows ≤ i
+    → now ++ numbers_of (painting_at scope (drop i rows)) ≡ old ++ numbers_of (painting_at scope rows) → now ≡ old ++ numbers_of (painting_at scope rows)
+numbering-none scope rows i old now over e =
+    sym (append-nil now) ∙ ap (λ rs. now ++ numbers_of (painting_at scope rs)) (sym (drop_all i rows over)) ∙ e
+
+pub signs-none : (scope : Scope) (rows : List Highlighter) (i : ℕ) → length rows ≤ i → has_signs (painting_at scope (drop i rows)) ≡ false
+signs-none scope rows i over = ap (λ rs. has_signs (painting_at scope rs)) (drop_all i rows over)
+
+-- one scope behind another
+pub numbering-all : (none a b c : List Numbering) (p q r : List Paints) → none ≡ [] → a ≡ none ++ numbers_of p → b ≡ a ++ numbers_of q → c ≡ b ++ numbers_of r → c ≡ numbers_of (p ++ q ++ r)
+numbering-all none a b c p q r e x y z =
+    z ∙ ap (λ t. t ++ numbers_of r) (y ∙ ap (λ t. t ++ numbers_of q) (x ∙ ap (λ t. t ++ numbers_of p) e) ∙ sym (numbers_of-append p q))
+    ∙ sym (numbers_of-append (p ++ q) r)
+
+signs-parts : (p q r : List Paints) → has_signs (p ++ q ++ r) ≡ ((has_signs p || has_signs q) || has_signs r)
+signs-parts p q r = list_any-append draws_signs (p ++ q) r ∙ ap (λ t. t || has_signs r) (list_any-append draws_signs p q)
+
+pub signs-first : (p q r : List Paints) → has_signs p ≡ true → true ≡ has_signs (p ++ q ++ r)
+signs-first p q r x = sym (signs-parts p q r ∙ ap (λ t. (t || has_signs q) || has_signs r) x)
+
+pub signs-second : (p q r : List Paints) → has_signs p ≡ false → has_signs q ≡ true → true ≡ has_signs (p ++ q ++ r)
+signs-second p q r x y = sym (signs-parts p q r ∙ ap₂ (λ s t. (s || t) || has_signs r) x y)
+
+pub signs-third : (a : Bool) (p q r : List Paints) → has_signs p ≡ false → has_signs q ≡ false → a ≡ has_signs r → a ≡ has_signs (p ++ q ++ r)
+signs-third a p q r x y z = z ∙ sym (signs-parts p q r ∙ ap₂ (λ s t. (s || t) || has_signs r) x y)

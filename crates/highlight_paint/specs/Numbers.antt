@@ -1,7 +1,42 @@
 -- The number cells before the lines of a text.
-use Rattle.std.specs.Prelude.{ℕ, ◌+◌, ◌-◌, ◌^◌, min, List, [], ◌∷◌, ◌++◌, length, replicate, decimal}
+use Rattle.std.specs.Prelude.{ℕ, ◌+◌, ◌-◌, ◌^◌, min, Bool, true, false, List, [], ◌∷◌, ◌++◌, length, replicate, decimal}
+use Rattle.std.specs.List.{list_any}
 use Rattle.kak_text.specs.Cells.{column_behind}
+use Rattle.highlight_paint.specs.declared.numbering.LineNumbers.{LineNumbers}
 use Rattle.highlight_paint.specs.Painters.{Paints, Fills, Matches, Numbers, MarksLine, MarksColumn, ShowsWhitespaces, HoldsOthers}
+
+-- numbers of lines that stand before them: whether that of the main cursor's line is seen in another face, and what stands
+-- behind each
+pub record Numbering : Type 0 where
+  pub marked : Bool
+  pub separator : List ℕ
+
+abbrev pub numbering : LineNumbers → Numbering
+numbering row = record { marked = row.marked; separator = row.separator.now }
+
+-- the numbers that a highlighter puts before lines, if it does
+abbrev pub painter_numbers : Paints → List Numbering
+painter_numbers (Numbers marked separator) = record { marked = marked; separator = separator } ∷ []
+painter_numbers (Fills text) = []
+painter_numbers (Matches source groups) = []
+painter_numbers (MarksLine n text) = []
+painter_numbers (MarksColumn n text) = []
+painter_numbers ShowsWhitespaces = []
+painter_numbers HoldsOthers = []
+
+-- those of some highlighters, one behind the other
+abbrev pub numbers_of : List Paints → List Numbering
+numbers_of [] = []
+numbers_of (p ∷ ps) = painter_numbers p ++ numbers_of ps
+
+-- whether a highlighter shows whitespace by signs
+abbrev pub draws_signs : Paints → Bool
+draws_signs ShowsWhitespaces = true
+draws_signs _ = false
+
+-- whether one of them does
+abbrev pub has_signs : List Paints → Bool
+has_signs paints = list_any draws_signs paints
 
 -- the number cells of the n-th line from 0 of a text that has so many: its number, right aligned to the digits of the number
 -- of lines, and what stands behind it

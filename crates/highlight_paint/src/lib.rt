@@ -7,6 +7,7 @@ pub mod highlighters;
 pub mod laws;
 mod line_texts;
 mod matches;
+pub mod numbering;
 pub mod numbers;
 pub mod painter;
 pub mod painting;
@@ -17,5 +18,6 @@ mod walking;
 
 pub use highlighters::{Highlighters, PaintError};
 pub use laws::{highlighter_examples, match_examples, paths_are_apart, worked_examples};
+pub use numbering::LineNumbers;
 pub use painter::{GroupFace, Painter};
 pub use painting::{LinePart, Viewer};

@@ -14,18 +14,18 @@ inside-behind : (view : View) (column : ℕ) → right_of view ≤ column → is
 inside-behind view column h = and_false (leb view.left column) (ltb column (right_of view)) (le-ltb column (right_of view) h)
 
 -- nothing is drawn of a character right of the window
-pub drawn-behind : (view : View) (column cells c : ℕ) → right_of view ≤ column → char_drawn view column cells c ≡ []
-drawn-behind view column cells c h =
+pub drawn-behind : (signs : Bool) (view : View) (column cells c : ℕ) → right_of view ≤ column → char_drawn signs view column cells c ≡ []
+drawn-behind signs view column cells c h =
     let by_cells : Bool → List ℕ = λ t. if t then (if is_inside view column then c ∷ [] else [])
-    else (if cells_inside view column cells == cells then whole_drawn c cells else replicate (cells_inside view column cells) 32) in
+    else (if cells_inside view column cells == cells then whole_drawn signs c cells else replicate (cells_inside view column cells) 32) in
     elim (cases_lt 0 cells) [
       | inl lt ↦
           let z : cells_inside view column cells ≡ 0 = omega arith in
           let some : (cells == 0) ≡ false = ne_eqb cells 0 (λ e. omega arith) in
           let others : (0 == cells) ≡ false = ne_eqb 0 cells (λ e. omega arith) in
           ap by_cells some
-          ∙ ap (λ n. if n == cells then whole_drawn c cells else replicate n 32) z
-          ∙ ap (λ t. if t then whole_drawn c cells else replicate 0 32) others
+          ∙ ap (λ n. if n == cells then whole_drawn signs c cells else replicate n 32) z
+          ∙ ap (λ t. if t then whole_drawn signs c cells else replicate 0 32) others
       | inr ge ↦
           let none : (cells == 0) ≡ true = eq-eqb cells 0 (omega arith) in
           ap by_cells none ∙ ap (λ t. if t then c ∷ [] else []) (inside-behind view column h)

@@ -1,14 +1,11 @@
 pub mod AtomLemmas
 pub mod CellLemmas
 pub mod DrawnLemmas
-pub mod FaceLemmas
 pub mod HolderLemmas
 pub mod LawLemmas
 pub mod LineLemmas
-pub mod ListLemmas
+pub mod OverLemmas
 pub mod MarkLemmas
-pub mod PaintedLemmas
-pub mod PartLemmas
 pub mod PlainLemmas
 pub mod RunLemmas
 pub mod StretchLemmas

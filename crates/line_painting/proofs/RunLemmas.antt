@@ -1,13 +1,15 @@
 -- How atoms grow by characters in one face.
-use Rattle.std.proofs.Common.{◌≡◌, ℕ, Bool, true, false, List, [], ◌∷◌, ◌++◌, length, refl, sym, ap, ◌∙◌, append_assoc, append-nil, eq-eqb}
-use Rattle.std.specs.Prelude.{◌==◌}
+use Rattle.std.proofs.Common.{◌≡◌, ℕ, ◌+◌, ◌<◌, Bool, true, false, List, [], ◌∷◌, ◌++◌, length, take, get_or, refl, sym, ap, ap₂, ◌∙◌, append_assoc, append-nil, eq-eqb, map, arith}
+use Rattle.std.specs.Prelude.{◌==◌, flat_map}
 use Rattle.kak_faces.specs.declared.colour.Colour.{Colour}
 use Rattle.kak_faces.specs.declared.colour.Colour.TheVariants.{Named, Rgb}
 use Rattle.kak_faces.specs.declared.face.Face.{Face}
 use Rattle.kak_faces.specs.Same.{palette_place, same_colour, same_word, same_face}
 use Rattle.drawings.specs.declared.drawing.Atom.{Atom}
-use Rattle.std.proofs.lemmas.List.{map-append}
+use Rattle.std.proofs.lemmas.List.{map-append, take_more, length-map, get_or-map}
 use Rattle.line_painting.specs.Atoms.{ShownChar, shown_in, atom_of, atom_longer, with_all_shown}
+use Rattle.highlight_paint.specs.declared.numbering.LineNumbers.{LineNumbers}
+use Rattle.highlight_paint.specs.Numbers.{Numbering, numbering}
 use Rattle.line_painting.specs.Painting.{Grown, grown_by}
 use Rattle.line_painting.proofs.AtomLemmas.{with_shown-same, with_shown-other, with_all_shown-append}
 use Rattle.line_painting.proofs.LawLemmas.{equal_faces}
@@ -89,3 +91,30 @@ with_face old face = record { atoms = old.atoms; face = face }
 -- the face is there already
 pub faced-same : (done : List Atom) (own face : Face) (waiting : List ℕ) (old : Grown) → same_face own face ≡ true → grown done own waiting ≡ old → old ≡ with_face old face
 faced-same done own face waiting old h e = ap (with_face old) (sym (ap (λ (g : Grown). g.face) e) ∙ equal_faces own face h)
+
+-- spaces, digits and what stands behind them
+pub number-grown : (old first second third last : Grown) (face : Face) (a b s all : List ℕ) → first ≡ record { atoms = old.atoms; face = face } → second ≡ grown_by first a → third ≡ grown_by second b → last ≡ grown_by third s
+    → a ++ (b ++ s) ≡ all → last.atoms ≡ with_all_shown old.atoms (shown_in face all)
+number-grown old first second third last face a b s all e1 e2 e3 e4 h =
+    ap (λ (g : Grown). g.atoms) (e4 ∙ ap (λ (g : Grown). grown_by g s) (e3 ∙ ap (λ (g : Grown). grown_by g b) (e2 ∙ ap (λ (g : Grown). grown_by g a) e1)))
+    ∙ sym (grown-more old.atoms face a (a ++ (b ++ s)) (b ++ s) refl ∙ grown-more (with_all_shown old.atoms (shown_in face a)) face b (b ++ s) s refl)
+    ∙ ap (λ t. with_all_shown old.atoms (shown_in face t)) h
+
+-- one more row of characters
+pub row-more : {X : Type 0} (f : X → List ShownChar) (rows : List X) (k : ℕ) (r d : X) (old mid new : List Atom) (drawn : List ShownChar) → k < length rows → r ≡ get_or rows k d → drawn ≡ f r
+    → mid ≡ with_all_shown old (flat_map f (take k rows)) → new ≡ with_all_shown mid drawn → new ≡ with_all_shown old (flat_map f (take (k + 1) rows))
+row-more f rows k r d old mid new drawn h e g p q =
+    q ∙ ap₂ (λ x y. with_all_shown x y) p (g ∙ ap f e)
+    ∙ sym (with_all_shown-append old (flat_map f (take k rows)) (f (get_or rows k d)))
+    ∙ ap (with_all_shown old) (sym (flat-more f (take k rows) (get_or rows k d)) ∙ ap (flat_map f) (sym (take_more rows k d h)))
+  where
+    flat-more : {X : Type 0} (f : X → List ShownChar) (xs : List X) (x : X) → flat_map f (xs ++ x ∷ []) ≡ flat_map f xs ++ f x
+    flat-more f [] x = append-nil (f x)
+    flat-more f (y ∷ ys) x = ap (λ t. f y ++ t) (flat-more f ys x) ∙ sym (append_assoc (f y) (flat_map f ys) (f x))
+
+pub rows-more : (numbers : List LineNumbers) (k : ℕ) (d : LineNumbers) (f : Numbering → List ShownChar) (old mid new : List Atom) → k < length numbers
+    → mid ≡ with_all_shown old (flat_map f (take k (map numbering numbers))) → new ≡ with_all_shown mid (f (numbering (get_or numbers k d)))
+    → new ≡ with_all_shown old (flat_map f (take (k + 1) (map numbering numbers)))
+rows-more numbers k d f old mid new h p q =
+    row-more f (map numbering numbers) k (numbering (get_or numbers k d)) (numbering d) old mid new (f (numbering (get_or numbers k d))) (omega (arith, h, length-map numbers numbering))
+    (sym (get_or-map numbering numbers k d (numbering d) h)) refl p q

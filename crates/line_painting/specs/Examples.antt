@@ -1,14 +1,18 @@
 -- Worked examples of characters, atoms and lines as they are drawn, which hold by computation.
-use Rattle.std.specs.Prelude.{◌≡◌, ℕ, true, false, None, List, [], ◌∷◌, codes}
+use Rattle.std.specs.Prelude.{◌≡◌, ℕ, true, false, None, List, [], ◌∷◌, ◌==◌, if◌then◌else◌, codes}
 use Rattle.list_model.specs.Ranges.{Range, Selected, only}
 use Rattle.window_view.specs.View.{View}
 use Rattle.kak_faces.specs.declared.colour.NamedColour.{NamedColour}
 use Rattle.kak_faces.specs.declared.colour.NamedColour.TheVariants as named
-use Rattle.kak_faces.specs.Standard.{plain_face, default_face}
+use Rattle.kak_faces.specs.declared.face.Face.{Face}
+use Rattle.kak_faces.specs.declared.standard.StandardFace.TheVariants as standard
+use Rattle.kak_faces.specs.Standard.{no_attributes, plain_face, default_face, standard_face}
+use Rattle.face_texts.specs.declared.palette.Palette.{Palette}
+use Rattle.highlight_paint.specs.Numbers.{Numbering}
 use Rattle.drawings.specs.declared.drawing.Atom.{Atom}
 use Rattle.drawings.specs.declared.drawing.DrawnLine.{DrawnLine}
 use Rattle.line_painting.specs.Cells.{char_drawn}
-use Rattle.line_painting.specs.Lines.{drawn_lines}
+use Rattle.line_painting.specs.Lines.{face_on, text_part, Looks, drawn_lines}
 use Rattle.line_painting.specs.Laws.{seen_of}
 use Rattle.line_painting.specs.Painting.{alone}
 
@@ -41,7 +45,7 @@ narrow top left = record { top = top; left = left; rows = 2; columns = 3 }
 
 -- the characters of a window of 3 columns whose first is that display column
 abbrev pub in_narrow : ℕ → ℕ → ℕ → ℕ → List ℕ
-in_narrow left column cells c = char_drawn (narrow 0 left) column cells c
+in_narrow left column cells c = char_drawn false (narrow 0 left) column cells c
 
 -- of single characters, of which the column, the cells and the character are said
 pub record CharExamples : Type 0 where
@@ -64,9 +68,62 @@ pub record CharExamples : Type 0 where
   pub mark_at_the_last_column : in_narrow 0 2 0 0x0301 ≡ 0x0301 ∷ []
   pub mark_right_behind : in_narrow 0 3 0 0x0301 ≡ []
 
+-- the same where whitespace is drawn by signs
+abbrev pub signed : ℕ → ℕ → ℕ → ℕ → List ℕ
+signed left column cells c = char_drawn true (narrow 0 left) column cells c
+
+-- whitespace by signs
+pub record SignExamples : Type 0 where
+  pub space : signed 0 2 1 32 ≡ 0xB7 ∷ []
+  pub other_space : signed 0 2 1 0xA0 ≡ 0xA0 ∷ []
+  pub newline : signed 0 2 1 10 ≡ 0xAC ∷ []
+  pub newline_behind : signed 0 3 1 10 ≡ []
+  pub tab : signed 6 6 2 9 ≡ 0x2192 ∷ 32 ∷ []
+  pub narrow_tab : signed 0 2 1 9 ≡ 0x2192 ∷ []
+  -- a tab that is cut at a side has no sign, also where its first cell is seen
+  pub tab_cut_at_its_begin : signed 7 6 2 9 ≡ 32 ∷ []
+  pub tab_cut_at_its_end : signed 0 2 6 9 ≡ 32 ∷ []
+  pub letter : signed 0 2 1 0x61 ≡ 0x61 ∷ []
+  pub control : signed 0 2 1 0x1B ≡ 0xFFFD ∷ []
+  pub mark : signed 0 2 0 0x0301 ≡ 0x0301 ∷ []
+
+-- the faces that are set from the start
+abbrev pub first_palette : Palette
+first_palette = record {
+  default = standard_face standard.Default;
+  buffer_padding = standard_face standard.BufferPadding;
+  primary_selection = standard_face standard.PrimarySelection;
+  secondary_selection = standard_face standard.SecondarySelection;
+  primary_cursor = standard_face standard.PrimaryCursor;
+  secondary_cursor = standard_face standard.SecondaryCursor;
+  primary_cursor_eol = standard_face standard.PrimaryCursorEol;
+  secondary_cursor_eol = standard_face standard.SecondaryCursorEol;
+  status_line = standard_face standard.StatusLine;
+  status_cursor = standard_face standard.StatusCursor;
+  prompt = standard_face standard.Prompt;
+  error = standard_face standard.Error;
+  information = standard_face standard.Information;
+  line_numbers = standard_face standard.LineNumbers;
+  line_number_cursor = standard_face standard.LineNumberCursor;
+  whitespace = standard_face standard.Whitespace;
+}
+
+-- how lines are drawn in them, with nothing below the selections and no numbers
+abbrev pub plain_looks : ℕ → Selected → View → Looks
+plain_looks tabstop sels view = record {
+  tabstop = tabstop;
+  signs = false;
+  view = view;
+  palette = first_palette;
+  sels = sels;
+  base = λ n i. default_face;
+  numbers = [];
+  cursor_line = 0;
+}
+
 -- the lines of a window, with a tab stop at each eighth column
 abbrev pub drawn_at_eighths : List ℕ → Selected → View → List DrawnLine
-drawn_at_eighths text sels view = drawn_lines 8 text sels view
+drawn_at_eighths text sels view = drawn_lines (plain_looks 8 sels view) text
 
 -- of lines
 pub record LineExamples : Type 0 where
@@ -89,23 +146,37 @@ pub record LineExamples : Type 0 where
   pub mark_at_the_right : drawn_at_eighths (0x61 ∷ 0x62 ∷ 0x65 ∷ 0x0301 ∷ 10 ∷ []) (alone true (only 0)) (narrow 0 0) ≡ atoms_line (cursor_atom (codes "a") ∷ bare_atom (codes "be") ∷ []) ∷ []
   pub control : drawn_at_eighths (0x61 ∷ 0x1B ∷ 0x62 ∷ 10 ∷ []) (alone true (only 0)) whole ≡ atoms_line (cursor_atom (codes "a") ∷ bare_atom (0xFFFD ∷ 0x62 ∷ 10 ∷ []) ∷ []) ∷ []
 
--- what a window of 3 columns whose first is that display column shows in each cell of the n-th character of a line
-abbrev pub seen_in_narrow : ℕ → List ℕ → ℕ → ℕ
-seen_in_narrow left line n = (seen_of 8 (alone true (only 0)) (narrow 0 left) 0 line n).char
+-- the faces of a line with the cursor on a character
+abbrev pub cursor_looks : ℕ → ℕ → ℕ → Face
+cursor_looks o = face_on first_palette (alone true (only o)) (λ i. default_face) 0
+
+-- what a window of 3 columns whose first is that display column shows in a cell of the n-th character of a line
+abbrev pub seen_in_narrow : ℕ → List ℕ → ℕ → ℕ → ℕ
+seen_in_narrow left line n cell = (seen_of 8 false (cursor_looks 0) (narrow 0 left) 0 line n cell).char
+
+-- the same where whitespace is drawn by signs
+abbrev pub sign_in_narrow : ℕ → List ℕ → ℕ → ℕ → ℕ
+sign_in_narrow left line n cell = (seen_of 8 true (cursor_looks 0) (narrow 0 left) 0 line n cell).char
 
 -- of the cells of the characters of lines
 pub record SeenExamples : Type 0 where
-  pub letter : seen_in_narrow 0 (codes "abc\n") 1 ≡ 0x62
-  pub whole_tab : seen_in_narrow 7 (codes "1234567\tb\n") 7 ≡ 32
-  pub tab_cut_at_the_left : seen_in_narrow 6 (codes "a\tb\n") 1 ≡ 32
-  pub letter_behind_a_cut_tab : seen_in_narrow 6 (codes "a\tb\n") 2 ≡ 0x62
-  pub wide_inside : seen_in_narrow 0 (0x61 ∷ 0x6F22 ∷ 10 ∷ []) 1 ≡ 0x6F22
-  pub wide_cut_at_the_right : seen_in_narrow 0 (0x61 ∷ 0x62 ∷ 0x6F22 ∷ 10 ∷ []) 2 ≡ 32
+  pub letter : seen_in_narrow 0 (codes "abc\n") 1 1 ≡ 0x62
+  pub whole_tab : seen_in_narrow 7 (codes "1234567\tb\n") 7 7 ≡ 32
+  pub tab_cut_at_the_left : seen_in_narrow 6 (codes "a\tb\n") 1 6 ≡ 32
+  pub letter_behind_a_cut_tab : seen_in_narrow 6 (codes "a\tb\n") 2 8 ≡ 0x62
+  pub wide_inside : seen_in_narrow 0 (0x61 ∷ 0x6F22 ∷ 10 ∷ []) 1 2 ≡ 0x6F22
+  pub wide_cut_at_the_right : seen_in_narrow 0 (0x61 ∷ 0x62 ∷ 0x6F22 ∷ 10 ∷ []) 2 2 ≡ 32
   -- the mark takes no cell, so the character behind it ends where the window does
-  pub wide_behind_a_mark : seen_in_narrow 0 (0x65 ∷ 0x0301 ∷ 0x6F22 ∷ 10 ∷ []) 2 ≡ 0x6F22
-  pub control : seen_in_narrow 0 (0x61 ∷ 0x1B ∷ 10 ∷ []) 1 ≡ 0xFFFD
-  pub newline : seen_in_narrow 0 (codes "ab\n") 2 ≡ 10
-  pub face_of_the_cursor : seen_of 8 (alone true (only 1)) (narrow 0 0) 0 (codes "abc\n") 1 ≡ record { char = 0x62; face = plain_face named.Black named.White }
+  pub wide_behind_a_mark : seen_in_narrow 0 (0x65 ∷ 0x0301 ∷ 0x6F22 ∷ 10 ∷ []) 2 1 ≡ 0x6F22
+  pub control : seen_in_narrow 0 (0x61 ∷ 0x1B ∷ 10 ∷ []) 1 1 ≡ 0xFFFD
+  pub newline : seen_in_narrow 0 (codes "ab\n") 2 2 ≡ 10
+  pub face_of_the_cursor : seen_of 8 false (cursor_looks 1) (narrow 0 0) 0 (codes "abc\n") 1 1 ≡ record { char = 0x62; face = plain_face named.Black named.White }
+  -- signs
+  pub space_sign : sign_in_narrow 0 (codes "a c\n") 1 1 ≡ 0xB7
+  pub newline_sign : sign_in_narrow 0 (codes "ab\n") 2 2 ≡ 0xAC
+  pub first_of_a_tab : sign_in_narrow 6 (codes "123456\tb\n") 6 6 ≡ 0x2192
+  pub second_of_a_tab : sign_in_narrow 6 (codes "123456\tb\n") 6 7 ≡ 32
+  pub first_of_a_cut_tab : sign_in_narrow 0 (codes "a\tb\n") 1 1 ≡ 32
 
 -- a turned selection
 abbrev pub turned_between : ℕ → ℕ → Range
@@ -159,13 +230,95 @@ pub record ListExamples : Type 0 where
 
 -- of lines with other tab stops
 pub record TabExamples : Type 0 where
-  pub at_each_fourth : drawn_lines 4 (codes "a\tb\n") (alone true (only 0)) whole ≡ atoms_line (cursor_atom (codes "a") ∷ bare_atom (codes "   b\n") ∷ []) ∷ []
-  pub at_each_column : drawn_lines 1 (codes "a\tb\n") (alone true (only 0)) whole ≡ atoms_line (cursor_atom (codes "a") ∷ bare_atom (codes " b\n") ∷ []) ∷ []
-  pub cut_at_the_left : drawn_lines 4 (codes "a\tbc\n") (alone true (only 1)) (narrow 0 2) ≡ atoms_line (cursor_atom (codes "  ") ∷ bare_atom (codes "b") ∷ []) ∷ []
-  pub behind_a_tab_stop : drawn_lines 4 (codes "abcd\te\n") (alone true (only 4)) (narrow 0 6) ≡ atoms_line (cursor_atom (codes "  ") ∷ bare_atom (codes "e") ∷ []) ∷ []
+  pub at_each_fourth : drawn_lines (plain_looks 4 (alone true (only 0)) whole) (codes "a\tb\n") ≡ atoms_line (cursor_atom (codes "a") ∷ bare_atom (codes "   b\n") ∷ []) ∷ []
+  pub at_each_column : drawn_lines (plain_looks 1 (alone true (only 0)) whole) (codes "a\tb\n") ≡ atoms_line (cursor_atom (codes "a") ∷ bare_atom (codes " b\n") ∷ []) ∷ []
+  pub cut_at_the_left : drawn_lines (plain_looks 4 (alone true (only 1)) (narrow 0 2)) (codes "a\tbc\n") ≡ atoms_line (cursor_atom (codes "  ") ∷ bare_atom (codes "b") ∷ []) ∷ []
+  pub behind_a_tab_stop : drawn_lines (plain_looks 4 (alone true (only 4)) (narrow 0 6)) (codes "abcd\te\n") ≡ atoms_line (cursor_atom (codes "  ") ∷ bare_atom (codes "e") ∷ []) ∷ []
+
+-- a face on one place of each line, above the default one, and the same under the cursor on a character
+abbrev pub face_over : ℕ → Face → ℕ → ℕ → Face
+face_over place face n i = if i == place then face else default_face
+
+abbrev pub over_ground : (ℕ → ℕ → Face) → Selected → View → Looks
+over_ground base sels view = record (plain_looks 8 sels view) { base = base }
+
+-- red letters, and the same so that they stay
+abbrev pub in_red : Face
+in_red = plain_face named.Red named.Default
+
+abbrev pub in_kept_red : Face
+in_kept_red = record in_red { attributes = record no_attributes { final_fg = true } }
+
+-- an atom in a face
+abbrev pub faced : List ℕ → Face → Atom
+faced contents face = record { contents = contents; face = face }
+
+-- what lies under the selections
+pub record GroundExamples : Type 0 where
+  pub a_place : drawn_lines (over_ground (face_over 1 in_red) (alone true (only 0)) whole) (codes "abc\n") ≡ atoms_line (cursor_atom (codes "a") ∷ faced (codes "b") in_red ∷ bare_atom (codes "c\n") ∷ []) ∷ []
+  -- the cursor lies above it, and is merged with it
+  pub under_the_cursor : drawn_lines (over_ground (face_over 1 in_red) (alone true (only 1)) whole) (codes "abc\n") ≡ atoms_line (bare_atom (codes "a") ∷ cursor_atom (codes "b") ∷ bare_atom (codes "c\n") ∷ []) ∷ []
+  pub kept_under_the_cursor : drawn_lines (over_ground (face_over 1 in_kept_red) (alone true (only 1)) whole) (codes "abc\n")
+      ≡ atoms_line (bare_atom (codes "a") ∷ faced (codes "b") (record in_kept_red { bg = (plain_face named.Red named.White).bg }) ∷ bare_atom (codes "c\n") ∷ []) ∷ []
+  -- places are counted by the characters of each line, not by its cells
+  pub behind_wide : drawn_lines (over_ground (face_over 1 in_red) (alone true (only 3)) whole) (0x6F22 ∷ 0x61 ∷ 10 ∷ 0x62 ∷ 0x63 ∷ 10 ∷ [])
+      ≡ atoms_line (bare_atom (0x6F22 ∷ []) ∷ faced (codes "a") in_red ∷ bare_atom (codes "\n") ∷ []) ∷ atoms_line (cursor_atom (codes "b") ∷ faced (codes "c") in_red ∷ bare_atom (codes "\n") ∷ []) ∷ []
+  -- lines by their numbers in the text
+  pub by_number : drawn_lines (over_ground (λ n i. if n == 1 then in_red else default_face) (alone true (only 0)) (narrow 1 0)) (codes "a\nb\nc\n")
+      ≡ atoms_line (faced (codes "b\n") in_red ∷ []) ∷ atoms_line (bare_atom (codes "c\n") ∷ []) ∷ []
+  -- a cut character has the face of its place
+  pub cut_wide : drawn_lines (over_ground (face_over 1 in_red) (alone true (only 0)) (record (narrow 0 0) { columns = 2 })) (0x61 ∷ 0x6F22 ∷ 10 ∷ []) ≡ atoms_line (cursor_atom (codes "a") ∷ faced (codes " ") in_red ∷ []) ∷ []
+
+-- numbers, which mark the main cursor's line or don't, with what stands behind them
+abbrev pub numbers : List Numbering → ℕ → Selected → View → Looks
+numbers rows cursor_line sels view = record (plain_looks 8 sels view) { numbers = rows; cursor_line = cursor_line }
+
+abbrev pub marking : List ℕ → Numbering
+marking separator = record { marked = true; separator = separator }
+
+abbrev pub unmarked : List ℕ → Numbering
+unmarked separator = record { marked = false; separator = separator }
+
+-- the face of a marked number
+abbrev pub number_face : Face
+number_face = standard_face standard.LineNumberCursor
+
+-- numbers before lines
+pub record NumberExamples : Type 0 where
+  -- the text has what they leave, and one column at least
+  pub part : text_part (narrow 4 2) 2 ≡ record { top = 4; left = 2; rows = 2; columns = 1 }
+  pub no_part_left : text_part (narrow 4 2) 3 ≡ record { top = 4; left = 2; rows = 2; columns = 1 }
+  pub no_numbers : text_part whole 0 ≡ whole
+  -- the numbers and the text make atoms together where they have one face
+  pub marked_line : drawn_lines (numbers (marking (0x2502 ∷ []) ∷ []) 0 (alone true (only 0)) whole) (codes "a\nb\n")
+      ≡ atoms_line (faced (0x31 ∷ 0x2502 ∷ []) number_face ∷ cursor_atom (codes "a") ∷ bare_atom (codes "\n") ∷ []) ∷ atoms_line (bare_atom (0x32 ∷ 0x2502 ∷ 0x62 ∷ 10 ∷ []) ∷ []) ∷ []
+  pub unmarked_line : drawn_lines (numbers (unmarked (codes "|") ∷ []) 0 (alone true (only 0)) whole) (codes "a\n")
+      ≡ atoms_line (bare_atom (codes "1|") ∷ cursor_atom (codes "a") ∷ bare_atom (codes "\n") ∷ []) ∷ []
+  -- one behind the other, each with what stands behind it as it is
+  pub two_rows : drawn_lines (numbers (unmarked (codes "\t") ∷ marking [] ∷ []) 0 (alone true (only 0)) whole) (codes "a\n")
+      ≡ atoms_line (bare_atom (codes "1\t") ∷ faced (codes "1") number_face ∷ cursor_atom (codes "a") ∷ bare_atom (codes "\n") ∷ []) ∷ []
+  -- the window cuts the text, and not the numbers
+  pub not_cut : drawn_lines (numbers (unmarked (codes "|||") ∷ []) 0 (alone true (only 3)) (record (narrow 0 3) { columns = 1 })) (codes "abcd\n") ≡ atoms_line (bare_atom (codes "1|||") ∷ cursor_atom (codes "d") ∷ []) ∷ []
+  pub text_cut_whole : drawn_lines (numbers (unmarked (codes "|") ∷ []) 1 (alone true (only 6)) (narrow 0 3)) (codes "ab\ncdef\n") ≡ atoms_line (bare_atom (codes "1|") ∷ []) ∷ atoms_line (bare_atom (codes "2|") ∷ cursor_atom (codes "f") ∷ bare_atom (codes "\n") ∷ []) ∷ []
+  -- the first line of the window has its number in the text
+  pub from_the_top : drawn_lines (numbers (unmarked (codes "|") ∷ []) 0 (alone true (only 0)) (narrow 1 0)) (codes "a\nb\n") ≡ atoms_line (bare_atom (codes "2|b\n") ∷ []) ∷ []
+
+-- lines with whitespace as signs
+abbrev pub signs_at_eighths : List ℕ → Selected → View → List DrawnLine
+signs_at_eighths text sels view = drawn_lines (record (plain_looks 8 sels view) { signs = true }) text
+
+pub record SignLineExamples : Type 0 where
+  pub all_three : signs_at_eighths (codes "a b\tc\n") (alone true (only 0)) whole ≡ atoms_line (cursor_atom (codes "a") ∷ bare_atom (0xB7 ∷ 0x62 ∷ 0x2192 ∷ 32 ∷ 32 ∷ 32 ∷ 32 ∷ 0x63 ∷ 0xAC ∷ []) ∷ []) ∷ []
+  pub cursor_on_a_newline : signs_at_eighths (codes "\n") (alone true (only 0)) whole ≡ atoms_line (atom (0xAC ∷ []) named.Black named.Cyan ∷ []) ∷ []
+  pub cut_tab : signs_at_eighths (codes "a\tb\n") (alone true (only 0)) (narrow 0 0) ≡ atoms_line (cursor_atom (codes "a") ∷ bare_atom (codes "  ") ∷ []) ∷ []
+  pub one_by_one : signs_at_eighths (codes "a b\n") (alone true (only 1)) (record { top = 0; left = 1; rows = 1; columns = 1 }) ≡ atoms_line (cursor_atom (0xB7 ∷ []) ∷ []) ∷ []
 
 pub record Examples : Type 0 where
   pub chars : CharExamples
+  pub signs : SignExamples
+  pub sign_lines : SignLineExamples
+  pub grounds : GroundExamples
+  pub numbered : NumberExamples
   pub cells : LineExamples
   pub tabs : TabExamples
   pub seen : SeenExamples

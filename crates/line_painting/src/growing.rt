@@ -3,8 +3,10 @@
 ghost use Rattle.std.specs.Prelude.{◌≡◌, [], ◌++◌, replicate, OnOk, IfOk};
 ghost use Rattle.compact_chars.specs.Rows.{chars_of};
 ghost use Rattle.line_painting.specs.Atoms.{shown_in, with_all_shown};
+ghost use Rattle.line_painting.specs.Painting.{drawn_chars};
 
 use crate::atoms::push_run;
+use crate::cells::CharDrawn;
 use compact_chars::CharsRef;
 use drawings::Atom;
 use kak_faces::{Face, StandardFace};
@@ -39,6 +41,16 @@ fn add_times(chars: &mut Chars, c: char, count: u64) -> Result<(), AllocError>
         chars.push(c)?;
     }
     Ok(())
+}
+
+// Adds what is drawn of a character.
+fn add_drawn(chars: &mut Chars, drawn: CharDrawn) -> Result<(), AllocError>
+    ensures { OnOk result (chars.new ≡ chars.old ++ drawn_chars drawn) }
+{
+    if let Some(c) = drawn.head {
+        chars.push(c)?;
+    }
+    add_times(chars, ' ', drawn.spaces)
 }
 
 // Adds the characters whose numbers bytes are.
@@ -103,11 +115,18 @@ impl Growing {
         }
     }
 
-    // Adds a character so many times. An `Err` leaves some of the atoms.
-    pub fn push_times(&mut self, c: char, count: u64) -> Result<(), AllocError>
-        ensures { OnOk result (self.new ≡ grown_by self.old (replicate count c)) }
+    // Adds spaces. An `Err` leaves some of the atoms.
+    pub fn push_spaces(&mut self, count: u64) -> Result<(), AllocError>
+        ensures { OnOk result (self.new ≡ grown_by self.old (replicate count 32)) }
     {
-        add_times(&mut self.waiting, c, count)
+        add_times(&mut self.waiting, ' ', count)
+    }
+
+    // Adds what is drawn of a character. An `Err` leaves some of the atoms.
+    pub fn push_drawn(&mut self, drawn: CharDrawn) -> Result<(), AllocError>
+        ensures { OnOk result (self.new ≡ grown_by self.old (drawn_chars drawn)) }
+    {
+        add_drawn(&mut self.waiting, drawn)
     }
 
     // Takes the atoms out, with those that waited: none are left. An `Err` leaves some of them.

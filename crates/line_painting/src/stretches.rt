@@ -1,6 +1,6 @@
 //! Stretches of a line, each in one face.
 
-ghost use Rattle.std.specs.Prelude.{◌≡◌, ℕ, ◌+◌, ◌*◌, ◌^◌, ◌<◌, ◌≤◌, true, length, take, OnOk, IfOk};
+ghost use Rattle.std.specs.Prelude.{◌≡◌, ℕ, ◌+◌, ◌*◌, ◌^◌, ◌<◌, ◌≤◌, true, false, length, take, OnOk, IfOk};
 ghost use Rattle.std.specs.List.{AllByRecursion};
 ghost use Rattle.kak_text.specs.Cells.{cells_of};
 ghost use Rattle.compact_chars.specs.Rows.{chars_of};
@@ -11,22 +11,22 @@ ghost use Rattle.line_painting.specs.Painting.{grown_by, with_stretch, IsColumnB
 
 use crate::cells::{char_drawn, right};
 use crate::growing::Growing;
+use crate::scene::WindowFrame;
 use compact_chars::CharsRef;
 use kak_faces::Face;
 use kak_text::{MAX_TABSTOP, cells};
 use std::alloc::AllocError;
-use window_view::{Tabstop, Window};
 
-// The window by which lines are cut, and its tab stops.
-#[derive(Clone, Copy, Debug)]
-pub struct WindowFrame {
-    pub window: Window,
-    pub tabstop: Tabstop,
+// Whether a character is graphic ASCII, which has one cell and is drawn as itself also where signs are drawn.
+fn is_graphic(c: char) -> bool
+    ensures { result ≡ true → IsPlainChar true c }
+{
+    matches!(c, '!'..='~')
 }
 
-// Whether a character is printable ASCII or a newline, which has one cell and is drawn as itself.
+// Whether a character is graphic ASCII, a space or a newline, which are drawn as themselves where no signs are.
 fn is_plain(c: char) -> bool
-    ensures { result ≡ true → IsPlainChar c }
+    ensures { result ≡ true → IsPlainChar false c }
 {
     if matches!(c, ' '..='~') {
         return true;
@@ -34,24 +34,89 @@ fn is_plain(c: char) -> bool
     c == '\n'
 }
 
-// How many of the first characters are plain ones inside the window, if the first begins at a display column.
-fn plain_ahead(chars: CharsRef<'_>, window: Window, column: u32) -> usize
-    ensures few { result ≤ length (chars_of chars.entry) }
-    ensures plain { AllByRecursion IsPlainChar (take result (chars_of chars.entry)) }
-    ensures left { 0 < result → window.left ≤ column }
-    ensures right { 0 < result → column + result ≤ right_of (window_seen window) }
+// Whether all bytes are plain characters, where no signs are drawn. All of them are looked at, and many at once.
+fn are_plain(bytes: &[u8]) -> bool
+    ensures { result ≡ true → AllByRecursion (IsPlainChar false) bytes.now }
 {
-    if column < window.left {
-        return 0;
+    let mut plain = true;
+    for i in 0..bytes.len() {
+        if is_plain(bytes[i] as char) {
+            continue;
+        }
+        plain = false;
     }
-    let room = u32::from(window.columns).saturating_sub(column - window.left);
-    let end = chars.len().min(room as usize);
-    for i in 0..end {
+    plain
+}
+
+// How many of the first bytes are plain characters, where no signs are drawn.
+fn plain_bytes(bytes: &[u8]) -> usize
+    ensures few { result ≤ length bytes.now }
+    ensures plain { AllByRecursion (IsPlainChar false) (take result bytes.now) }
+{
+    if are_plain(bytes) {
+        return bytes.len();
+    }
+    for i in 0..bytes.len() {
+        if !is_plain(bytes[i] as char) {
+            return i;
+        }
+    }
+    bytes.len()
+}
+
+// How many of the first characters are plain, where no signs are drawn.
+fn plain_chars(chars: CharsRef<'_>) -> usize
+    ensures few { result ≤ length (chars_of chars.entry) }
+    ensures plain { AllByRecursion (IsPlainChar false) (take result (chars_of chars.entry)) }
+{
+    if let CharsRef::Narrow(bytes) = chars {
+        return plain_bytes(bytes);
+    }
+    for i in 0..chars.len() {
         if !is_plain(chars.at(i)) {
             return i;
         }
     }
-    end
+    chars.len()
+}
+
+// How many of the first characters are plain, where signs are drawn.
+fn graphic_chars(chars: CharsRef<'_>) -> usize
+    ensures few { result ≤ length (chars_of chars.entry) }
+    ensures plain { AllByRecursion (IsPlainChar true) (take result (chars_of chars.entry)) }
+{
+    for i in 0..chars.len() {
+        if !is_graphic(chars.at(i)) {
+            return i;
+        }
+    }
+    chars.len()
+}
+
+// How many of the first characters are plain.
+fn plain_among(chars: CharsRef<'_>, signs: bool) -> usize
+    ensures few { result ≤ length (chars_of chars.entry) }
+    ensures plain { AllByRecursion (IsPlainChar signs) (take result (chars_of chars.entry)) }
+{
+    if signs {
+        return graphic_chars(chars);
+    }
+    plain_chars(chars)
+}
+
+// How many of the first characters are plain ones inside the window, if the first begins at a display column.
+fn plain_ahead(chars: CharsRef<'_>, frame: WindowFrame, column: u32) -> usize
+    ensures few { result ≤ length (chars_of chars.entry) }
+    ensures plain { AllByRecursion (IsPlainChar frame.signs) (take result (chars_of chars.entry)) }
+    ensures left { 0 < result → frame.window.left ≤ column }
+    ensures right { 0 < result → column + result ≤ right_of (window_seen frame.window) }
+{
+    if column < frame.window.left {
+        return 0;
+    }
+    let room = u32::from(frame.window.columns).saturating_sub(column - frame.window.left);
+    let end = chars.len().min(room as usize);
+    plain_among(chars.between(0, end), frame.signs)
 }
 
 // Adds what a window shows of a character that begins at a display column: the column behind it.
@@ -62,13 +127,13 @@ fn push_one(
     column: u32,
 ) -> Result<u32, AllocError>
     requires { column < 2 ^ 31 }
-    ensures drawn { OnOk result (atoms.new ≡ grown_by atoms.old (char_drawn (window_seen frame.window) column (cells_of c column frame.tabstop.columns) c)) }
+    ensures drawn { OnOk result (atoms.new
+        ≡ grown_by atoms.old (char_drawn frame.signs (window_seen frame.window) column (cells_of c column frame.tabstop.columns) c)) }
     ensures column { IfOk result (λ behind. behind ≡ column + cells_of c column frame.tabstop.columns) }
     ensures small { IfOk result (λ behind. behind ≤ column + MAX_TABSTOP) }
 {
     let width = cells(c, column, frame.tabstop.columns);
-    let drawn = char_drawn(frame.window, column, width, c);
-    atoms.push_times(drawn.c, drawn.count)?;
+    atoms.push_drawn(char_drawn(frame.window, frame.signs, column, width, c))?;
     Ok(column + width)
 }
 
@@ -84,7 +149,7 @@ pub fn push_stretch(
 ) -> Result<u32, AllocError>
     requires { column + MAX_TABSTOP * length (chars_of chars) < 2 ^ 31 }
     ensures drawn { OnOk result (atoms.new.atoms
-        ≡ with_stretch frame.tabstop.columns (window_seen frame.window) atoms.old.atoms face column (chars_of chars.entry)) }
+        ≡ with_stretch frame.tabstop.columns frame.signs (window_seen frame.window) atoms.old.atoms face column (chars_of chars.entry)) }
     ensures column { IfOk result (IsColumnBehind frame.tabstop.columns (window_seen frame.window) column (chars_of chars.entry)) }
     ensures small { IfOk result (λ behind. behind ≤ column + MAX_TABSTOP * length (chars_of chars.entry)) }
 {
@@ -95,7 +160,7 @@ pub fn push_stretch(
     let mut behind = column;
     let mut done = 0;
     while done < chars.len() {
-        let to = done + plain_ahead(chars.behind(done), frame.window, behind);
+        let to = done + plain_ahead(chars.behind(done), frame, behind);
         let next = behind + (to - done) as u32;
         atoms.push_chars(chars.between(done, to))?;
         if to >= chars.len() {

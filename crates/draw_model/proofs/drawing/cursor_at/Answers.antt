@@ -5,7 +5,7 @@ use Rattle.draw_model.proofs.CursorLemmas.{main-cursor, main-place}
 use Rattle.draw_model.proofs.drawing.cursor_at.Goals as goal
 
 pub returns : goal.returns
-returns c =
+returns g c =
     let l : c.sels-sels.result.now.main < length c.sels-sels.result.now.list = c.main.ensures.valid.main_is in
     let at = λ (d : Sel). c.at.ensures d ∙ ap (λ n. get_or c.sels-sels.result.now.list n d) c.main.ensures.value in
     record {

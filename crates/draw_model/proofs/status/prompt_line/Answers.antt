@@ -9,10 +9,9 @@ use Rattle.draw_model.proofs.status.prompt_line.Goals as goal
 
 pub returns : goal.returns
 returns c =
-    let rest = c.in_ok-push_run-3.ensures ∙ ap (λ f. with_all_shown c.push_shown.new.atoms.items (shown_in f c.past_cursor.result.now)) (c.face-4.ensures ∙ sym c.face-2.ensures) in
     ap (λ (a : List Atom). record { atoms = a })
-    (c.of_vec.ensures ∙ prompt-drawn c.args.purpose c.new-atoms.result.items c.push_run.new.atoms.items c.push_run-2.new.atoms.items c.push_shown.new.atoms.items c.push_run-3.new.atoms.items
-    c.face.result c.face-2.result c.face-3.result c.as_slice.result.now c.before-2.result.now c.behind-behind.result.now c.past_cursor.result.now c.under_cursor.result c.face.ensures c.face-2.ensures c.face-3.ensures
+    (c.of_vec.ensures ∙ prompt-drawn c.args.palette.now c.args.purpose c.new-atoms.result.items c.push_run.new.atoms.items c.push_run-2.new.atoms.items c.push_shown.new.atoms.items c.push_run-3.new.atoms.items
+    c.as_slice.result.now c.before-2.result.now c.behind-behind.result.now c.past_cursor.result.now c.under_cursor-under.result
     (c.as_slice.ensures ∙ c.in_ok-name.ensures ∙ ap chars c.prompt_name.ensures ∙ name-chars c.args.purpose)
-    c.under_cursor.ensures c.past_cursor.ensures c.new-atoms.ensures.items c.in_ok-push_run.ensures c.in_ok-push_run-2.ensures c.in_ok-push_shown.ensures rest
-    ∙ ap₂ (λ a b. atoms_of (prompt_shown c.args.purpose (let x : Halves = record { before = a; behind = b } in x))) c.before-2.ensures c.behind-behind.ensures)
+    c.under_cursor-under.ensures c.past_cursor.ensures c.new-atoms.ensures.items c.in_ok-push_run.ensures c.in_ok-push_run-2.ensures c.in_ok-push_shown.ensures c.in_ok-push_run-3.ensures
+    ∙ ap₂ (λ a b. atoms_of (prompt_shown c.args.palette.now c.args.purpose (let x : Halves = record { before = a; behind = b } in x))) c.before-2.ensures c.behind-behind.ensures)

@@ -7,7 +7,7 @@ use Rattle.line_painting.proofs.stretches.push_stretch.Given as goal
 
 abbrev pub invariant-loop-done : goal.invariant-loop-done
 invariant-loop-done l = record {
-  pushed : IsPushedTo l.frame.tabstop.columns (window_seen l.frame.window) l.fn.atoms l.atoms l.fn.face (chars_of l.chars) l.column l.behind l.done;
+  pushed : IsPushedTo l.frame.tabstop.columns l.frame.signs (window_seen l.frame.window) l.fn.atoms l.atoms l.fn.face (chars_of l.chars) l.column l.behind l.done;
   small : l.behind ≤ l.column + 64 * l.done;
 }
 

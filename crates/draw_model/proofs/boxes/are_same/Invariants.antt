@@ -1,0 +1,7 @@
+-- The characters gone over are the same.
+use Rattle.std.proofs.Common.{◌≡◌, drop, length}
+use Rattle.std.specs.Str.{bytes_eq}
+use Rattle.draw_model.proofs.boxes.are_same.Given as goal
+
+abbrev pub invariant-loop-i : goal.invariant-loop-i
+invariant-loop-i l = bytes_eq (drop l.i l.a) (drop l.i l.b) ≡ bytes_eq l.a l.b

@@ -1,0 +1,30 @@
+use Rattle.std.proofs.Common.{◌≡◌, ◌∙◌, ◌<◌, ◌≤◌, List, ap, ap₂, eqb, get_or, length, sym, subst, arith}
+use Rattle.compact_chars.specs.Rows.{chars_of}
+use Rattle.selection_set.proofs.HeldLemmas.{zero_sel}
+use Rattle.line_painting.specs.Painting.{IsCursorLaid}
+use Rattle.line_painting.proofs.OverLemmas.{cursors-none, cursors-one, cursors-all, below-line, below-all, read-sel}
+use Rattle.line_painting.proofs.overs.push_cursors.Goals as goal
+
+pub loop-k-init : goal.loop-k-init
+loop-k-init c = cursors-none c.args.scene.palette.now c.args.scene.lines.now c.args.scene.sels.now c.args.n c.args.first c.args.overs.now.items c.requires.held c.requires.before
+
+pub returns-then-sel-n : goal.returns-then-sel-n
+returns-then-sel-n c =
+    let there : c.loop-k.k < length c.args.scene.sels.now.list = omega (arith, c.loop-k-test.true, ap length c.as_slice-list.ensures.value) in
+    cursors-all c.args.scene.palette.now c.args.scene.lines.now c.args.scene.sels.now c.args.n c.loop-k.k c.args.overs.now.items c.loop-k.overs.items
+    (below-line c.args.scene.lines.now c.args.scene.sels.now c.args.n c.loop-k.k (get_or c.as_slice-list.result.now c.loop-k.k zero_sel) c.requires.held c.requires.there there
+    (read-sel c.as_slice-list.result.now c.args.scene.sels.now.list c.loop-k.k zero_sel c.as_slice-list.ensures.value there) c.if-sel-n.true) c.loop-k.invariant
+
+pub loop-k-preserved : goal.loop-k-preserved
+loop-k-preserved c =
+    let there : c.loop-k.k < length c.args.scene.sels.now.list = omega (arith, c.loop-k-test.true, ap length c.as_slice-list.ensures.value) in
+    cursors-one c.args.scene.palette.now c.args.scene.lines.now c.args.scene.sels.now c.args.n c.loop-k.k (chars_of c.line-line.result) (get_or c.as_slice-list.result.now c.loop-k.k zero_sel) c.cursor.result
+    c.args.overs.now.items c.loop-k.overs.items c.push_cursor.new.overs.items c.requires.held c.requires.there c.line-line.ensures.value there
+    (read-sel c.as_slice-list.result.now c.args.scene.sels.now.list c.loop-k.k zero_sel c.as_slice-list.ensures.value there) c.cursor.ensures
+    (subst (λ m. IsCursorLaid c.args.scene.palette.now c.args.n (chars_of c.line-line.result) c.cursor.result (eqb c.loop-k.k m) c.loop-k.overs.items c.push_cursor.new.overs.items) c.main.ensures.value c.in_ok-push_cursor.ensures)
+    c.loop-k.invariant
+
+pub returns : goal.returns
+returns c =
+    cursors-all c.args.scene.palette.now c.args.scene.lines.now c.args.scene.sels.now c.args.n c.loop-k.k c.args.overs.now.items c.loop-k.overs.items
+    (below-all c.args.scene.lines.now c.args.scene.sels.now c.args.n c.loop-k.k (omega (arith, c.loop-k-test.false, ap length c.as_slice-list.ensures.value))) c.loop-k.invariant

@@ -1,0 +1,9 @@
+-- The characters gone over are graphic.
+use Rattle.std.proofs.Common.{true, take}
+use Rattle.std.specs.List.{AllByRecursion}
+use Rattle.compact_chars.specs.Rows.{chars_of}
+use Rattle.line_painting.specs.Laws.{IsPlainChar}
+use Rattle.line_painting.proofs.stretches.graphic_chars.Given as goal
+
+abbrev pub invariant-loop-i : goal.invariant-loop-i
+invariant-loop-i l = AllByRecursion (IsPlainChar true) (take l.i (chars_of l.chars))
