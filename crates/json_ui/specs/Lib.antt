@@ -1,3 +1,5 @@
+pub mod Methods
 pub mod Requests
 pub mod Parameters
+pub mod NumberExamples
 pub mod RequestExamples

@@ -1,18 +1,18 @@
 -- Which request a line is, or why it is refused.
-use Rattle.std.specs.Prelude.{◌≡◌, ℕ, ◌+◌, ◌==◌, ◌||◌, List, [], ◌∷◌, ◌++◌, length, Bool, false, nat_lt, if◌then◌else◌, Option, Some, None, is_some, option_map, option_and_then, Result, Ok, Err, codes}
+use Rattle.std.specs.Prelude.{◌≡◌, ℕ, ◌+◌, ◌==◌, ◌||◌, List, [], ◌∷◌, ◌++◌, length, Bool, false, nat_lt, if◌then◌else◌, Option, Some, None, option_map, option_and_then, Result, Ok, Err, codes}
 use Rattle.std.specs.List.{list_all}
 use Rattle.std.specs.Str.{bytes_eq, chars, is_utf8}
 use Rattle.serde_json.specs.Data.{Data, Items, no_items, item}
-use Rattle.serde_json.specs.Find.{get, at as parameter_at, as_str, as_array, as_number, as_u64}
+use Rattle.serde_json.specs.Find.{get, as_str, as_array}
 use Rattle.serde_json.specs.Read.{read}
 use Rattle.key_names.specs.declared.key.Key as key
 use Rattle.key_names.specs.Reading.{read_text}
 use Rattle.requests.specs.declared.request.Request.{Request}
-use Rattle.window_view.specs.Sizes.{within_bounds}
-use Rattle.requests.specs.declared.request.Request.TheVariants.{Nothing, Keys, Resize}
+use Rattle.requests.specs.declared.request.Request.TheVariants.{Nothing, Keys}
 use Rattle.drawings.specs.declared.refusal.Refusal.{Refusal}
 use Rattle.drawings.specs.declared.refusal.Refusal.TheVariants.{TooLong, Parse, Invalid, Method, Params, Key}
 use Rattle.requests.specs.Reading.{Reads}
+use Rattle.json_ui.specs.Methods.{fitting, resize_in, scroll_in, move_in, press_in, release_in, menu_select_in}
 
 -- how many bytes a line may have
 abbrev pub max_line : ℕ
@@ -62,33 +62,31 @@ abbrev pub texts_request : Option (List (List ℕ)) → Result Request Refusal
 texts_request None = Err Params
 texts_request (Some texts) = keys_request (keys_of_texts 0 texts)
 
--- the whole number from 0 and below 2^64 that a parameter is, counted from 0, if it is one; a number that is written with a
--- fraction or an exponent is none, and neither is `-0`
-abbrev pub whole_at : ℕ → Data → Option ℕ
-whole_at n parameters = option_and_then as_u64 (option_and_then as_number (parameter_at n parameters))
+-- the request of `keys`: strings, each any number of keys; missing parameters are none
+abbrev pub keys_in : Data → Result Request Refusal
+keys_in request = texts_request (texts_in (get (codes "params") request))
 
--- the request of so many rows and columns, if both are numbers
-abbrev pub resize_request : Option ℕ → Option ℕ → Result Request Refusal
-resize_request None columns = Err Params
-resize_request (Some rows) None = Err Params
-resize_request (Some rows) (Some columns) = Ok (Resize (within_bounds rows) (within_bounds columns))
+-- the methods by their names, and what each makes of a request object
+abbrev pub methods : Data → List (List ℕ × Result Request Refusal)
+methods request =
+    (codes "keys", keys_in request) ∷
+    (codes "resize", fitting (resize_in request)) ∷
+    (codes "scroll", fitting (scroll_in request)) ∷
+    (codes "mouse_move", fitting (move_in request)) ∷
+    (codes "mouse_press", fitting (press_in request)) ∷
+    (codes "mouse_release", fitting (release_in request)) ∷
+    (codes "menu_select", fitting (menu_select_in request)) ∷
+    []
 
--- the request of an array of two such numbers; of anything else the parameters don't fit
-abbrev pub size_request : Data → Result Request Refusal
-size_request parameters =
-    if is_some (parameter_at 2 parameters) then Err Params else resize_request (whole_at 0 parameters) (whole_at 1 parameters)
+-- what the method of a name makes, if it is one of these
+abbrev pub named_in : List (List ℕ × Result Request Refusal) → List ℕ → Result Request Refusal
+named_in [] name = Err Method
+named_in (method ∷ methods) name = if bytes_eq name method.0 then method.1 else named_in methods name
 
--- the same of parameters that may be missing
-abbrev pub size_in : Option Data → Result Request Refusal
-size_in None = Err Params
-size_in (Some parameters) = size_request parameters
-
--- the request of a method
+-- the request of a request object with a method, if that is told
 abbrev pub method_request : Option (List ℕ) → Data → Result Request Refusal
-method_request None value = Err Invalid
-method_request (Some method) value =
-    if bytes_eq method (codes "keys") then texts_request (texts_in (get (codes "params") value))
-    else (if bytes_eq method (codes "resize") then size_in (get (codes "params") value) else Err Method)
+method_request None request = Err Invalid
+method_request (Some name) request = named_in (methods request) name
 
 -- the request of a JSON value
 abbrev pub value_request : Data → Result Request Refusal

@@ -1,23 +1,25 @@
 //! Lines of JSON, read as requests.
 
-ghost use Rattle.std.specs.Prelude.{◌≡◌, ◌≤◌, ◌^◌, ◌<◌, length, is_some, true, Some, Ok, IfOk, IfErr, codes};
+ghost use Rattle.std.specs.Prelude.{◌≡◌, ◌≤◌, ◌^◌, ◌<◌, length, is_some, true, Some, Ok, IfOk, IfErr};
 ghost use Rattle.std.specs.Option.{option_copied};
 ghost use Rattle.std.specs.List.{list_all};
 ghost use Rattle.std.specs.Str.{chars, is_utf8};
 ghost use Rattle.serde_json.specs.View.{view, items_view};
-ghost use Rattle.serde_json.specs.Find.{as_str, get, at};
+ghost use Rattle.serde_json.specs.Find.{as_str};
 ghost use Rattle.serde_json.specs.Read.{read};
 ghost use Rattle.key_names.specs.Reading.{read_text};
 ghost use Rattle.json_ui.specs.Parameters.{IsParameterError, IsJsonError, HasFewParameters, texts_seen};
-ghost use Rattle.json_ui.specs.Requests.{is_blank, text_at, is_text, item_texts, texts_in, keys_request, keys_of_texts, texts_request, whole_at, size_request, size_in, method_request, value_request, read_request};
+ghost use Rattle.json_ui.specs.Requests.{is_blank, text_at, is_text, item_texts, keys_in, keys_request, keys_of_texts, texts_request, value_request, read_request};
 ghost use Rattle.requests.specs.Reading.{IsLineError};
 
+use crate::methods::{
+    fitting, menu_select_in, move_in, press_in, release_in, resize_in, scroll_in,
+};
 use drawings::Refusal;
 use key_names::{Key, KeyError, Keys, read_keys};
 use requests::{LineError, Request};
 use serde_json::Value;
 use std::alloc::{AllocError, Global};
-use window_view::within_bounds;
 
 /// How many bytes a line may have.
 pub const MAX_LINE: usize = 1_048_576;
@@ -103,11 +105,11 @@ fn read_array(alloc: Global, items: &[Value]) -> Result<Request, LineError>
     Ok(Request::Keys(Keys::of_vec(keys)))
 }
 
-// The request of the parameters of a request object.
+// The request of `keys`.
 fn read_parameters(alloc: Global, value: &Value) -> Result<Request, LineError>
     requires { HasFewParameters (view value.now) }
-    ensures request { IfOk result (λ r. texts_request (texts_in (get (codes "params") (view value.now))) ≡ Ok r) }
-    ensures error { IfErr result (λ e. IsLineError e (texts_request (texts_in (get (codes "params") (view value.now))))) }
+    ensures request { IfOk result (λ r. keys_in (view value.now) ≡ Ok r) }
+    ensures error { IfErr result (λ e. IsLineError e (keys_in (view value.now))) }
 {
     let Some(parameters) = value.get("params") else {
         return Ok(Request::Keys(Keys::of_vec(Vec::new(alloc))));
@@ -116,51 +118,6 @@ fn read_parameters(alloc: Global, value: &Value) -> Result<Request, LineError>
         return Err(LineError::Refused(Refusal::Params));
     };
     read_array(alloc, items)
-}
-
-// Whether there is a parameter of a number, counted from 0.
-fn has_parameter(parameters: &Value, n: usize) -> bool
-    ensures { result ≡ is_some (at n (view parameters.now)) }
-{
-    match parameters.get(n) {
-        Some(_) => true,
-        None => false,
-    }
-}
-
-// The whole number that a parameter is, counted from 0, if it is one.
-fn whole_at(parameters: &Value, n: usize) -> Option<u64>
-    ensures { result ≡ whole_at n (view parameters.now) }
-{
-    parameters.get(n).and_then(Value::as_u64)
-}
-
-// The request of the parameters of `resize`.
-fn read_size(parameters: &Value) -> Result<Request, LineError>
-    ensures request { IfOk result (λ r. size_request (view parameters.now) ≡ Ok r) }
-    ensures error { IfErr result (λ e. IsLineError e (size_request (view parameters.now))) }
-{
-    if has_parameter(parameters, 2) {
-        return Err(LineError::Refused(Refusal::Params));
-    }
-    let Some(rows) = whole_at(parameters, 0) else {
-        return Err(LineError::Refused(Refusal::Params));
-    };
-    let Some(columns) = whole_at(parameters, 1) else {
-        return Err(LineError::Refused(Refusal::Params));
-    };
-    Ok(Request::Resize(within_bounds(rows), within_bounds(columns)))
-}
-
-// The request of an object whose method is `resize`.
-fn read_resize(value: &Value) -> Result<Request, LineError>
-    ensures request { IfOk result (λ r. size_in (get (codes "params") (view value.now)) ≡ Ok r) }
-    ensures error { IfErr result (λ e. IsLineError e (size_in (get (codes "params") (view value.now)))) }
-{
-    match value.get("params") {
-        Some(parameters) => read_size(parameters),
-        None => Err(LineError::Refused(Refusal::Params)),
-    }
 }
 
 // The request of a JSON value.
@@ -175,7 +132,12 @@ fn read_value(alloc: Global, value: &Value) -> Result<Request, LineError>
     match text_at(value, "method") {
         None => Err(LineError::Refused(Refusal::Invalid)),
         Some("keys") => read_parameters(alloc, value),
-        Some("resize") => read_resize(value),
+        Some("resize") => fitting(resize_in(value)),
+        Some("scroll") => fitting(scroll_in(value)),
+        Some("mouse_move") => fitting(move_in(value)),
+        Some("mouse_press") => fitting(press_in(value)),
+        Some("mouse_release") => fitting(release_in(value)),
+        Some("menu_select") => fitting(menu_select_in(value)),
         Some(_) => Err(LineError::Refused(Refusal::Method)),
     }
 }

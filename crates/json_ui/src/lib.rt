@@ -4,11 +4,16 @@
 
 mod decoding;
 mod examples;
+mod methods;
+mod parameters;
 mod reader;
 
 pub use decoding::{MAX_LINE, decode_line};
 pub use drawings::{Atom, Atoms, Cursor, Drawing, DrawnLine, DrawnLines, Info, InfoBox, Refusal};
-pub use examples::read_examples;
+pub use examples::{number_examples, read_examples};
 pub use json_writing::{encode_drawing, encode_refusal};
+pub use mouse_events::{Button, Mouse};
 pub use reader::JsonReader;
 pub use requests::{LineError, Reader, Request};
+pub use text_model::Coord;
+pub use window_view::Size;

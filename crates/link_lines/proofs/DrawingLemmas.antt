@@ -6,7 +6,7 @@ use Rattle.std.specs.declared.result.Result.{Result}
 use Rattle.kak_ports.specs.Ports.{Outlet}
 use Rattle.key_names.specs.declared.key.Key.{Key}
 use Rattle.requests.specs.declared.request.Request.{Request}
-use Rattle.requests.specs.declared.request.Request.TheVariants.{Nothing, Keys, Resize}
+use Rattle.requests.specs.declared.request.Request.TheVariants.{Nothing, Keys, Resize, Scroll, Mouse, MenuSelect}
 use Rattle.requests.specs.Reading.{Reads}
 use Rattle.drawings.specs.declared.refusal.Refusal.{Refusal}
 use Rattle.session_turns.specs.Histories.{Answer, own, events_of}
@@ -135,7 +135,10 @@ keys-asked (key ∷ keys) = (refl, keys-asked keys)
 line-asked : (read : Result Request Refusal) → AreAsked (played_by read)
 line-asked (Ok Nothing) = tt
 line-asked (Ok (Keys keys)) = keys-asked keys
-line-asked (Ok (Resize rows columns)) = (refl, keys-asked [])
+line-asked (Ok (Resize size)) = (refl, keys-asked [])
+line-asked (Ok (Scroll lines place)) = tt
+line-asked (Ok (Mouse mouse)) = tt
+line-asked (Ok MenuSelect) = tt
 line-asked (Err refusal) = tt
 
 -- a line was played, or a part of it

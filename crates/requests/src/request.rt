@@ -5,8 +5,11 @@ ghost use Rattle.requests.specs.declared.request.LineError.TheVariants.{NoMemory
 
 use drawings::Refusal;
 use key_names::Keys;
+use mouse_events::Mouse;
 use std::alloc::AllocError;
+use text_model::Coord;
 use thiserror::Error;
+use window_view::Size;
 
 /// What a line asks for.
 #[derive(Drop, Debug)]
@@ -15,8 +18,14 @@ pub enum Request {
     Nothing,
     /// These keys are pressed.
     Keys(Keys),
-    /// The windows of the client have so many rows and columns from now on, each number from 1 to 1,000.
-    Resize(u16, u16),
+    /// The windows of the client have so many rows and columns from now on.
+    Resize(Size),
+    /// The client's window goes so many lines on, or back where that is below 0. Some tell the place where the mouse was.
+    Scroll(i32, Option<Coord>),
+    /// A mouse was moved over the client's window, or a button was pressed or released there.
+    Mouse(Mouse),
+    /// An item of a menu was chosen.
+    MenuSelect,
 }
 
 /// Why a line gives no request.

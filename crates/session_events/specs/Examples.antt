@@ -1,6 +1,7 @@
 -- Worked examples of what a client has missed, and of how many are here: clients 0 and 1 come, and 0 is drawn.
 use Rattle.std.specs.Prelude.{◌≡◌, true, false, List, [], ◌∷◌, ◌++◌}
 use Rattle.key_names.specs.declared.key.Key.{Key}
+use Rattle.window_view.specs.Sizes.{sized}
 use Rattle.session_events.specs.declared.event.Event.TheVariants.{Join, Key as Struck, Resize, Refresh, Leave}
 use Rattle.session_events.specs.declared.event.Entry.{Entry}
 use Rattle.session_events.specs.Entries.{entry_of}
@@ -25,8 +26,8 @@ pub record Examples : Type 0 where
   pub key_of_other : (key : Key) → has_missed 0 (drawn ++ entry_of 1 (Struck key) ∷ entry_of 1 (Refresh false) ∷ []) ≡ true
   pub own_key : (key : Key) → has_missed 0 (drawn ++ entry_of 0 (Struck key) ∷ []) ≡ true
   -- and so is a resize, the client's own too
-  pub resize_of_other : has_missed 0 (drawn ++ entry_of 1 (Resize 2 3) ∷ []) ≡ true
-  pub own_resize : has_missed 0 (drawn ++ entry_of 0 (Resize 2 3) ∷ []) ≡ true
+  pub resize_of_other : has_missed 0 (drawn ++ entry_of 1 (Resize (sized 2 3)) ∷ []) ≡ true
+  pub own_resize : has_missed 0 (drawn ++ entry_of 0 (Resize (sized 2 3)) ∷ []) ≡ true
   -- and so is the coming or the going of another
   pub going_of_other : has_missed 0 (drawn ++ entry_of 1 Leave ∷ []) ≡ true
   pub coming_of_other : has_missed 0 (drawn ++ entry_of 2 Join ∷ []) ≡ true

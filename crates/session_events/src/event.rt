@@ -7,6 +7,7 @@ use byte_texts::Octets;
 use drawings::Drawing;
 use key_names::Key;
 use sequences::Seq;
+use window_view::Size;
 
 /// One event of a client.
 #[derive(Clone, Copy, Debug)]
@@ -15,8 +16,8 @@ pub enum Event {
     Join,
     /// The client strikes a key.
     Key(Key),
-    /// The windows of the client have so many rows and columns from now on; each number is brought into 1 to 1,000.
-    Resize(u16, u16),
+    /// The windows of the client have so many rows and columns from now on.
+    Resize(Size),
     /// The client is drawn; the flag says whether it asked to be.
     Refresh(bool),
     /// The client goes.

@@ -25,7 +25,7 @@ pub fn kind_of(event: &Event) -> Kind
     match event {
         Event::Join => Kind::Coming,
         Event::Key(_) => Kind::Doing,
-        Event::Resize(_, _) => Kind::Doing,
+        Event::Resize(_) => Kind::Doing,
         Event::Refresh(_) => Kind::Drawing,
         Event::Leave => Kind::Going,
     }

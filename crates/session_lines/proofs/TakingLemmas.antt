@@ -80,10 +80,6 @@ one-refused g x y event why s = record {
 pub silent-taken : (g : Gives) (x y : Seated) (event : Event) (output : Output) → is_leave event ≡ false → is_drawing event ≡ false → IsMeaning g → Steps g x y event output → AreTaken g x y (event ∷ []) [] output.leaving
 silent-taken g x y event output stays silent m s = one-taken g x y event output [] stays s (sym (ap told_by s.is ∙ told-nothing g (x.seen ++ s.between) x.number event s.answers m silent))
 
--- a key was struck
-pub key-taken : (g : Gives) (x y : Seated) (key : keys.Key) (output : Output) → IsMeaning g → Steps g x y (Struck key) output → AreTaken g x y (Struck key ∷ []) [] output.leaving
-key-taken g x y key output m s = one-taken g x y (Struck key) output [] refl s (sym (ap told_by s.is ∙ told-nothing g (x.seen ++ s.between) x.number (Struck key) s.answers m refl))
-
 -- the client was drawn
 pub drawing-taken : (g : Gives) (asked : Bool) (x y : Seated) (output : Output) (out : List ℕ) → IsMeaning g → Steps g x y (Refresh asked) output → out ≡ told_by output → AreTaken g x y (Refresh asked ∷ []) out false
 drawing-taken g asked x y output out m s b = subst (λ l. AreTaken g x y (Refresh asked ∷ []) out l) (ap (λ o. o.leaving) s.is ∙ m.stays (x.seen ++ s.between) x.number (Refresh asked) s.answers refl) (one-taken g x y (Refresh asked) output out refl s b)

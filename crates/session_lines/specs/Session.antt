@@ -4,7 +4,7 @@ use Rattle.std.specs.declared.option.Option.{Option}
 use Rattle.std.specs.declared.result.Result.{Result}
 use Rattle.key_names.specs.declared.key.Key.{Key}
 use Rattle.requests.specs.declared.request.Request.{Request}
-use Rattle.requests.specs.declared.request.Request.TheVariants.{Nothing, Keys, Resize}
+use Rattle.requests.specs.declared.request.Request.TheVariants.{Nothing, Keys, Resize, Scroll, Mouse, MenuSelect}
 use Rattle.drawings.specs.declared.refusal.Refusal.{Refusal}
 use Rattle.json_writing.specs.Refusals.{refusal_bytes}
 use Rattle.requests.specs.Reading.{Reads}
@@ -20,7 +20,10 @@ keys_played keys = map (λ key. Struck key) keys ++ Refresh true ∷ []
 abbrev pub events_asked : Request → Option (List Event)
 events_asked Nothing = None
 events_asked (Keys keys) = Some (map (λ key. Struck key) keys)
-events_asked (Resize rows columns) = Some (Resized rows columns ∷ [])
+events_asked (Resize size) = Some (Resized size ∷ [])
+events_asked (Scroll lines place) = None
+events_asked (Mouse mouse) = None
+events_asked MenuSelect = None
 
 -- events that were asked for, and then the client is drawn
 abbrev pub drawn_after : Option (List Event) → List Event

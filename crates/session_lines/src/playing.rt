@@ -1,10 +1,12 @@
 //! Events of a client that is joined, played over a seat.
 
 ghost use Rattle.std.specs.Prelude.{◌≡◌, ◌∷◌, [], true, false, Some, IfOk, IfErr, IfSome, OnErr};
-ghost use Rattle.session_events.specs.declared.event.Event.TheVariants.{Key as Struck, Resize as Resized, Refresh};
-ghost use Rattle.session_events.specs.Entries.{is_join, is_leave};
+ghost use Rattle.session_events.specs.declared.event.Event.TheVariants.{Refresh};
+ghost use Rattle.session_events.specs.Entries.{kind_of, is_join, is_leave};
+ghost use Rattle.session_events.specs.declared.kind.Kind.TheVariants.{Doing};
 ghost use Rattle.session_events.specs.Meaning.{IsMeaning, drawn_bytes};
 ghost use Rattle.session_events.specs.Seats.{IsIn, IsSameSeat, IsLegalSeat, Steps, Sees};
+ghost use Rattle.session_lines.specs.declared.playing.Telling.TheVariants.{Nothing as Silent};
 ghost use Rattle.session_lines.specs.Session.{keys_played};
 ghost use Rattle.session_lines.specs.Serving.{telling_bytes, TakesEvents, TakesDrawing, PhaseAnswers, Leaves};
 ghost use Rattle.session_lines.specs.Stops.{IsReady, Stays, Stops, IsLoss, StaysWhole};
@@ -50,6 +52,19 @@ pub struct Reply {
     pub telling: Telling,
     /// Whether it may leave.
     pub leaving: bool,
+}
+
+impl Reply {
+    /// Nothing is told, and the client may not leave.
+    pub fn nothing() -> Reply
+        ensures telling { result.telling ≡ Silent }
+        ensures stays { result.leaving ≡ false }
+    {
+        Reply {
+            telling: Telling::Nothing,
+            leaving: false,
+        }
+    }
 }
 
 impl From<AllocError> for Stop {
@@ -99,17 +114,18 @@ fn telling_of(drawing: Option<Drawing>) -> Telling
     }
 }
 
-// Strikes a key, which gives no drawing. Tells whether the client may leave by it.
-fn strike<S: Seat>(alloc: Global, seat: &mut S, key: Key) -> Result<bool, Stop>
-    requires { IsReady (S.seated seat.old) }
+// Takes an event by which the client does something, which gives no drawing. Tells whether the client may leave by it.
+fn act<S: Seat>(alloc: Global, seat: &mut S, event: &Event) -> Result<bool, Stop>
+    requires ready { IsReady (S.seated seat.old) }
+    requires acts { kind_of event.now ≡ Doing }
     ensures meaning { IsMeaning S.gives }
     ensures stays { Stays (S.seated seat.old) (S.seated seat.new) }
     ensures kept { S.kept seat.new ≡ S.kept seat.old }
     ensures whole { StaysWhole result (S.seated seat.old).mark (S.seated seat.new).mark }
-    ensures takes { TakesEvents S.gives (S.seated seat.old) (S.seated seat.new) (Struck key ∷ []) result }
+    ensures takes { TakesEvents S.gives (S.seated seat.old) (S.seated seat.new) (event.now ∷ []) result }
     ensures stops { Stops result (S.seated seat.new) }
 {
-    let output = take(alloc, seat, &Event::Key(key))?;
+    let output = take(alloc, seat, event)?;
     Ok(output.leaving)
 }
 
@@ -156,42 +172,23 @@ pub fn play_keys<S: Seat>(alloc: Global, seat: &mut S, keys: &[Key]) -> Result<R
 {
     let mut leaving = false;
     for &key in keys {
-        leaving |= strike(alloc, seat, key)?;
+        leaving |= act(alloc, seat, &Event::Key(key))?;
     }
     let telling = draw(alloc, seat, true)?;
     Ok(Reply { telling, leaving })
 }
 
-// Gives the client's windows so many rows and columns, which gives no drawing. Tells whether the client may leave by it.
-fn set_size<S: Seat>(alloc: Global, seat: &mut S, rows: u16, columns: u16) -> Result<bool, Stop>
-    requires { IsReady (S.seated seat.old) }
-    ensures meaning { IsMeaning S.gives }
+/// Takes an event by which the client does something, and draws the client.
+pub fn play_event<S: Seat>(alloc: Global, seat: &mut S, event: &Event) -> Result<Reply, Stop>
+    requires ready { IsReady (S.seated seat.old) }
+    requires acts { kind_of event.now ≡ Doing }
     ensures stays { Stays (S.seated seat.old) (S.seated seat.new) }
     ensures kept { S.kept seat.new ≡ S.kept seat.old }
     ensures whole { StaysWhole result (S.seated seat.old).mark (S.seated seat.new).mark }
-    ensures takes { TakesEvents S.gives (S.seated seat.old) (S.seated seat.new) (Resized rows columns ∷ []) result }
+    ensures answers { PhaseAnswers S.gives (S.seated seat.old) (S.seated seat.new) (event.now ∷ Refresh true ∷ []) [] result }
     ensures stops { Stops result (S.seated seat.new) }
 {
-    let output = take(alloc, seat, &Event::Resize(rows, columns))?;
-    Ok(output.leaving)
-}
-
-/// Gives the client's windows so many rows and columns, and draws the client.
-pub fn play_size<S: Seat>(
-    alloc: Global,
-    seat: &mut S,
-    rows: u16,
-    columns: u16,
-) -> Result<Reply, Stop>
-    requires { IsReady (S.seated seat.old) }
-    ensures meaning { IsMeaning S.gives }
-    ensures stays { Stays (S.seated seat.old) (S.seated seat.new) }
-    ensures kept { S.kept seat.new ≡ S.kept seat.old }
-    ensures whole { StaysWhole result (S.seated seat.old).mark (S.seated seat.new).mark }
-    ensures answers { PhaseAnswers S.gives (S.seated seat.old) (S.seated seat.new) (Resized rows columns ∷ Refresh true ∷ []) [] result }
-    ensures stops { Stops result (S.seated seat.new) }
-{
-    let leaving = set_size(alloc, seat, rows, columns)?;
+    let leaving = act(alloc, seat, event)?;
     let telling = draw(alloc, seat, true)?;
     Ok(Reply { telling, leaving })
 }

@@ -1,19 +1,38 @@
 //! The phases of a connection: what it plays is played, and what that gives is told at the end of the phase.
 
-ghost use Rattle.std.specs.Prelude.{◌≡◌, ◌∷◌, [], OnOk};
+ghost use Rattle.std.specs.Prelude.{◌≡◌, ◌∷◌, [], Ok, OnOk};
 ghost use Rattle.session_events.specs.declared.event.Event.TheVariants.{Join};
 ghost use Rattle.session_lines.specs.Session.{keys_played, played_by, bytes_of_refusal};
 ghost use Rattle.session_lines.specs.Serving.{telling_bytes, HasOnlyCome, PhaseAnswers, PlaysLine, OpensWith, unseen};
 ghost use Rattle.session_lines.specs.Sending.{Sends, Counts, Tells};
 ghost use Rattle.session_lines.specs.Stops.{IsReady, Stays, Stops, Causes, StaysWhole};
 
-use crate::playing::{Reply, Stop, Telling, play_keys, play_size};
+use crate::playing::{Reply, Stop, Telling, play_event, play_keys};
 use json_writing::{encode_drawing, encode_refusal};
 use kak_ports::{Put, Sink};
 use key_names::Key;
 use requests::{LineError, Reader, Request};
-use session_events::Seat;
+use session_events::{Event, Seat};
 use std::alloc::{AllocError, Global};
+
+// Plays what a line asks for, and gives what the client is to be told.
+fn play_request<S: Seat>(alloc: Global, seat: &mut S, request: Request) -> Result<Reply, Stop>
+    requires { IsReady (S.seated seat.old) }
+    ensures stays { Stays (S.seated seat.old) (S.seated seat.new) }
+    ensures kept { S.kept seat.new ≡ S.kept seat.old }
+    ensures whole { StaysWhole result (S.seated seat.old).mark (S.seated seat.new).mark }
+    ensures answers { PhaseAnswers S.gives (S.seated seat.old) (S.seated seat.new) (played_by (Ok request)) [] result }
+    ensures stops { Stops result (S.seated seat.new) }
+{
+    match request {
+        Request::Nothing => Ok(Reply::nothing()),
+        Request::Keys(keys) => play_keys(alloc, seat, keys.as_slice()),
+        Request::Resize(size) => play_event(alloc, seat, &Event::Resize(size)),
+        Request::Scroll(_, _) => Ok(Reply::nothing()),
+        Request::Mouse(_) => Ok(Reply::nothing()),
+        Request::MenuSelect => Ok(Reply::nothing()),
+    }
+}
 
 /// Plays one line, without its newline, as the reader reads it, and gives what the client is to be told.
 pub fn answer_line<Q: Reader, S: Seat>(
@@ -29,12 +48,7 @@ pub fn answer_line<Q: Reader, S: Seat>(
     ensures stops { Stops result (S.seated seat.new) }
 {
     match Q::read(alloc, line) {
-        Ok(Request::Nothing) => Ok(Reply {
-            telling: Telling::Nothing,
-            leaving: false,
-        }),
-        Ok(Request::Keys(keys)) => play_keys(alloc, seat, keys.as_slice()),
-        Ok(Request::Resize(rows, columns)) => play_size(alloc, seat, rows, columns),
+        Ok(request) => play_request(alloc, seat, request),
         Err(LineError::Refused(refusal)) => Ok(Reply {
             telling: Telling::Refused(refusal),
             leaving: false,

@@ -7,7 +7,7 @@ use Rattle.std.proofs.lemmas.List.Folds.{list_any-append}
 use Rattle.key_names.specs.declared.key.Key.{Key}
 use Rattle.drawings.specs.declared.refusal.Refusal.{Refusal}
 use Rattle.requests.specs.declared.request.Request.{Request}
-use Rattle.requests.specs.declared.request.Request.TheVariants.{Nothing, Keys, Resize}
+use Rattle.requests.specs.declared.request.Request.TheVariants.{Nothing, Keys, Resize, Scroll, Mouse, MenuSelect}
 use Rattle.session_turns.specs.Histories.{Answer, own, events_of}
 use Rattle.session_turns.specs.Turns.{Line, Idle, Phase, Opening, During, later, phases, turns_of, plays, played, due}
 use Rattle.session_turns.specs.Growth.{GoesOn, How, Whole, Over, Short, Unsent, Lost, Fits}
@@ -104,7 +104,10 @@ keys-no_leave (key ∷ keys) = keys-no_leave keys
 asked-no_leave : (r : Result Request Refusal) → list_any is_leave (played_by r) ≡ false
 asked-no_leave (Ok Nothing) = refl
 asked-no_leave (Ok (Keys keys)) = keys-no_leave keys
-asked-no_leave (Ok (Resize rows columns)) = refl
+asked-no_leave (Ok (Resize size)) = refl
+asked-no_leave (Ok (Scroll lines place)) = refl
+asked-no_leave (Ok (Mouse mouse)) = refl
+asked-no_leave (Ok MenuSelect) = refl
 asked-no_leave (Err refusal) = refl
 
 phase-no_leave : (g : Setting) (phase : Phase) → list_any is_leave (plays (protocol g.reads []) phase) ≡ false

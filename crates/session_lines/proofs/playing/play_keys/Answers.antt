@@ -9,8 +9,8 @@ loop-key-init g c = record { stays = stays-still _ c.requires; kept = refl; whol
 
 pub loop-key-preserved : goal.loop-key-preserved
 loop-key-preserved g c = record {
-  stays = stays-then c.loop-key.invariant.stays c.strike.ensures.stays;
-  kept = c.strike.ensures.kept ∙ c.loop-key.invariant.kept;
+  stays = stays-then c.loop-key.invariant.stays c.act.ensures.stays;
+  kept = c.act.ensures.kept ∙ c.loop-key.invariant.kept;
   whole = whole-still c.loop-key.invariant.whole c.in_ok-leaving.ensures.whole;
   so_far = struck-more _ _ _ _ c.args.keys.now c.loop-key.key-index _ _ _ c.loop-key-test.true c.loop-key.invariant.stays.same c.loop-key.invariant.so_far c.in_ok-leaving.ensures.takes;
 }
