@@ -5,10 +5,15 @@ use Rattle.std.specs.List.{list_any}
 use Rattle.std.specs.declared.option.Option.{Option}
 use Rattle.tables.proofs.TableLemmas.{by_test}
 use Rattle.scope_options.specs.declared.setting.Setting.{Setting}
+use Rattle.scope_options.specs.Scopes.{is_of_buffer}
 use Rattle.scope_options.specs.Settings.{without_buffer}
+use Rattle.highlight_paint.specs.Painters.{Highlighter}
+use Rattle.highlight_paint.specs.Highlighters.{without_scopes as highlighters_without}
+use Rattle.scope_tables.specs.Rows.{TableRows, without_scopes as rows_without}
+use Rattle.kak_world.specs.Stored.{Stored}
 use Rattle.kak_world.specs.declared.clients.Client.{Client}
 use Rattle.kak_world.specs.declared.world.Rest.{Rest}
-use Rattle.kak_world.specs.Flat.{Buffer, scratch, is_there, changed_at, lowest}
+use Rattle.kak_world.specs.Flat.{Buffer, Scoped, scratch, is_there, changed_at, lowest}
 use Rattle.kak_world.specs.Seen.{Kept, HasBuffer}
 use Rattle.kak_world.specs.Showing.{first_gap, buffer_placed}
 use Rattle.kak_world.specs.Dropping.{emptied, or_scratch, moved_on, listed_for_viewers, left_without, buffers_dropped, dropped}
@@ -146,12 +151,18 @@ pub has-dropped : (n : ℕ) (clients : List Client) (bs now : List (Option Buffe
 has-dropped n clients bs now e h = subst HasBuffer (sym e) (has-changed (lowest (left_without n bs)) (listed_for_viewers n clients) (left_without n bs) (has-left n bs h))
 
 -- the world without the buffer
-pub now-dropped : (n to : ℕ) (bs now : List (Option Buffer)) (cs moved : List Client) (r : Rest) (options : List Setting) (w : Kept) → parts bs cs r ≡ w → now ≡ buffers_dropped n cs bs → to ≡ lowest (left_without n bs) → moved ≡ map (moved_on n to) cs → options ≡ without_buffer n r.options
-    → (parts now moved (record r { options = options })).flat ≡ dropped n w.flat
+pub now-dropped : {st : List (Option Stored)} {sc : Scoped} (n to : ℕ) (bs now : List (Option Buffer)) (cs moved : List Client) (r : Rest) (options : List Setting) (highlighters : List Highlighter) (tables : TableRows) (w : Kept) → parts bs cs r sc st ≡ w
+    → now ≡ buffers_dropped n cs bs → to ≡ lowest (left_without n bs) → moved ≡ map (moved_on n to) cs → options ≡ without_buffer n r.options
+    → highlighters ≡ highlighters_without (is_of_buffer n) sc.highlighters → tables ≡ rows_without (is_of_buffer n) sc.tables
+    → (parts now moved (record r { options = options }) (record { highlighters = highlighters; tables = tables }) st).flat ≡ dropped n w.flat
 unfolding dropped
-now-dropped n to bs now cs moved r options w e b t m o =
-    ap (λ x. (parts x moved (record r { options = options })).flat) b
-    ∙ ap (λ x. (parts (buffers_dropped n cs bs) x (record r { options = options })).flat) m
-    ∙ ap (λ k. (parts (buffers_dropped n cs bs) (map (moved_on n k) cs) (record r { options = options })).flat) t
-    ∙ ap (λ x. (parts (buffers_dropped n cs bs) (map (moved_on n (lowest (left_without n bs))) cs) (record r { options = x })).flat) o
+now-dropped {st = st} {sc = sc} n to bs now cs moved r options highlighters tables w e b t m o h d =
+    let kept : Rest = record r { options = without_buffer n r.options } in
+    let those : List Client = map (moved_on n (lowest (left_without n bs))) cs in
+    ap (λ x. (parts x moved (record r { options = options }) (record { highlighters = highlighters; tables = tables }) st).flat) b
+    ∙ ap (λ x. (parts (buffers_dropped n cs bs) x (record r { options = options }) (record { highlighters = highlighters; tables = tables }) st).flat) m
+    ∙ ap (λ k. (parts (buffers_dropped n cs bs) (map (moved_on n k) cs) (record r { options = options }) (record { highlighters = highlighters; tables = tables }) st).flat) t
+    ∙ ap (λ x. (parts (buffers_dropped n cs bs) those (record r { options = x }) (record { highlighters = highlighters; tables = tables }) st).flat) o
+    ∙ ap (λ x. (parts (buffers_dropped n cs bs) those kept (record { highlighters = x; tables = tables }) st).flat) h
+    ∙ ap (λ x. (parts (buffers_dropped n cs bs) those kept (record { highlighters = highlighters_without (is_of_buffer n) sc.highlighters; tables = x }) st).flat) d
     ∙ ap (λ (k : Kept). dropped n k.flat) e

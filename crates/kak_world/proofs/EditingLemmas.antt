@@ -26,11 +26,11 @@ use Rattle.buffer_store.specs.Stored.{shift_of, change_shifts}
 use Rattle.buffer_store.specs.Buffers.{IsEdited, IsBroken}
 use Rattle.buffer_store.proofs.PartLemmas.{edited-text}
 use Rattle.list_shelf.specs.declared.holder.Holder.{Holder}
-use Rattle.list_shelf.specs.Shelves.{Shelved, Held, is_held_by, list_moved, lists_in, entered, all_noted, all_moved, CanFollow, StandsWith, IsUp, LeavesOthers}
+use Rattle.list_shelf.specs.Shelves.{Shelved, Held, is_held_by, list_moved, lists_in, entered, all_noted, all_moved, CanFollow, StandsWith, IsUp}
 use Rattle.list_shelf.proofs.FollowLemmas.{all-noted-follows, all-moved-follows}
 use Rattle.list_shelf.proofs.StandLemmas.{entered-stands}
-use Rattle.list_shelf.proofs.StoreLemmas.{others-for}
 use Rattle.list_shelf.proofs.UpLemmas.{up-entered, entered-trimmed}
+use Rattle.kak_world.specs.declared.since.Since.{Since}
 use Rattle.kak_world.specs.Flat.{Buffer, fresh_list, with_list}
 use Rattle.kak_world.specs.Changing.{buffer_changed, buffer_edited, buffer_moved, buffer_traveled, broken_off, IsSomeEdited, IsSomeMoved}
 use Rattle.kak_world.specs.Seen.{KeptBuffer, buffer_seen, buffer_kept, IsShelfOf, and_then}
@@ -73,12 +73,6 @@ has-followed (Ok x) holder text cs shifts given old new ok err steps e g st =
 has-followed (Err x) holder text cs shifts given old new ok err steps e g st =
     then-entered holder text cs old (all_moved given old) new (all-moved-follows text cs given old (subst (AreShiftsOf text cs) (sym (g ∙ e)) (steps-shifts text cs steps)) st.stands) err
 
--- where they were noted, others' lists are left as they are stored
-pub leaves-others : (name : List ℕ) (file : Bool) (story : Story) (holder : Holder) (shifts given : List Shift) (shelf now : Shelved) (b : KeptBuffer) → buffer_kept name file story shelf ≡ b → given ≡ shifts → now ≡ entered holder (all_noted given shelf) → LeavesOthers holder (length shifts) b.shelf now
-leaves-others name file story holder shifts given shelf now b s g e =
-    subst (λ (x : KeptBuffer). LeavesOthers holder (length shifts) x.shelf now) s
-    (subst (λ n. LeavesOthers holder (length n) shelf now) g (subst (LeavesOthers holder (length given) shelf) (sym e) (others-for holder given shelf)))
-
 -- two answers, the second of which may be want of memory
 pub both-ok : {E A : Type 0} {P Q R : Type 0} (w : E) (d : Result (Unit {0}) E) (n : Result (Unit {0}) A) (r : Result (Unit {0}) E) → r ≡ and_then w d n → OnOk d P → OnOk n Q → (P → Q → R) → OnOk r R
 both-ok w (Ok x) (Ok y) r e p q f = ok-as _ r (Ok x) e (f p q)
@@ -86,9 +80,9 @@ both-ok w (Ok x) (Err y) r e p q f = ok-as _ r (Err w) e tt
 both-ok w (Err x) n r e p q f = ok-as _ r (Err x) e tt
 
 -- the buffer, when its lists have followed
-moved-buffer : (name : List ℕ) (file : Bool) (story new : Story) (cs : List Change) (shelf now : Shelved) (b : KeptBuffer) → buffer_kept name file story shelf ≡ b → new.text ≡ all_changed story.text cs → lists_in (all_changed story.text cs) now ≡ map (list_moved story.text cs) (lists_in story.text shelf)
+moved-buffer : {si : Since} (name : List ℕ) (file : Bool) (story new : Story) (cs : List Change) (shelf now : Shelved) (b : KeptBuffer) → buffer_kept name file story shelf si ≡ b → new.text ≡ all_changed story.text cs → lists_in (all_changed story.text cs) now ≡ map (list_moved story.text cs) (lists_in story.text shelf)
     → buffer_seen name file new now ≡ buffer_changed cs new b.seen
-moved-buffer name file story new cs shelf now b e t l =
+moved-buffer {si = si} name file story new cs shelf now b e t l =
     ap (λ x. let y : Buffer = record { name = name; is_file = file; story = new; lists = lists_in x now } in y) t
     ∙ ap (λ ls. let x : Buffer = record { name = name; is_file = file; story = new; lists = ls } in x) l
     ∙ ap (λ (x : KeptBuffer). buffer_changed cs new x.seen) e
@@ -98,16 +92,16 @@ pub edited-is : (holder : Holder) (who : ℕ) (cs : List Change) (r : Result (Un
 edited-is holder who cs r old new shifts shelf now e f =
     subst (λ t. IsShelfOf t now) (sym (ap (λ (s : Story). s.text) e.story ∙ edited-text who (take e.made cs) old)) f.got.is
 
-pub edited-some : (name : List ℕ) (file : Bool) (holder : Holder) (who : ℕ) (cs : List Change) (r : Result (Unit {0}) BufferError) (old new : Story) (shifts : List Shift) (shelf now : Shelved) (b : KeptBuffer) → buffer_kept name file old shelf ≡ b → (e : IsEdited who cs r old new shifts) → HasFollowed holder old.text (take e.made cs) shelf now
+pub edited-some : {si : Since} (name : List ℕ) (file : Bool) (holder : Holder) (who : ℕ) (cs : List Change) (r : Result (Unit {0}) BufferError) (old new : Story) (shifts : List Shift) (shelf now : Shelved) (b : KeptBuffer) → buffer_kept name file old shelf si ≡ b → (e : IsEdited who cs r old new shifts) → HasFollowed holder old.text (take e.made cs) shelf now
     → buffer_seen name file new now ≡ buffer_edited who (take e.made cs) b.seen
-edited-some name file holder who cs r old new shifts shelf now b s e f =
+edited-some {si = si} name file holder who cs r old new shifts shelf now b s e f =
     ap (λ (x : Story). buffer_seen name file x now) e.story
     ∙ moved-buffer name file old (edited who (take e.made cs) old) (take e.made cs) shelf now b s (edited-text who (take e.made cs) old) f.got.lists_are
     ∙ ap (λ (x : KeptBuffer). buffer_changed (take e.made cs) (edited who (take e.made cs) x.seen.story) b.seen) s
 
-pub edited-all : (name : List ℕ) (file : Bool) (holder : Holder) (who : ℕ) (cs : List Change) (r : Result (Unit {0}) BufferError) (old new : Story) (shifts : List Shift) (shelf now : Shelved) (b : KeptBuffer) → buffer_kept name file old shelf ≡ b → (e : IsEdited who cs r old new shifts) → HasFollowed holder old.text (take e.made cs) shelf now
+pub edited-all : {si : Since} (name : List ℕ) (file : Bool) (holder : Holder) (who : ℕ) (cs : List Change) (r : Result (Unit {0}) BufferError) (old new : Story) (shifts : List Shift) (shelf now : Shelved) (b : KeptBuffer) → buffer_kept name file old shelf si ≡ b → (e : IsEdited who cs r old new shifts) → HasFollowed holder old.text (take e.made cs) shelf now
     → take e.made cs ≡ cs → buffer_seen name file new now ≡ buffer_edited who cs b.seen
-edited-all name file holder who cs r old new shifts shelf now b s e f all = edited-some name file holder who cs r old new shifts shelf now b s e f ∙ ap (λ ds. buffer_edited who ds b.seen) all
+edited-all {si = si} name file holder who cs r old new shifts shelf now b s e f all = edited-some name file holder who cs r old new shifts shelf now b s e f ∙ ap (λ ds. buffer_edited who ds b.seen) all
 
 -- some of a client's changes, which are the same as others
 pub some-of : (who : ℕ) (cs ds : List Change) (old new : Buffer) → cs ≡ ds → (made : ℕ) → new ≡ buffer_edited who (take made cs) old → IsSomeEdited who ds old new
@@ -121,8 +115,8 @@ map-same text [] = refl
 map-same text (h ∷ hs) = ap (λ xs. h ∷ xs) (map-same text hs)
 
 -- a buffer that was left as it was
-pub left-alone : (name : List ℕ) (file : Bool) (holder : Holder) (old new : Story) (shelf now : Shelved) (b : KeptBuffer) → buffer_kept name file old shelf ≡ b → new ≡ old → HasFollowed holder old.text [] shelf now → buffer_seen name file new now ≡ b.seen
-left-alone name file holder old new shelf now b s n f =
+pub left-alone : {si : Since} (name : List ℕ) (file : Bool) (holder : Holder) (old new : Story) (shelf now : Shelved) (b : KeptBuffer) → buffer_kept name file old shelf si ≡ b → new ≡ old → HasFollowed holder old.text [] shelf now → buffer_seen name file new now ≡ b.seen
+left-alone {si = si} name file holder old new shelf now b s n f =
     ap (λ (x : Story). buffer_seen name file x now) n
     ∙ moved-buffer name file old old [] shelf now b s refl f.got.lists_are
     ∙ ap (λ (x : KeptBuffer). buffer_changed [] x.seen.story b.seen) s
@@ -159,9 +153,9 @@ story-cut [] old new t k whole = whole refl
 story-cut (c ∷ cs) old new t (inl none) whole = absurd (let e : suc (length cs) ≡ 0 = ap length none.0 in omega arith)
 story-cut (c ∷ cs) old new t (inr lost) whole = lost ∙ ap forgotten t
 
-pub gone-some : (name : List ℕ) (file : Bool) (holder : Holder) (cs : List Change) (old new : Story) (shifts : List Shift) (shelf now : Shelved) (b : KeptBuffer) → buffer_kept name file old shelf ≡ b → (g : IsBroken cs old new shifts) → HasFollowed holder old.text (take g.made cs) shelf now
+pub gone-some : {si : Since} (name : List ℕ) (file : Bool) (holder : Holder) (cs : List Change) (old new : Story) (shifts : List Shift) (shelf now : Shelved) (b : KeptBuffer) → buffer_kept name file old shelf si ≡ b → (g : IsBroken cs old new shifts) → HasFollowed holder old.text (take g.made cs) shelf now
     → IsSomeMoved cs b.seen (buffer_seen name file new now)
-gone-some name file holder cs old new shifts shelf now b s g f = record {
+gone-some {si = si} name file holder cs old new shifts shelf now b s g f = record {
   made = g.made;
   is = moved-buffer name file old new (take g.made cs) shelf now b s g.text f.got.lists_are
       ∙ ap (λ (x : Story). buffer_changed (take g.made cs) x b.seen) (story-cut (take g.made cs) old new g.text g.story g.whole)
@@ -169,9 +163,9 @@ gone-some name file holder cs old new shifts shelf now b s g f = record {
 }
 
 -- a move that was made, as the buffer is then
-pub gone-moved : (name : List ℕ) (file : Bool) (holder : Holder) (travel : Travel) (old new : Story) (shelf now : Shelved) (b : KeptBuffer) → buffer_kept name file old shelf ≡ b → IsStory old → new ≡ moved_by travel old → HasFollowed holder old.text (move_changes travel old) shelf now
+pub gone-moved : {si : Since} (name : List ℕ) (file : Bool) (holder : Holder) (travel : Travel) (old new : Story) (shelf now : Shelved) (b : KeptBuffer) → buffer_kept name file old shelf si ≡ b → IsStory old → new ≡ moved_by travel old → HasFollowed holder old.text (move_changes travel old) shelf now
     → buffer_seen name file new now ≡ buffer_moved travel b.seen
-gone-moved name file holder travel old new shelf now b s story n f =
+gone-moved {si = si} name file holder travel old new shelf now b s story n f =
     let leads : Leads old.text (moved_by travel old).text (move_changes travel old) = named-leads travel old story in
     ap (λ (x : Story). buffer_seen name file x now) n
     ∙ moved-buffer name file old (moved_by travel old) (move_changes travel old) shelf now b s (sym leads.lead) f.got.lists_are

@@ -4,9 +4,10 @@ use Rattle.std.specs.Prelude.{is_none, slice_index_or, ◌==◌}
 use Rattle.std.proofs.lemmas.Bool.{eq-eqb, ne_eqb, leb-true, leb-false}
 use Rattle.tables.proofs.TableLemmas.{by_test}
 use Rattle.std.specs.declared.option.Option.{Option}
+use Rattle.kak_world.specs.Stored.{Stored}
 use Rattle.kak_world.specs.declared.clients.Client.{Client}
 use Rattle.kak_world.specs.declared.world.Rest.{Rest}
-use Rattle.kak_world.specs.Flat.{Buffer, Flat, made_buffer, is_there, lowest}
+use Rattle.kak_world.specs.Flat.{Scoped, Buffer, Flat, made_buffer, is_there, lowest}
 use Rattle.kak_world.specs.Keeping.{KeepsClients}
 use Rattle.kak_world.specs.Seen.{Kept, HasBuffer}
 use Rattle.kak_world.specs.Showing.{first_gap, buffer_placed, buffer_opened, buffer_count, IsFirstGap, BufferStandsAt, GapsAreTaken}
@@ -134,11 +135,11 @@ pub gaps_are_taken : GapsAreTaken
 gaps_are_taken = record { least = least-gap; stands = stands-there }
 
 -- the world with one more buffer
-pub now-opened : (name : List ℕ) (file : Bool) (text : List ℕ) (bs now : List (Option Buffer)) (cs : List Client) (r : Rest) (w : Kept) (b : Buffer) → parts bs cs r ≡ w → now ≡ buffer_placed b bs → b ≡ made_buffer name file text → (parts now cs r).flat ≡ buffer_opened name file text w.flat
+pub now-opened : {st : List (Option Stored)} {sc : Scoped} (name : List ℕ) (file : Bool) (text : List ℕ) (bs now : List (Option Buffer)) (cs : List Client) (r : Rest) (w : Kept) (b : Buffer) → parts bs cs r sc st ≡ w → now ≡ buffer_placed b bs → b ≡ made_buffer name file text → (parts now cs r sc st).flat ≡ buffer_opened name file text w.flat
 unfolding buffer_opened
-now-opened name file text bs now cs r w b e p m =
-    ap (λ x. (parts x cs r).flat) p
-    ∙ ap (λ x. (parts (buffer_placed x bs) cs r).flat) m
+now-opened {st = st} {sc = sc} name file text bs now cs r w b e p m =
+    ap (λ x. (parts x cs r sc st).flat) p
+    ∙ ap (λ x. (parts (buffer_placed x bs) cs r sc st).flat) m
     ∙ ap (λ (k : Kept). buffer_opened name file text k.flat) e
 
 listed-placed : (k n : ℕ) (name : List ℕ) (file : Bool) (text : List ℕ) (bs : List (Option Buffer)) → listed_in k (slice_index_or (buffer_placed (made_buffer name file text) bs) n None) ≡ listed_in k (slice_index_or bs n None)

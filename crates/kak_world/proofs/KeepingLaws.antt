@@ -1,4 +1,4 @@
--- Which changes keep the clients: each of the three setters by one law, and an operation on buffers by what it leaves of their
+-- Which changes keep the clients: each of the four setters by one law, and an operation on buffers by what it leaves of their
 -- lists. And who is there when a client comes or goes.
 use Rattle.std.proofs.Common.{◌≡◌, ℕ, zero, suc, ◌+◌, ◌≤◌, Bool, true, false, cond, ◌||◌, List, [], ◌∷◌, length, map, refl, sym, ap, ◌∙◌, length-append}
 use Rattle.std.specs.Prelude.{◌&&◌, ◌==◌, is_some, option_map, slice_index_or, Some, None}
@@ -25,7 +25,7 @@ use Rattle.kak_world.specs.declared.world.Rest.{Rest}
 use Rattle.kak_registers.specs.declared.names.RegisterError.{RegisterError}
 use Rattle.kak_registers.specs.Refusals.{register_refusal}
 use Rattle.kak_world.specs.Registers.{set_unless, set_row}
-use Rattle.kak_world.specs.Flat.{Buffer, Flat, fresh_list, newcomer, is_of, is_here, has_list, with_list, listed_for, committed_for, left_behind, buffer_or_scratch, changed_at, lowest, least_free, numbers_of, client_of, shown_of, buffer_of, story_of, text_of, is_joined, rest_of, turn_of, is_turn_of, acts, with_own, with_rest, with_buffers, with_list_of, with_sels, with_corner, with_units, joined_by, left_by_client}
+use Rattle.kak_world.specs.Flat.{Buffer, Scoped, Flat, fresh_list, newcomer, is_of, is_here, has_list, with_list, listed_for, committed_for, left_behind, buffer_or_scratch, changed_at, lowest, least_free, numbers_of, client_of, shown_of, buffer_of, story_of, text_of, is_joined, rest_of, turn_of, is_turn_of, acts, with_own, with_rest, with_scoped, with_buffers, with_list_of, with_sels, with_corner, with_units, joined_by, left_by_client}
 use Rattle.kak_world.specs.Changing.{buffer_changed, buffer_traveled, changed_in, splice_changes_of, edited_by, traveled_by, commits}
 use Rattle.kak_world.specs.Rows.{does, fails}
 use Rattle.kak_world.specs.Editing.{edit_row, travel_row, move_ends}
@@ -112,6 +112,11 @@ keeps_own who f flat =
 pub keeps_rest : (f : Rest → Rest) (flat : Flat) → ((r : Rest) → (f r).step.turn ≡ r.step.turn) → KeepsClients flat (with_rest f flat)
 unfolding with_rest rest_of shown_of client_of
 keeps_rest f flat same = keeps-by-parts flat (with_rest f flat) refl (same flat.rest) (λ k. refl) (λ k n. refl)
+
+-- what is kept by scope
+pub keeps_scoped : (f : Scoped → Scoped) (flat : Flat) → KeepsClients flat (with_scoped f flat)
+unfolding with_scoped rest_of shown_of client_of
+keeps_scoped f flat = keeps-by-parts flat (with_scoped f flat) refl refl (λ k. refl) (λ k n. refl)
 
 pub keeps_units : (units : ℕ) (flat : Flat) → KeepsClients flat (with_units units flat)
 keeps_units units flat = keeps_rest _ flat (λ r. refl)

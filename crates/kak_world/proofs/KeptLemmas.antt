@@ -11,7 +11,7 @@ use Rattle.list_shelf.specs.declared.holder.Holder.TheVariants.{Of}
 use Rattle.list_shelf.specs.Shelves.{IsUp, KeepsUp, is_of as is_of_row}
 use Rattle.kak_world.specs.declared.clients.Client.{Client}
 use Rattle.kak_world.specs.declared.world.Rest.{Rest}
-use Rattle.kak_world.specs.Flat.{Buffer, is_of, is_here, newcomer, is_turn_of, is_there, has_list, buffer_at, buffer_or_scratch}
+use Rattle.kak_world.specs.Flat.{Scoped, Buffer, is_of, is_here, newcomer, is_turn_of, is_there, has_list, buffer_at, buffer_or_scratch}
 use Rattle.kak_world.specs.Seen.{KeptBuffer, with_seen, slot_seen, all_seen, SlotIsUp, SlotKeepsUp, AllKeepUp, TurnIsUp}
 use Rattle.kak_world.proofs.ShowingLemmas.{set-slot_same}
 use Rattle.kak_world.proofs.WorldLemmas.{parts, get_or_same}
@@ -78,8 +78,8 @@ pub seen-same : (n : ℕ) (bs : List (Option KeptBuffer)) (slot to : Option Kept
 seen-same n bs slot to g t = seen-set bs n to ∙ set-slot_same n (all_seen bs) (slot_seen slot) (slot_seen to) (seen-at bs n slot g) t
 
 -- the world of some buffers as they are kept, one of which is set
-pub parts-set : (bs : List (Option KeptBuffer)) (n : ℕ) (slot : Option KeptBuffer) (cs : List Client) (r : Rest) → (parts (all_seen (set bs n slot)) cs r).flat ≡ (parts (set (all_seen bs) n (slot_seen slot)) cs r).flat
-parts-set bs n slot cs r = ap (λ x. (parts x cs r).flat) (seen-set bs n slot)
+pub parts-set : {sc : Scoped} (bs : List (Option KeptBuffer)) (n : ℕ) (slot : Option KeptBuffer) (cs : List Client) (r : Rest) → (parts (all_seen (set bs n slot)) cs r sc []).flat ≡ (parts (set (all_seen bs) n (slot_seen slot)) cs r sc []).flat
+parts-set {sc = sc} bs n slot cs r = ap (λ x. (parts x cs r sc []).flat) (seen-set bs n slot)
 
 -- the buffer in a slot
 pub kept-at : (bs : List (Option KeptBuffer)) (n : ℕ) (slot : Option KeptBuffer) (b : KeptBuffer) → n < length (all_seen bs) → slot ≡ get_or bs n slot → slot ≡ Some b → get_or bs n None ≡ Some b

@@ -7,6 +7,8 @@ pub mod WorldLaws
 pub mod WorldLemmas
 pub mod QuietLemmas
 pub mod KeptLemmas
+pub mod CalmLemmas
+pub mod StoredLemmas
 pub mod StandingLemmas
 pub mod AnswerLemmas
 pub mod EditingLemmas

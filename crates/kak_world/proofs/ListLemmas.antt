@@ -23,22 +23,23 @@ use Rattle.list_shelf.proofs.LagLemmas.{lags-stored}
 use Rattle.list_shelf.proofs.FollowLemmas.{as_seen}
 use Rattle.list_shelf.proofs.StandLemmas.{read-row, replaced-rows, other_seen, main-rows, main_seen, corner-rows, other_corner_seen, added-rows, left-rows, trimmed-stands, entered-stands}
 use Rattle.list_shelf.proofs.UpLemmas.{up-replaced, up-added, up-left, up-trimmed, up-entered, is-trimmed, entered-trimmed, main-trimmed, corner-trimmed, added-trimmed}
+use Rattle.kak_world.specs.declared.since.Since.{Since}
 use Rattle.kak_world.specs.Flat.{Buffer, has_list, list_on, with_list, listed_for, fresh_list}
 use Rattle.kak_world.specs.Seen.{KeptBuffer, buffer_seen, buffer_kept, with_seen, IsShelfOf, IsListedBy}
 
 -- a holder has a list on a buffer where it has one on its shelf
-pub list-there : (holder : Holder) (name : List ℕ) (file : Bool) (story : Story) (shelf : Shelved) (b : KeptBuffer) → buffer_kept name file story shelf ≡ b → has_row holder shelf ≡ has_list holder b.seen
-list-there holder name file story shelf b e = sym (any-map (is_held_by holder) (seen_in story.text shelf.log) shelf.rows) ∙ ap (λ (x : KeptBuffer). has_list holder x.seen) e
+pub list-there : {si : Since} (holder : Holder) (name : List ℕ) (file : Bool) (story : Story) (shelf : Shelved) (b : KeptBuffer) → buffer_kept name file story shelf si ≡ b → has_row holder shelf ≡ has_list holder b.seen
+list-there {si = si} holder name file story shelf b e = sym (any-map (is_held_by holder) (seen_in story.text shelf.log) shelf.rows) ∙ ap (λ (x : KeptBuffer). has_list holder x.seen) e
 
-pub list-has : (holder : Holder) (name : List ℕ) (file : Bool) (story : Story) (shelf : Shelved) (b : KeptBuffer) → buffer_kept name file story shelf ≡ b → has_list holder b.seen ≡ true → has_row holder shelf ≡ true
-list-has holder name file story shelf b e h = list-there holder name file story shelf b e ∙ h
+pub list-has : {si : Since} (holder : Holder) (name : List ℕ) (file : Bool) (story : Story) (shelf : Shelved) (b : KeptBuffer) → buffer_kept name file story shelf si ≡ b → has_list holder b.seen ≡ true → has_row holder shelf ≡ true
+list-has {si = si} holder name file story shelf b e h = list-there holder name file story shelf b e ∙ h
 
 -- what is known of a buffer's shelf
-pub up-inside : (holder : Holder) (name : List ℕ) (file : Bool) (story : Story) (shelf : Shelved) (b : KeptBuffer) → buffer_kept name file story shelf ≡ b → IsUp holder b.shelf → IsUp holder shelf
-up-inside holder name file story shelf b e up = subst (λ (x : KeptBuffer). IsUp holder x.shelf) (sym e) up
+pub up-inside : {si : Since} (holder : Holder) (name : List ℕ) (file : Bool) (story : Story) (shelf : Shelved) (b : KeptBuffer) → buffer_kept name file story shelf si ≡ b → IsUp holder b.shelf → IsUp holder shelf
+up-inside {si = si} holder name file story shelf b e up = subst (λ (x : KeptBuffer). IsUp holder x.shelf) (sym e) up
 
-pub up-outside : (name : List ℕ) (file : Bool) (story : Story) (shelf now : Shelved) (b : KeptBuffer) → buffer_kept name file story shelf ≡ b → KeepsUp shelf now → KeepsUp b.shelf now
-up-outside name file story shelf now b e up = subst (λ (x : KeptBuffer). KeepsUp x.shelf now) e up
+pub up-outside : {si : Since} (name : List ℕ) (file : Bool) (story : Story) (shelf now : Shelved) (b : KeptBuffer) → buffer_kept name file story shelf si ≡ b → KeepsUp shelf now → KeepsUp b.shelf now
+up-outside {si = si} name file story shelf now b e up = subst (λ (x : KeptBuffer). KeepsUp x.shelf now) e up
 
 pub can-stand : (text : List ℕ) (shelf : Shelved) → IsShelfOf text shelf → CanStand shelf
 can-stand text shelf st = record { text = text; all = st.stands }
@@ -52,27 +53,27 @@ list-found holder text log d none (row ∷ rows) some =
     (λ _ s. list-found holder text log d none rows s)
     some
 
-pub list-seen : (holder : Holder) (name : List ℕ) (file : Bool) (story : Story) (shelf : Shelved) (b : KeptBuffer) → buffer_kept name file story shelf ≡ b → has_list holder b.seen ≡ true → list_on holder b.seen ≡ seen_in story.text shelf.log (row_of holder shelf)
-list-seen holder name file story shelf b e h =
+pub list-seen : {si : Since} (holder : Holder) (name : List ℕ) (file : Bool) (story : Story) (shelf : Shelved) (b : KeptBuffer) → buffer_kept name file story shelf si ≡ b → has_list holder b.seen ≡ true → list_on holder b.seen ≡ seen_in story.text shelf.log (row_of holder shelf)
+list-seen {si = si} holder name file story shelf b e h =
     sym (ap (λ (x : KeptBuffer). list_on holder x.seen) e)
     ∙ list-found holder story.text shelf.log (no_row holder) (fresh_list holder) shelf.rows (list-has holder name file story shelf b e h)
 
 -- how many selections are in it
-pub list-count : (holder : Holder) (name : List ℕ) (file : Bool) (story : Story) (shelf : Shelved) (b : KeptBuffer) (s : Listed) (n : ℕ) → buffer_kept name file story shelf ≡ b → has_list holder b.seen ≡ true → s ≡ seen_by shelf.log (row_of holder shelf).lag → n ≡ length s.list → n ≡ length (list_on holder b.seen).sels.list
-list-count holder name file story shelf b s n e h is c =
+pub list-count : {si : Since} (holder : Holder) (name : List ℕ) (file : Bool) (story : Story) (shelf : Shelved) (b : KeptBuffer) (s : Listed) (n : ℕ) → buffer_kept name file story shelf si ≡ b → has_list holder b.seen ≡ true → s ≡ seen_by shelf.log (row_of holder shelf).lag → n ≡ length s.list → n ≡ length (list_on holder b.seen).sels.list
+list-count {si = si} holder name file story shelf b s n e h is c =
     c
     ∙ ap (λ (x : Listed). length x.list) is
     ∙ sym (length-map (seen_by shelf.log (row_of holder shelf).lag).list (range_of story.text))
     ∙ ap (λ (l : Held). length l.sels.list) (sym (list-seen holder name file story shelf b e h))
 
 -- where its window stands
-pub list-corner : (holder : Holder) (name : List ℕ) (file : Bool) (story : Story) (shelf : Shelved) (b : KeptBuffer) (corner : Corner) → buffer_kept name file story shelf ≡ b → has_list holder b.seen ≡ true → corner ≡ (row_of holder shelf).corner → corner ≡ (list_on holder b.seen).corner
-list-corner holder name file story shelf b corner e h is = is ∙ ap (λ (l : Held). l.corner) (sym (list-seen holder name file story shelf b e h))
+pub list-corner : {si : Since} (holder : Holder) (name : List ℕ) (file : Bool) (story : Story) (shelf : Shelved) (b : KeptBuffer) (corner : Corner) → buffer_kept name file story shelf si ≡ b → has_list holder b.seen ≡ true → corner ≡ (row_of holder shelf).corner → corner ≡ (list_on holder b.seen).corner
+list-corner {si = si} holder name file story shelf b corner e h is = is ∙ ap (λ (l : Held). l.corner) (sym (list-seen holder name file story shelf b e h))
 
 -- it is read, where it is up to date
-pub list-read : (holder : Holder) (name : List ℕ) (file : Bool) (story : Story) (shelf : Shelved) (b : KeptBuffer) (s : Listed) → buffer_kept name file story shelf ≡ b → has_list holder b.seen ≡ true → IsUp holder b.shelf → Stands story.text shelf → s ≡ (row_of holder shelf).lag.sels
+pub list-read : {si : Since} (holder : Holder) (name : List ℕ) (file : Bool) (story : Story) (shelf : Shelved) (b : KeptBuffer) (s : Listed) → buffer_kept name file story shelf si ≡ b → has_list holder b.seen ≡ true → IsUp holder b.shelf → Stands story.text shelf → s ≡ (row_of holder shelf).lag.sels
     → ((list_on holder b.seen).sels ≡ selected b.seen.story.text s) × IsHeld b.seen.story.text s
-list-read holder name file story shelf b s e h up st is =
+list-read {si = si} holder name file story shelf b s e h up st is =
     let P : KeptBuffer → Type 0 = λ x. ((list_on holder x.seen).sels ≡ selected x.seen.story.text s) × IsHeld x.seen.story.text s in
     let some : has_row holder shelf ≡ true = list-has holder name file story shelf b e h in
     let r = read-row story.text shelf.log holder (no_row holder) (fresh_list holder) shelf.rows some (up-inside holder name file story shelf b e up some) st in
@@ -93,23 +94,23 @@ trimmed-got text lists now st =
     record { is = record { stands = t.stands; trimmed = is-trimmed text now st.stands }; lists_are = t.lists_are ∙ st.lists_are }
 
 -- a buffer with other lists
-pub now-lists : (name : List ℕ) (file : Bool) (story : Story) (shelf now : Shelved) (b : KeptBuffer) (f : List Held → List Held) → buffer_kept name file story shelf ≡ b → lists_in story.text now ≡ f (lists_in story.text shelf)
+pub now-lists : {si : Since} (name : List ℕ) (file : Bool) (story : Story) (shelf now : Shelved) (b : KeptBuffer) (f : List Held → List Held) → buffer_kept name file story shelf si ≡ b → lists_in story.text now ≡ f (lists_in story.text shelf)
     → buffer_seen name file story now ≡ record b.seen { lists = f b.seen.lists }
-now-lists name file story shelf now b f e l =
+now-lists {si = si} name file story shelf now b f e l =
     ap (λ ls. let x : Buffer = record { name = name; is_file = file; story = story; lists = ls } in x) l
     ∙ ap (λ (x : KeptBuffer). record x.seen { lists = f x.seen.lists }) e
 
 -- or with the same
-pub now-same : (name : List ℕ) (file : Bool) (story : Story) (shelf now : Shelved) (b : KeptBuffer) → buffer_kept name file story shelf ≡ b → lists_in story.text now ≡ lists_in story.text shelf → buffer_seen name file story now ≡ b.seen
-now-same name file story shelf now b e l =
+pub now-same : {si : Since} (name : List ℕ) (file : Bool) (story : Story) (shelf now : Shelved) (b : KeptBuffer) → buffer_kept name file story shelf si ≡ b → lists_in story.text now ≡ lists_in story.text shelf → buffer_seen name file story now ≡ b.seen
+now-same {si = si} name file story shelf now b e l =
     ap (λ ls. let x : Buffer = record { name = name; is_file = file; story = story; lists = ls } in x) l ∙ ap (λ (x : KeptBuffer). x.seen) e
 
 -- a buffer with another story of the same text, and its lists as they are stored
-pub kept-as : (name : List ℕ) (file now_file : Bool) (old new : Story) (shelf : Shelved) (b : KeptBuffer) (g : Buffer → Buffer) → buffer_kept name file old shelf ≡ b → new.text ≡ old.text
-    → (let x : Buffer = record { name = name; is_file = now_file; story = new; lists = lists_in old.text shelf } in x) ≡ g (buffer_seen name file old shelf) → buffer_kept name now_file new shelf ≡ with_seen g b
-kept-as name file now_file old new shelf b g e t h =
-    ap (λ s. let y : KeptBuffer = record { seen = record { name = name; is_file = now_file; story = new; lists = lists_in s shelf }; shelf = shelf } in y) t
-    ∙ ap (λ x. let y : KeptBuffer = record { seen = x; shelf = shelf } in y) h
+pub kept-as : {si : Since} (name : List ℕ) (file now_file : Bool) (old new : Story) (shelf : Shelved) (b : KeptBuffer) (g : Buffer → Buffer) → buffer_kept name file old shelf si ≡ b → new.text ≡ old.text
+    → (let x : Buffer = record { name = name; is_file = now_file; story = new; lists = lists_in old.text shelf } in x) ≡ g (buffer_seen name file old shelf) → buffer_kept name now_file new shelf si ≡ with_seen g b
+kept-as {si = si} name file now_file old new shelf b g e t h =
+    ap (λ s. let y : KeptBuffer = record { seen = record { name = name; is_file = now_file; story = new; lists = lists_in s shelf }; shelf = shelf; since = si } in y) t
+    ∙ ap (λ x. let y : KeptBuffer = record { seen = x; shelf = shelf; since = si } in y) h
     ∙ ap (with_seen g) e
 
 pub shelf-of : (old new : List ℕ) (shelf : Shelved) → new ≡ old → IsShelfOf old shelf → IsShelfOf new shelf
@@ -119,9 +120,9 @@ shelf-of old new shelf e st = subst (λ t. IsShelfOf t shelf) (sym e) st
 one-same : (holder : Holder) (f g : Held → Held) (lists : List Held) → f (first_where (is_held_by holder) (fresh_list holder) lists) ≡ g (first_where (is_held_by holder) (fresh_list holder) lists) → changed_where (is_held_by holder) f lists ≡ changed_where (is_held_by holder) g lists
 one-same holder f g lists e = changed-same (is_held_by holder) f g (fresh_list holder) lists e
 
-pub now-one : (holder : Holder) (name : List ℕ) (file : Bool) (story : Story) (shelf now : Shelved) (b : KeptBuffer) (f g : Held → Held) → buffer_kept name file story shelf ≡ b → lists_in story.text now ≡ changed_where (is_held_by holder) f (lists_in story.text shelf) → f (list_on holder b.seen) ≡ g (list_on holder b.seen)
+pub now-one : {si : Since} (holder : Holder) (name : List ℕ) (file : Bool) (story : Story) (shelf now : Shelved) (b : KeptBuffer) (f g : Held → Held) → buffer_kept name file story shelf si ≡ b → lists_in story.text now ≡ changed_where (is_held_by holder) f (lists_in story.text shelf) → f (list_on holder b.seen) ≡ g (list_on holder b.seen)
     → buffer_seen name file story now ≡ with_list holder g b.seen
-now-one holder name file story shelf now b f g e l same =
+now-one {si = si} holder name file story shelf now b f g e l same =
     now-lists name file story shelf now b (changed_where (is_held_by holder) f) e l
     ∙ ap (λ ls. record b.seen { lists = ls }) (one-same holder f g b.seen.lists same)
 
@@ -149,8 +150,8 @@ replaced-up holder text s shelf now last some held st e t =
     (λ other up. up-trimmed text (with_sels holder s shelf) (replaced-stands holder text s shelf some held st.stands).stands other (up-replaced holder s shelf other up))
 
 -- another main selection
-pub main-there : (holder : Holder) (name : List ℕ) (file : Bool) (story : Story) (shelf : Shelved) (b : KeptBuffer) (n : ℕ) → buffer_kept name file story shelf ≡ b → has_list holder b.seen ≡ true → IsUp holder b.shelf → Stands story.text shelf → n < length (list_on holder b.seen).sels.list → n < length (row_of holder shelf).lag.sels.list
-main-there holder name file story shelf b n e h up st there =
+pub main-there : {si : Since} (holder : Holder) (name : List ℕ) (file : Bool) (story : Story) (shelf : Shelved) (b : KeptBuffer) (n : ℕ) → buffer_kept name file story shelf si ≡ b → has_list holder b.seen ≡ true → IsUp holder b.shelf → Stands story.text shelf → n < length (list_on holder b.seen).sels.list → n < length (row_of holder shelf).lag.sels.list
+main-there {si = si} holder name file story shelf b n e h up st there =
     let some : has_row holder shelf ≡ true = list-has holder name file story shelf b e h in
     let r = read-row story.text shelf.log holder (no_row holder) (fresh_list holder) shelf.rows some (up-inside holder name file story shelf b e up some) st in
     let count : length (list_on holder b.seen).sels.list ≡ length (row_of holder shelf).lag.sels.list =
@@ -257,8 +258,8 @@ listed-back f text old mid now n l e t =
     ∙ ap (λ rows. let y : Shelved = record { limit = old.limit; log = old.log; rows = rows } in y) (take-first old.rows l.added)
 
 -- a buffer on whose shelf lists were added
-pub listed-seen : (name : List ℕ) (file : Bool) (story : Story) (f : Buffer → Buffer) (text : List ℕ) (shelf now : Shelved) (b : KeptBuffer) → buffer_kept name file story shelf ≡ b → text ≡ story.text → IsListedBy f text shelf now → buffer_seen name file story now ≡ f b.seen
-listed-seen name file story f text shelf now b e t l = l.seen name file story (sym t) ∙ ap (λ (x : KeptBuffer). f x.seen) e
+pub listed-seen : {si : Since} (name : List ℕ) (file : Bool) (story : Story) (f : Buffer → Buffer) (text : List ℕ) (shelf now : Shelved) (b : KeptBuffer) → buffer_kept name file story shelf si ≡ b → text ≡ story.text → IsListedBy f text shelf now → buffer_seen name file story now ≡ f b.seen
+listed-seen {si = si} name file story f text shelf now b e t l = l.seen name file story (sym t) ∙ ap (λ (x : KeptBuffer). f x.seen) e
 
 pub listed-is : {T E : Type 0} (f : Buffer → Buffer) (text : List ℕ) (stored : List ℕ) (shelf now : Shelved) (r : Result T E) → text ≡ stored → OnOk r (IsListedBy f text shelf now) → OnErr r (now ≡ shelf) → IsShelfOf stored shelf → IsShelfOf stored now
 listed-is f text stored shelf now (Ok x) t l e st = subst (λ s. IsShelfOf s now) t l.shelf

@@ -4,9 +4,10 @@ use Rattle.std.specs.Prelude.{option_map, if◌then◌else◌}
 use Rattle.std.specs.List.{AllByRecursion}
 use Rattle.std.specs.declared.option.Option.{Option}
 use Rattle.undo_model.specs.Stories.{Group, is_own, committed}
+use Rattle.kak_world.specs.Stored.{Stored}
 use Rattle.kak_world.specs.declared.world.Rest.{Rest}
 use Rattle.kak_world.specs.declared.clients.Client.{Client}
-use Rattle.kak_world.specs.Flat.{Buffer, committed_for}
+use Rattle.kak_world.specs.Flat.{Scoped, Buffer, committed_for}
 use Rattle.kak_world.specs.Changing.{commits}
 use Rattle.kak_world.specs.Seen.{Kept, SlotIsQuiet, AreQuiet}
 use Rattle.kak_world.proofs.WorldLemmas.{parts, committed-all}
@@ -39,5 +40,5 @@ none-committed who (None ∷ bs) q = ap (λ xs. None ∷ xs) (none-committed who
 none-committed who (Some b ∷ bs) q = ap (λ x. Some x ∷ map (option_map (committed_for who)) bs) (none-own who b q.0) ∙ ap (λ xs. Some b ∷ xs) (none-committed who bs q.1)
 
 -- where nothing is pending, nothing is to be committed
-pub quiet-commits : (who : ℕ) (bs : List (Option Buffer)) (cs : List Client) (r : Rest) (w : Kept) → parts bs cs r ≡ w → AreQuiet bs → w.flat ≡ commits who w.flat
-quiet-commits who bs cs r w e q = sym (ap (λ (k : Kept). k.flat) e) ∙ committed-all who bs bs cs r w e (sym (none-committed who bs q))
+pub quiet-commits : {st : List (Option Stored)} {sc : Scoped} (who : ℕ) (bs : List (Option Buffer)) (cs : List Client) (r : Rest) (w : Kept) → parts bs cs r sc st ≡ w → AreQuiet bs → w.flat ≡ commits who w.flat
+quiet-commits {st = st} {sc = sc} who bs cs r w e q = sym (ap (λ (k : Kept). k.flat) e) ∙ committed-all who bs bs cs r w e (sym (none-committed who bs q))

@@ -3,17 +3,18 @@ use Rattle.std.proofs.Common.{◌≡◌, ℕ, ◌+◌, ◌<◌, ◌≤◌, true,
 use Rattle.std.proofs.lemmas.List.{drop_more, drop_all}
 use Rattle.std.specs.Prelude.{is_some}
 use Rattle.std.specs.declared.option.Option.{Option}
+use Rattle.kak_world.specs.Stored.{Stored}
 use Rattle.kak_world.specs.declared.clients.Client.{Client}
 use Rattle.kak_world.specs.declared.world.Rest.{Rest}
-use Rattle.kak_world.specs.Flat.{Buffer, is_there, changed_at}
+use Rattle.kak_world.specs.Flat.{Scoped, Buffer, is_there, changed_at}
 use Rattle.kak_world.specs.Changing.{changed_in}
 use Rattle.kak_world.specs.Seen.{Kept}
 use Rattle.kak_world.specs.Saving.{is_named, buffer_number_from, marked_as_saved, saved_in, unsaved_behind}
 use Rattle.kak_world.proofs.WorldLemmas.{parts, get_or_same}
 
-pub now-saved : (n : ℕ) (bs now : List (Option Buffer)) (cs : List Client) (r : Rest) (w : Kept) → parts bs cs r ≡ w → now ≡ changed_at n marked_as_saved bs → (parts now cs r).flat ≡ saved_in n w.flat
+pub now-saved : {st : List (Option Stored)} {sc : Scoped} (n : ℕ) (bs now : List (Option Buffer)) (cs : List Client) (r : Rest) (w : Kept) → parts bs cs r sc st ≡ w → now ≡ changed_at n marked_as_saved bs → (parts now cs r sc st).flat ≡ saved_in n w.flat
 unfolding saved_in changed_in
-now-saved n bs now cs r w e t = ap (λ x. (parts x cs r).flat) t ∙ ap (λ (k : Kept). saved_in n k.flat) e
+now-saved {st = st} {sc = sc} n bs now cs r w e t = ap (λ x. (parts x cs r sc st).flat) t ∙ ap (λ (k : Kept). saved_in n k.flat) e
 
 -- names behind which one buffer is added, and then the others
 pub unsaved-one : (names : Option (List ℕ)) (b : Option Buffer) (bs : List (Option Buffer)) → unsaved_behind (unsaved_behind names (b ∷ [])) bs ≡ unsaved_behind names (b ∷ bs)

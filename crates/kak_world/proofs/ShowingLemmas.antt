@@ -8,9 +8,10 @@ use Rattle.tables.proofs.TableLemmas.{by_test}
 use Rattle.tables.proofs.RowLemmas.{first-changed, first-changed_other, any-changed, map-changed, place-inside, changed-place, any-with_row, any-with_other}
 use Rattle.list_shelf.specs.declared.holder.Holder.TheVariants.{Of}
 use Rattle.list_shelf.specs.Shelves.{is_held_by}
+use Rattle.kak_world.specs.Stored.{Stored}
 use Rattle.kak_world.specs.declared.clients.Client.{Client}
 use Rattle.kak_world.specs.declared.world.Rest.{Rest}
-use Rattle.kak_world.specs.Flat.{Buffer, Flat, is_of, is_here, newcomer, fresh_list, has_list, listed_for, is_there, buffer_at, changed_at, client_of, shown_of, buffer_of, is_joined, rest_of, turn_of}
+use Rattle.kak_world.specs.Flat.{Scoped, Buffer, Flat, is_of, is_here, newcomer, fresh_list, has_list, listed_for, is_there, buffer_at, changed_at, client_of, shown_of, buffer_of, is_joined, rest_of, turn_of}
 use Rattle.kak_world.specs.Keeping.{KeepsClients}
 use Rattle.kak_world.specs.Seen.{Kept, HasBuffer}
 use Rattle.kak_world.specs.Showing.{seeing_buffer, shows}
@@ -47,22 +48,22 @@ pub has-same : (bs now : List (Option Buffer)) → now ≡ bs → HasBuffer bs �
 has-same bs now e h = subst HasBuffer (sym e) h
 
 -- the number of a buffer of the world has a slot
-pub there-slot : (n : ℕ) (bs : List (Option Buffer)) (cs : List Client) (r : Rest) (w : Kept) → parts bs cs r ≡ w → is_there n w.flat.buffers ≡ true → n < length bs
-there-slot n bs cs r w e t = there-inside n bs (ap (λ (k : Kept). is_there n k.flat.buffers) e ∙ t)
+pub there-slot : {st : List (Option Stored)} {sc : Scoped} (n : ℕ) (bs : List (Option Buffer)) (cs : List Client) (r : Rest) (w : Kept) → parts bs cs r sc st ≡ w → is_there n w.flat.buffers ≡ true → n < length bs
+there-slot {st = st} {sc = sc} n bs cs r w e t = there-inside n bs (ap (λ (k : Kept). is_there n k.flat.buffers) e ∙ t)
 
-pub here-in : (who : ℕ) (bs : List (Option Buffer)) (cs : List Client) (r : Rest) (w : Kept) → parts bs cs r ≡ w → is_joined who w.flat ≡ true → is_here who cs ≡ true
-here-in who bs cs r w e j = joined_here who (parts bs cs r).flat (ap (λ (k : Kept). is_joined who k.flat) e ∙ j)
+pub here-in : {st : List (Option Stored)} {sc : Scoped} (who : ℕ) (bs : List (Option Buffer)) (cs : List Client) (r : Rest) (w : Kept) → parts bs cs r sc st ≡ w → is_joined who w.flat ≡ true → is_here who cs ≡ true
+here-in {st = st} {sc = sc} who bs cs r w e j = joined_here who (parts bs cs r sc st).flat (ap (λ (k : Kept). is_joined who k.flat) e ∙ j)
 
 -- the world with other buffers that are the same
-pub same-parts : (bs now : List (Option Buffer)) (cs : List Client) (r : Rest) (w : Kept) → parts bs cs r ≡ w → now ≡ bs → (parts now cs r).flat ≡ w.flat
-same-parts bs now cs r w e b = ap (λ x. (parts x cs r).flat) b ∙ ap (λ (k : Kept). k.flat) e
+pub same-parts : {st : List (Option Stored)} {sc : Scoped} (bs now : List (Option Buffer)) (cs : List Client) (r : Rest) (w : Kept) → parts bs cs r sc st ≡ w → now ≡ bs → (parts now cs r sc st).flat ≡ w.flat
+same-parts {st = st} {sc = sc} bs now cs r w e b = ap (λ x. (parts x cs r sc st).flat) b ∙ ap (λ (k : Kept). k.flat) e
 
 -- the world in which a client sees another buffer
-pub now-shows : (who n : ℕ) (bs now : List (Option Buffer)) (cs seen : List Client) (r : Rest) (w : Kept) → parts bs cs r ≡ w → now ≡ changed_at n (listed_for (Of who)) bs → seen ≡ changed_where (is_of who) (seeing_buffer n) cs → (parts now seen r).flat ≡ shows who n w.flat
+pub now-shows : {st : List (Option Stored)} {sc : Scoped} (who n : ℕ) (bs now : List (Option Buffer)) (cs seen : List Client) (r : Rest) (w : Kept) → parts bs cs r sc st ≡ w → now ≡ changed_at n (listed_for (Of who)) bs → seen ≡ changed_where (is_of who) (seeing_buffer n) cs → (parts now seen r sc st).flat ≡ shows who n w.flat
 unfolding shows
-now-shows who n bs now cs seen r w e b c =
-    ap (λ x. (parts x seen r).flat) b
-    ∙ ap (λ x. (parts (changed_at n (listed_for (Of who)) bs) x r).flat) c
+now-shows {st = st} {sc = sc} who n bs now cs seen r w e b c =
+    ap (λ x. (parts x seen r sc st).flat) b
+    ∙ ap (λ x. (parts (changed_at n (listed_for (Of who)) bs) x r sc st).flat) c
     ∙ ap (λ (k : Kept). shows who n k.flat) e
 
 -- it has joined still

@@ -1,5 +1,5 @@
--- The laws of the world's three parts: what is a client's own, the buffers, and what is no buffer's and no client's. What is
--- got of a part behind what was set of the same one, or of another; who has joined, and acts, behind each. An operation is
+-- The laws of the world's four parts: what is a client's own, the buffers, what is no buffer's and no client's, and what is kept
+-- by scope. What is got of a part behind what was set of the same one, or of another; who has joined, and acts, behind each. An operation is
 -- written by one setter, which is one law (`.. writes`), and another part of the world needs no more of it.
 use Rattle.std.proofs.Common.{◌≡◌, ◌≢◌, ℕ, zero, suc, true, cond, List, [], ◌∷◌, map, refl, sym, ap, ap₂, ◌∙◌, None, Some}
 use Rattle.std.specs.Prelude.{◌&&◌, option_map}
@@ -22,10 +22,10 @@ use Rattle.list_shelf.specs.Shelves.{Held, is_held_by}
 use Rattle.kak_world.specs.declared.own.Own.{Own}
 use Rattle.kak_world.specs.declared.clients.Client.{Client}
 use Rattle.kak_world.specs.declared.world.Rest.{Rest}
-use Rattle.kak_world.specs.Flat.{Buffer, Flat, is_of, is_here, has_list, list_on, with_list, committed_for, scratch, fresh_list, newcomer, is_there, buffer_at, client_of, shown_of, buffer_of, list_of, is_joined, rest_of, turn_of, is_turn_of, acts, own_of, number_of, name_of, text_of, sels_of, view_of, units_of, with_units, with_own, with_buffers, with_rest, with_list_of, with_sels, with_corner}
+use Rattle.kak_world.specs.Flat.{Buffer, Scoped, Flat, is_of, is_here, has_list, list_on, with_list, committed_for, scratch, fresh_list, newcomer, is_there, buffer_at, client_of, shown_of, buffer_of, list_of, is_joined, rest_of, scoped_of, turn_of, is_turn_of, acts, own_of, number_of, name_of, text_of, sels_of, view_of, units_of, with_units, with_own, with_buffers, with_rest, with_scoped, with_list_of, with_sels, with_corner}
 use Rattle.kak_world.specs.Changing.{buffer_edited, changed_in, splice_changes_of, edited_by, traveled_by, commits}
 use Rattle.kak_world.proofs.SlotLemmas.{buffer-changed, buffer-kept}
-use Rattle.kak_world.proofs.KeepingLaws.{and-first, and-second, list-leaves, acts_kept, keeps_own, keeps_sels, keeps_corner, keeps_edited, keeps_traveled, keeps_commits}
+use Rattle.kak_world.proofs.KeepingLaws.{and-first, and-second, list-leaves, acts_kept, keeps_own, keeps_scoped, keeps_sels, keeps_corner, keeps_edited, keeps_traveled, keeps_commits}
 
 -- a client that has joined is here, and so is its buffer, with a list of its own
 pub joined_here : (who : ℕ) (flat : Flat) → is_joined who flat ≡ true → is_here who flat.clients ≡ true
@@ -125,6 +125,10 @@ pub rest_own : (who : ℕ) (f : Own → Own) (flat : Flat) → rest_of (with_own
 unfolding rest_of with_own
 rest_own who f flat = refl
 
+pub scoped_own : (who : ℕ) (f : Own → Own) (flat : Flat) → scoped_of (with_own who f flat) ≡ scoped_of flat
+unfolding scoped_of with_own
+scoped_own who f flat = refl
+
 pub joined_own : (k who : ℕ) (f : Own → Own) (flat : Flat) → is_joined k (with_own who f flat) ≡ is_joined k flat
 joined_own k who f flat = (keeps_own who f flat).joined k
 
@@ -153,10 +157,18 @@ pub rest_buffers : (bs : List (Option Buffer)) (flat : Flat) → rest_of (with_b
 unfolding rest_of with_buffers
 rest_buffers bs flat = refl
 
+pub scoped_buffers : (bs : List (Option Buffer)) (flat : Flat) → scoped_of (with_buffers bs flat) ≡ scoped_of flat
+unfolding scoped_of with_buffers
+scoped_buffers bs flat = refl
+
 -- what is no buffer's and no client's, changed
 pub rest_rest : (f : Rest → Rest) (flat : Flat) → rest_of (with_rest f flat) ≡ f (rest_of flat)
 unfolding rest_of with_rest
 rest_rest f flat = refl
+
+pub scoped_rest : (f : Rest → Rest) (flat : Flat) → scoped_of (with_rest f flat) ≡ scoped_of flat
+unfolding scoped_of with_rest
+scoped_rest f flat = refl
 
 -- how many units are left, in it
 abbrev pub units_in : Rest → ℕ
@@ -214,6 +226,54 @@ acts_turn k f flat j turn =
     ∙ ap (is_turn_of k) (ap (λ (r : Rest). r.step.turn) (rest_rest f flat) ∙ turn)
     ∙ eq-eqb k k refl
 
+-- what is kept by scope, changed
+pub scoped_scoped : (f : Scoped → Scoped) (flat : Flat) → scoped_of (with_scoped f flat) ≡ f (scoped_of flat)
+unfolding scoped_of with_scoped
+scoped_scoped f flat = refl
+
+-- behind which all of a client, the buffer that it sees, and the rest is the same
+pub rest_scoped : (f : Scoped → Scoped) (flat : Flat) → rest_of (with_scoped f flat) ≡ rest_of flat
+unfolding rest_of with_scoped
+rest_scoped f flat = refl
+
+pub own_scoped : (k : ℕ) (f : Scoped → Scoped) (flat : Flat) → own_of k (with_scoped f flat) ≡ own_of k flat
+unfolding own_of client_of with_scoped
+own_scoped k f flat = refl
+
+pub shown_scoped : (k : ℕ) (f : Scoped → Scoped) (flat : Flat) → shown_of k (with_scoped f flat) ≡ shown_of k flat
+unfolding shown_of client_of with_scoped
+shown_scoped k f flat = refl
+
+pub number_scoped : (k : ℕ) (f : Scoped → Scoped) (flat : Flat) → number_of k (with_scoped f flat) ≡ number_of k flat
+unfolding number_of client_of with_scoped
+number_scoped k f flat = refl
+
+pub buffer_scoped : (k : ℕ) (f : Scoped → Scoped) (flat : Flat) → buffer_of k (with_scoped f flat) ≡ buffer_of k flat
+unfolding buffer_of shown_of client_of with_scoped
+buffer_scoped k f flat = refl
+
+pub text_scoped : (k : ℕ) (f : Scoped → Scoped) (flat : Flat) → text_of k (with_scoped f flat) ≡ text_of k flat
+unfolding text_of
+text_scoped k f flat = ap (λ (b : Buffer). b.story.text) (buffer_scoped k f flat)
+
+pub name_scoped : (k : ℕ) (f : Scoped → Scoped) (flat : Flat) → name_of k (with_scoped f flat) ≡ name_of k flat
+unfolding name_of
+name_scoped k f flat = ap (λ (b : Buffer). b.name) (buffer_scoped k f flat)
+
+pub sels_scoped : (k : ℕ) (f : Scoped → Scoped) (flat : Flat) → sels_of k (with_scoped f flat) ≡ sels_of k flat
+unfolding sels_of list_of
+sels_scoped k f flat = ap (λ (b : Buffer). (list_on (Of k) b).sels) (buffer_scoped k f flat)
+
+pub view_scoped : (k : ℕ) (f : Scoped → Scoped) (flat : Flat) → view_of k (with_scoped f flat) ≡ view_of k flat
+unfolding view_of list_of buffer_of own_of shown_of client_of with_scoped
+view_scoped k f flat = refl
+
+pub joined_scoped : (k : ℕ) (f : Scoped → Scoped) (flat : Flat) → is_joined k (with_scoped f flat) ≡ is_joined k flat
+joined_scoped k f flat = (keeps_scoped f flat).joined k
+
+pub acts_scoped : (k : ℕ) (f : Scoped → Scoped) (flat : Flat) → acts k (with_scoped f flat) ≡ acts k flat
+acts_scoped k f flat = acts_kept k _ _ (keeps_scoped f flat)
+
 -- the operations that write the buffers alone
 pub sels_writes : (who : ℕ) (s : Selected) (flat : Flat) → with_sels who s flat ≡ with_buffers (with_sels who s flat).buffers flat
 unfolding with_sels with_list_of
@@ -242,6 +302,9 @@ commits_writes who flat = refl
 -- of a client's selections
 pub rest_sels : (who : ℕ) (s : Selected) (flat : Flat) → rest_of (with_sels who s flat) ≡ rest_of flat
 rest_sels who s flat = ap rest_of (sels_writes who s flat) ∙ rest_buffers _ flat
+
+pub scoped_sels : (who : ℕ) (s : Selected) (flat : Flat) → scoped_of (with_sels who s flat) ≡ scoped_of flat
+scoped_sels who s flat = ap scoped_of (sels_writes who s flat) ∙ scoped_buffers _ flat
 
 -- behind which the same clients have joined, and act
 pub joined_sels : (k who : ℕ) (s : Selected) (flat : Flat) → is_joined k (with_sels who s flat) ≡ is_joined k flat
@@ -358,4 +421,4 @@ view_commits k who flat =
     ap₂ view_at (ap (λ (b : Buffer). (list_on (Of k) b).corner) (buffer_commits k who flat))
     (ap (λ (x : Flat). (own_of k x).size) (commits_writes who flat) ∙ ap (λ (o : Own). o.size) (own_buffers k _ flat))
 
-pub ruleset world_laws = (own_known, own_same, own_own, own_buffers, own_rest, buffer_own, buffer_rest, number_own, number_buffers, number_rest, shown_own, shown_buffers, shown_rest, text_own, text_rest, name_own, name_rest, sels_own, sels_rest, view_own, view_rest, rest_own, rest_buffers, rest_rest, joined_own, joined_rest, acts_joined, acts_own, acts_rest, acts_turn, sels_writes, corner_writes, changed_writes, edited_writes, traveled_writes, commits_writes, joined_sels, joined_corner, joined_edited, joined_traveled, joined_commits, acts_sels, acts_corner, acts_edited, acts_traveled, acts_commits, text_sels, name_sels, sels_sels, view_sels, text_corner, sels_corner, view_corner, text_edited, text_commits, sels_commits, view_commits)
+pub ruleset world_laws = (own_known, own_same, own_own, own_buffers, own_rest, own_scoped, buffer_own, buffer_rest, buffer_scoped, number_own, number_buffers, number_rest, number_scoped, shown_own, shown_buffers, shown_rest, shown_scoped, text_own, text_rest, text_scoped, name_own, name_rest, name_scoped, sels_own, sels_rest, sels_scoped, view_own, view_rest, view_scoped, rest_own, rest_buffers, rest_rest, rest_scoped, scoped_own, scoped_buffers, scoped_rest, scoped_scoped, joined_own, joined_rest, joined_scoped, acts_joined, acts_own, acts_rest, acts_scoped, acts_turn, sels_writes, corner_writes, changed_writes, edited_writes, traveled_writes, commits_writes, joined_sels, joined_corner, joined_edited, joined_traveled, joined_commits, acts_sels, acts_corner, acts_edited, acts_traveled, acts_commits, text_sels, name_sels, sels_sels, view_sels, text_corner, sels_corner, view_corner, text_edited, text_commits, sels_commits, view_commits)

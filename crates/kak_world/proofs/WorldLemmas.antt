@@ -10,28 +10,33 @@ use Rattle.std.specs.declared.option.Option.{Option}
 use Rattle.tables.specs.Tables.{first_where}
 use Rattle.list_shelf.specs.declared.holder.Holder.TheVariants.{Of}
 use Rattle.scope_options.specs.declared.setting.Setting.{Setting}
+use Rattle.scope_options.specs.Scopes.{is_of_client}
 use Rattle.scope_options.specs.Settings.{without_client}
+use Rattle.highlight_paint.specs.Painters.{Highlighter}
+use Rattle.highlight_paint.specs.Highlighters.{without_scopes as highlighters_without}
+use Rattle.scope_tables.specs.Rows.{TableRows, without_scopes as rows_without}
 use Rattle.list_shelf.specs.Shelves.{Held, is_held_by}
 use Rattle.kak_world.specs.declared.clients.Client.{Client}
 use Rattle.kak_world.specs.declared.world.Rest.{Rest}
-use Rattle.kak_world.specs.Flat.{Buffer, Flat, is_of, is_here, newcomer, is_there, buffer_or_scratch, buffer_at, changed_at, has_list, list_on, client_of, shown_of, buffer_of, list_of, is_joined, own_of, number_of, text_of, story_of, sels_of, with_list_of, with_list}
+use Rattle.kak_world.specs.Flat.{Buffer, Scoped, Flat, is_of, is_here, newcomer, is_there, buffer_or_scratch, buffer_at, changed_at, has_list, list_on, client_of, shown_of, buffer_of, list_of, is_joined, own_of, number_of, text_of, story_of, sels_of, with_list_of, with_list}
 use Rattle.kak_world.specs.Changing.{changed_in, commits}
+use Rattle.kak_world.specs.Stored.{Stored}
 use Rattle.kak_world.specs.Seen.{Kept, HasBuffer}
 use Rattle.kak_world.proofs.SlotLemmas.{there-inside, set-changed, there-kept, length-kept, there-mapped, buffer-changed}
 use Rattle.kak_world.specs.Flat.{with_rest, takes_turn, lowest, least_free, numbers_of, fresh_list, listed_for, committed_for, left_behind, joined_by, left_by_client}
 use Rattle.kak_world.proofs.WorldLaws.{joined_here, joined_there, joined_list}
 
 -- the world of some parts
-abbrev pub parts : List (Option Buffer) → List Client → Rest → Kept
-parts bs cs r = record { flat = record { buffers = bs; clients = cs; rest = r } }
+abbrev pub parts : List (Option Buffer) → List Client → Rest → Scoped → List (Option Stored) → Kept
+parts bs cs r sc st = record { flat = record { buffers = bs; clients = cs; rest = r; scoped = sc }; stored = st }
 
-pub here-of : (who : ℕ) (bs : List (Option Buffer)) (cs : List Client) (r : Rest) (w : Kept) → parts bs cs r ≡ w → is_joined who w.flat ≡ true → is_here who cs ≡ true
-here-of who bs cs r w e j = joined_here who (parts bs cs r).flat (ap (λ (k : Kept). is_joined who k.flat) e ∙ j)
+pub here-of : {st : List (Option Stored)} {sc : Scoped} (who : ℕ) (bs : List (Option Buffer)) (cs : List Client) (r : Rest) (w : Kept) → parts bs cs r sc st ≡ w → is_joined who w.flat ≡ true → is_here who cs ≡ true
+here-of {st = st} {sc = sc} who bs cs r w e j = joined_here who (parts bs cs r sc st).flat (ap (λ (k : Kept). is_joined who k.flat) e ∙ j)
 
 -- the client that the code finds
-pub client-of : (who : ℕ) (bs : List (Option Buffer)) (cs : List Client) (r : Rest) (w : Kept) (c : Client) → parts bs cs r ≡ w → c ≡ first_where (is_of who) (newcomer who 0 0) cs → c ≡ client_of who w.flat
+pub client-of : {st : List (Option Stored)} {sc : Scoped} (who : ℕ) (bs : List (Option Buffer)) (cs : List Client) (r : Rest) (w : Kept) (c : Client) → parts bs cs r sc st ≡ w → c ≡ first_where (is_of who) (newcomer who 0 0) cs → c ≡ client_of who w.flat
 unfolding client_of
-client-of who bs cs r w c e f = f ∙ ap (λ (k : Kept). client_of who k.flat) e
+client-of {st = st} {sc = sc} who bs cs r w c e f = f ∙ ap (λ (k : Kept). client_of who k.flat) e
 
 pub own-of : (who : ℕ) (flat : Flat) (c : Client) → c ≡ client_of who flat → c.own ≡ own_of who flat
 unfolding own_of
@@ -46,20 +51,20 @@ unfolding shown_of
 shown-of who flat c e = ap (λ (x : Client). x.shown) e
 
 -- the number of the buffer that it sees
-pub shown-inside : (who : ℕ) (bs : List (Option Buffer)) (cs : List Client) (r : Rest) (w : Kept) (c : Client) → parts bs cs r ≡ w → c ≡ first_where (is_of who) (newcomer who 0 0) cs → is_joined who w.flat ≡ true → c.shown < length bs
-shown-inside who bs cs r w c e f j = there-inside c.shown bs (shown-there who bs cs r w c e f j)
+pub shown-inside : {st : List (Option Stored)} {sc : Scoped} (who : ℕ) (bs : List (Option Buffer)) (cs : List Client) (r : Rest) (w : Kept) (c : Client) → parts bs cs r sc st ≡ w → c ≡ first_where (is_of who) (newcomer who 0 0) cs → is_joined who w.flat ≡ true → c.shown < length bs
+shown-inside {st = st} {sc = sc} who bs cs r w c e f j = there-inside c.shown bs (shown-there who bs cs r w c e f j)
   where
-    shown-there : (who : ℕ) (bs : List (Option Buffer)) (cs : List Client) (r : Rest) (w : Kept) (c : Client) → parts bs cs r ≡ w → c ≡ first_where (is_of who) (newcomer who 0 0) cs → is_joined who w.flat ≡ true → is_there c.shown bs ≡ true
-    shown-there who bs cs r w c e f j =
-        ap (λ n. is_there n bs) (shown-of who (parts bs cs r).flat c (client-of who bs cs r (parts bs cs r) c refl f)) ∙ joined_there who (parts bs cs r).flat (ap (λ (k : Kept). is_joined who k.flat) e ∙ j)
+    shown-there : {st : List (Option Stored)} {sc : Scoped} (who : ℕ) (bs : List (Option Buffer)) (cs : List Client) (r : Rest) (w : Kept) (c : Client) → parts bs cs r sc st ≡ w → c ≡ first_where (is_of who) (newcomer who 0 0) cs → is_joined who w.flat ≡ true → is_there c.shown bs ≡ true
+    shown-there {st = st} {sc = sc} who bs cs r w c e f j =
+        ap (λ n. is_there n bs) (shown-of who (parts bs cs r sc st).flat c (client-of who bs cs r (parts bs cs r sc st) c refl f)) ∙ joined_there who (parts bs cs r sc st).flat (ap (λ (k : Kept). is_joined who k.flat) e ∙ j)
 
-pub shown-there : (who : ℕ) (bs : List (Option Buffer)) (cs : List Client) (r : Rest) (w : Kept) (c : Client) → parts bs cs r ≡ w → c ≡ first_where (is_of who) (newcomer who 0 0) cs → is_joined who w.flat ≡ true → is_there c.shown bs ≡ true
-shown-there who bs cs r w c e f j =
-    ap (λ n. is_there n bs) (shown-of who (parts bs cs r).flat c (client-of who bs cs r (parts bs cs r) c refl f)) ∙ joined_there who (parts bs cs r).flat (ap (λ (k : Kept). is_joined who k.flat) e ∙ j)
+pub shown-there : {st : List (Option Stored)} {sc : Scoped} (who : ℕ) (bs : List (Option Buffer)) (cs : List Client) (r : Rest) (w : Kept) (c : Client) → parts bs cs r sc st ≡ w → c ≡ first_where (is_of who) (newcomer who 0 0) cs → is_joined who w.flat ≡ true → is_there c.shown bs ≡ true
+shown-there {st = st} {sc = sc} who bs cs r w c e f j =
+    ap (λ n. is_there n bs) (shown-of who (parts bs cs r sc st).flat c (client-of who bs cs r (parts bs cs r sc st) c refl f)) ∙ joined_there who (parts bs cs r sc st).flat (ap (λ (k : Kept). is_joined who k.flat) e ∙ j)
 
 -- no number that a client sees is without a buffer
-pub shown-not_none : (who : ℕ) (bs : List (Option Buffer)) (cs : List Client) (r : Rest) (w : Kept) (c : Client) (slot : Option Buffer) → parts bs cs r ≡ w → c ≡ first_where (is_of who) (newcomer who 0 0) cs → is_joined who w.flat ≡ true → slot ≡ get_or bs c.shown slot → slot ≡ None → ⊥
-shown-not_none who bs cs r w c slot e f j g n =
+pub shown-not_none : {st : List (Option Stored)} {sc : Scoped} (who : ℕ) (bs : List (Option Buffer)) (cs : List Client) (r : Rest) (w : Kept) (c : Client) (slot : Option Buffer) → parts bs cs r sc st ≡ w → c ≡ first_where (is_of who) (newcomer who 0 0) cs → is_joined who w.flat ≡ true → slot ≡ get_or bs c.shown slot → slot ≡ None → ⊥
+shown-not_none {st = st} {sc = sc} who bs cs r w c slot e f j g n =
     let there : is_there c.shown bs ≡ true = shown-there who bs cs r w c e f j in
     let same : get_or bs c.shown None ≡ None = ap (λ d. get_or bs c.shown d) (sym n) ∙ sym g ∙ n in
     let no : is_some {T = Buffer} None ≡ true = ap is_some (sym same) ∙ there in cc
@@ -69,29 +74,29 @@ get_or_same [] n d h = absurd (omega arith)
 get_or_same (x ∷ xs) zero d h = refl
 get_or_same (x ∷ xs) (suc n) d h = get_or_same xs n d (omega arith)
 
-pub slot-at : (who : ℕ) (bs : List (Option Buffer)) (cs : List Client) (r : Rest) (w : Kept) (c : Client) (slot : Option Buffer) (b : Buffer) → parts bs cs r ≡ w → c ≡ first_where (is_of who) (newcomer who 0 0) cs → is_joined who w.flat ≡ true → slot ≡ get_or bs c.shown slot → slot ≡ Some b → get_or bs c.shown None ≡ Some b
-slot-at who bs cs r w c slot b e f j g s = get_or_same bs c.shown slot (shown-inside who bs cs r w c e f j) ∙ sym g ∙ s
+pub slot-at : {st : List (Option Stored)} {sc : Scoped} (who : ℕ) (bs : List (Option Buffer)) (cs : List Client) (r : Rest) (w : Kept) (c : Client) (slot : Option Buffer) (b : Buffer) → parts bs cs r sc st ≡ w → c ≡ first_where (is_of who) (newcomer who 0 0) cs → is_joined who w.flat ≡ true → slot ≡ get_or bs c.shown slot → slot ≡ Some b → get_or bs c.shown None ≡ Some b
+slot-at {st = st} {sc = sc} who bs cs r w c slot b e f j g s = get_or_same bs c.shown slot (shown-inside who bs cs r w c e f j) ∙ sym g ∙ s
 
 -- the buffer that a client sees
-pub buffer-of : (who : ℕ) (bs : List (Option Buffer)) (cs : List Client) (r : Rest) (w : Kept) (c : Client) (slot : Option Buffer) (b : Buffer) → parts bs cs r ≡ w → c ≡ first_where (is_of who) (newcomer who 0 0) cs → is_joined who w.flat ≡ true → slot ≡ get_or bs c.shown slot → slot ≡ Some b → b ≡ buffer_of who w.flat
+pub buffer-of : {st : List (Option Stored)} {sc : Scoped} (who : ℕ) (bs : List (Option Buffer)) (cs : List Client) (r : Rest) (w : Kept) (c : Client) (slot : Option Buffer) (b : Buffer) → parts bs cs r sc st ≡ w → c ≡ first_where (is_of who) (newcomer who 0 0) cs → is_joined who w.flat ≡ true → slot ≡ get_or bs c.shown slot → slot ≡ Some b → b ≡ buffer_of who w.flat
 unfolding buffer_of
-buffer-of who bs cs r w c slot b e f j g s =
+buffer-of {st = st} {sc = sc} who bs cs r w c slot b e f j g s =
     ap buffer_or_scratch (sym (slot-at who bs cs r w c slot b e f j g s))
-    ∙ ap (λ n. buffer_at n bs) (shown-of who (parts bs cs r).flat c (client-of who bs cs r (parts bs cs r) c refl f))
+    ∙ ap (λ n. buffer_at n bs) (shown-of who (parts bs cs r sc st).flat c (client-of who bs cs r (parts bs cs r sc st) c refl f))
     ∙ ap (λ (k : Kept). buffer_of who k.flat) e
 
 -- it has a list of the client
-pub list-of : (who : ℕ) (bs : List (Option Buffer)) (cs : List Client) (r : Rest) (w : Kept) (c : Client) (slot : Option Buffer) (b : Buffer) → parts bs cs r ≡ w → c ≡ first_where (is_of who) (newcomer who 0 0) cs → is_joined who w.flat ≡ true → slot ≡ get_or bs c.shown slot → slot ≡ Some b → has_list (Of who) b ≡ true
-list-of who bs cs r w c slot b e f j g s = ap (has_list (Of who)) (buffer-of who bs cs r w c slot b e f j g s) ∙ joined_list who w.flat j
+pub list-of : {st : List (Option Stored)} {sc : Scoped} (who : ℕ) (bs : List (Option Buffer)) (cs : List Client) (r : Rest) (w : Kept) (c : Client) (slot : Option Buffer) (b : Buffer) → parts bs cs r sc st ≡ w → c ≡ first_where (is_of who) (newcomer who 0 0) cs → is_joined who w.flat ≡ true → slot ≡ get_or bs c.shown slot → slot ≡ Some b → has_list (Of who) b ≡ true
+list-of {st = st} {sc = sc} who bs cs r w c slot b e f j g s = ap (has_list (Of who)) (buffer-of who bs cs r w c slot b e f j g s) ∙ joined_list who w.flat j
 
 -- its list there was changed
-pub list-set-of : (who : ℕ) (bs : List (Option Buffer)) (cs : List Client) (r : Rest) (w : Kept) (c : Client) (slot : Option Buffer) (b to : Buffer) (f : Held → Held) → parts bs cs r ≡ w → c ≡ first_where (is_of who) (newcomer who 0 0) cs → is_joined who w.flat ≡ true → slot ≡ get_or bs c.shown slot → slot ≡ Some b
-    → to ≡ with_list (Of who) f b → (parts (set bs c.shown (Some to)) cs r).flat ≡ with_list_of who f w.flat
+pub list-set-of : {st : List (Option Stored)} {sc : Scoped} (who : ℕ) (bs : List (Option Buffer)) (cs : List Client) (r : Rest) (w : Kept) (c : Client) (slot : Option Buffer) (b to : Buffer) (f : Held → Held) → parts bs cs r sc st ≡ w → c ≡ first_where (is_of who) (newcomer who 0 0) cs → is_joined who w.flat ≡ true → slot ≡ get_or bs c.shown slot → slot ≡ Some b
+    → to ≡ with_list (Of who) f b → (parts (set bs c.shown (Some to)) cs r sc st).flat ≡ with_list_of who f w.flat
 unfolding with_list_of
-list-set-of who bs cs r w c slot b to f e g j l s t =
-    ap (λ x. (parts (set bs c.shown (Some x)) cs r).flat) t
-    ∙ ap (λ x. (parts x cs r).flat) (set-changed c.shown (with_list (Of who) f) b bs (slot-at who bs cs r w c slot b e g j l s))
-    ∙ ap (λ n. (parts (changed_at n (with_list (Of who) f) bs) cs r).flat) (shown-of who (parts bs cs r).flat c (client-of who bs cs r (parts bs cs r) c refl g))
+list-set-of {st = st} {sc = sc} who bs cs r w c slot b to f e g j l s t =
+    ap (λ x. (parts (set bs c.shown (Some x)) cs r sc st).flat) t
+    ∙ ap (λ x. (parts x cs r sc st).flat) (set-changed c.shown (with_list (Of who) f) b bs (slot-at who bs cs r w c slot b e g j l s))
+    ∙ ap (λ n. (parts (changed_at n (with_list (Of who) f) bs) cs r sc st).flat) (shown-of who (parts bs cs r sc st).flat c (client-of who bs cs r (parts bs cs r sc st) c refl g))
     ∙ ap (λ (k : Kept). with_list_of who f k.flat) e
 
 lowest-kept : (n : ℕ) (f : Buffer → Buffer) (bs : List (Option Buffer)) → lowest (changed_at n f bs) ≡ lowest bs
@@ -111,30 +116,30 @@ pub has-set : (n : ℕ) (b to : Buffer) (bs : List (Option Buffer)) → get_or b
 has-set n b to bs g h = subst HasBuffer (sym (set-changed n (λ _. to) b bs g)) (has-changed n (λ _. to) bs h)
 
 -- its text, and the client's selections
-pub text-of : (who : ℕ) (bs : List (Option Buffer)) (cs : List Client) (r : Rest) (w : Kept) (c : Client) (slot : Option Buffer) (b : Buffer) → parts bs cs r ≡ w → c ≡ first_where (is_of who) (newcomer who 0 0) cs → is_joined who w.flat ≡ true → slot ≡ get_or bs c.shown slot → slot ≡ Some b → b.story.text ≡ text_of who w.flat
+pub text-of : {st : List (Option Stored)} {sc : Scoped} (who : ℕ) (bs : List (Option Buffer)) (cs : List Client) (r : Rest) (w : Kept) (c : Client) (slot : Option Buffer) (b : Buffer) → parts bs cs r sc st ≡ w → c ≡ first_where (is_of who) (newcomer who 0 0) cs → is_joined who w.flat ≡ true → slot ≡ get_or bs c.shown slot → slot ≡ Some b → b.story.text ≡ text_of who w.flat
 unfolding text_of
-text-of who bs cs r w c slot b e f j g s = ap (λ (x : Buffer). x.story.text) (buffer-of who bs cs r w c slot b e f j g s)
+text-of {st = st} {sc = sc} who bs cs r w c slot b e f j g s = ap (λ (x : Buffer). x.story.text) (buffer-of who bs cs r w c slot b e f j g s)
 
-pub sels-of : (who : ℕ) (bs : List (Option Buffer)) (cs : List Client) (r : Rest) (w : Kept) (c : Client) (slot : Option Buffer) (b : Buffer) → parts bs cs r ≡ w → c ≡ first_where (is_of who) (newcomer who 0 0) cs → is_joined who w.flat ≡ true → slot ≡ get_or bs c.shown slot → slot ≡ Some b → (list_on (Of who) b).sels ≡ sels_of who w.flat
+pub sels-of : {st : List (Option Stored)} {sc : Scoped} (who : ℕ) (bs : List (Option Buffer)) (cs : List Client) (r : Rest) (w : Kept) (c : Client) (slot : Option Buffer) (b : Buffer) → parts bs cs r sc st ≡ w → c ≡ first_where (is_of who) (newcomer who 0 0) cs → is_joined who w.flat ≡ true → slot ≡ get_or bs c.shown slot → slot ≡ Some b → (list_on (Of who) b).sels ≡ sels_of who w.flat
 unfolding sels_of list_of
-sels-of who bs cs r w c slot b e f j g s = ap (λ (x : Buffer). (list_on (Of who) x).sels) (buffer-of who bs cs r w c slot b e f j g s)
+sels-of {st = st} {sc = sc} who bs cs r w c slot b e f j g s = ap (λ (x : Buffer). (list_on (Of who) x).sels) (buffer-of who bs cs r w c slot b e f j g s)
 
 -- whether a client has joined
-pub joined-not : (who : ℕ) (bs : List (Option Buffer)) (cs : List Client) (r : Rest) (w : Kept) → parts bs cs r ≡ w → is_here who cs ≡ false → false ≡ is_joined who w.flat
+pub joined-not : {st : List (Option Stored)} {sc : Scoped} (who : ℕ) (bs : List (Option Buffer)) (cs : List Client) (r : Rest) (w : Kept) → parts bs cs r sc st ≡ w → is_here who cs ≡ false → false ≡ is_joined who w.flat
 unfolding is_joined
-joined-not who bs cs r w e h = sym (ap (λ t. t && (is_there (shown_of who (parts bs cs r).flat) bs && has_list (Of who) (buffer_of who (parts bs cs r).flat))) h) ∙ ap (λ (k : Kept). is_joined who k.flat) e
+joined-not {st = st} {sc = sc} who bs cs r w e h = sym (ap (λ t. t && (is_there (shown_of who (parts bs cs r sc st).flat) bs && has_list (Of who) (buffer_of who (parts bs cs r sc st).flat))) h) ∙ ap (λ (k : Kept). is_joined who k.flat) e
 
-pub joined-test : (who : ℕ) (bs : List (Option Buffer)) (cs : List Client) (r : Rest) (w : Kept) (c : Client) → parts bs cs r ≡ w → is_here who cs ≡ true → c ≡ first_where (is_of who) (newcomer who 0 0) cs → (is_there c.shown bs && has_list (Of who) (buffer_at c.shown bs)) ≡ is_joined who w.flat
+pub joined-test : {st : List (Option Stored)} {sc : Scoped} (who : ℕ) (bs : List (Option Buffer)) (cs : List Client) (r : Rest) (w : Kept) (c : Client) → parts bs cs r sc st ≡ w → is_here who cs ≡ true → c ≡ first_where (is_of who) (newcomer who 0 0) cs → (is_there c.shown bs && has_list (Of who) (buffer_at c.shown bs)) ≡ is_joined who w.flat
 unfolding is_joined buffer_of
-joined-test who bs cs r w c e h f =
-    ap (λ n. is_there n bs && has_list (Of who) (buffer_at n bs)) (shown-of who (parts bs cs r).flat c (client-of who bs cs r (parts bs cs r) c refl f))
-    ∙ sym (ap (λ t. t && (is_there (shown_of who (parts bs cs r).flat) bs && has_list (Of who) (buffer_at (shown_of who (parts bs cs r).flat) bs))) h)
+joined-test {st = st} {sc = sc} who bs cs r w c e h f =
+    ap (λ n. is_there n bs && has_list (Of who) (buffer_at n bs)) (shown-of who (parts bs cs r sc st).flat c (client-of who bs cs r (parts bs cs r sc st) c refl f))
+    ∙ sym (ap (λ t. t && (is_there (shown_of who (parts bs cs r sc st).flat) bs && has_list (Of who) (buffer_at (shown_of who (parts bs cs r sc st).flat) bs))) h)
     ∙ ap (λ (k : Kept). is_joined who k.flat) e
 
 -- a client that comes has joined
-pub joined-comes : (who : ℕ) (bs : List (Option Buffer)) (cs : List Client) (r : Rest) → is_here who cs ≡ false → is_there (lowest bs) bs ≡ true → is_joined who (joined_by who (parts bs cs r).flat) ≡ true
+pub joined-comes : (who : ℕ) (bs : List (Option Buffer)) (cs : List Client) (r : Rest) (sc : Scoped) → is_here who cs ≡ false → is_there (lowest bs) bs ≡ true → is_joined who (joined_by who (parts bs cs r sc []).flat) ≡ true
 unfolding is_joined buffer_of shown_of client_of joined_by
-joined-comes who bs cs r away some =
+joined-comes who bs cs r sc away some =
     let new : Client = newcomer who (least_free (numbers_of cs)) (lowest bs) in
     let self : is_of who new ≡ true = eq-eqb who who refl in
     let found : first_where (is_of who) (newcomer who 0 0) (cs ++ new ∷ []) ≡ new = first-new (is_of who) (newcomer who 0 0) new cs away self in
@@ -166,13 +171,13 @@ set-same zero b (o ∷ bs) h = ap (λ x. x ∷ bs) (sym h)
 set-same (suc n) b (o ∷ bs) h = ap (λ xs. o ∷ xs) (set-same n b bs h)
 
 -- the world after a client came, and where it didn't
-pub came : (who : ℕ) (bs now : List (Option Buffer)) (cs added : List Client) (r : Rest) (w : Kept) (n : ℕ) → parts bs cs r ≡ w → n ≡ lowest bs → now ≡ changed_at n (listed_for (Of who)) bs
-    → added ≡ cs ++ newcomer who (least_free (numbers_of cs)) n ∷ [] → (parts now added r).flat ≡ joined_by who w.flat
+pub came : {st : List (Option Stored)} {sc : Scoped} (who : ℕ) (bs now : List (Option Buffer)) (cs added : List Client) (r : Rest) (w : Kept) (n : ℕ) → parts bs cs r sc st ≡ w → n ≡ lowest bs → now ≡ changed_at n (listed_for (Of who)) bs
+    → added ≡ cs ++ newcomer who (least_free (numbers_of cs)) n ∷ [] → (parts now added r sc st).flat ≡ joined_by who w.flat
 unfolding joined_by
-came who bs now cs added r w n e l g a =
-    ap (λ x. (parts x added r).flat) g
-    ∙ ap (λ x. (parts (changed_at n (listed_for (Of who)) bs) x r).flat) a
-    ∙ ap (λ k. (parts (changed_at k (listed_for (Of who)) bs) (cs ++ newcomer who (least_free (numbers_of cs)) k ∷ []) r).flat) l
+came {st = st} {sc = sc} who bs now cs added r w n e l g a =
+    ap (λ x. (parts x added r sc st).flat) g
+    ∙ ap (λ x. (parts (changed_at n (listed_for (Of who)) bs) x r sc st).flat) a
+    ∙ ap (λ k. (parts (changed_at k (listed_for (Of who)) bs) (cs ++ newcomer who (least_free (numbers_of cs)) k ∷ []) r sc st).flat) l
     ∙ ap (λ (k : Kept). joined_by who k.flat) e
 
 pub without-new : (who : ℕ) (new : Client) (cs : List Client) → is_here who cs ≡ false → is_of who new ≡ true → filter (λ c. not (is_of who c)) (cs ++ new ∷ []) ≡ cs
@@ -183,19 +188,27 @@ without-new who new (c ∷ cs) h n =
     (λ _ h. ap (λ xs. c ∷ xs) (without-new who new cs h n))
     h
 
-pub came-not : (who : ℕ) (bs now : List (Option Buffer)) (cs added left : List Client) (r : Rest) (w : Kept) (n : ℕ) → parts bs cs r ≡ w → is_here who w.flat.clients ≡ false → now ≡ bs
-    → added ≡ cs ++ newcomer who (least_free (numbers_of cs)) n ∷ [] → left ≡ filter (λ c. not (is_of who c)) added → (parts now left r).flat ≡ w.flat
-came-not who bs now cs added left r w n e away g a l =
-    ap (λ x. (parts x left r).flat) g
-    ∙ ap (λ x. (parts bs x r).flat) (l ∙ ap (filter (λ c. not (is_of who c))) a ∙ without-new who (newcomer who (least_free (numbers_of cs)) n) cs (ap (λ (k : Kept). is_here who k.flat.clients) e ∙ away) (eq-eqb who who refl))
+pub came-not : {st : List (Option Stored)} {sc : Scoped} (who : ℕ) (bs now : List (Option Buffer)) (cs added left : List Client) (r : Rest) (w : Kept) (n : ℕ) → parts bs cs r sc st ≡ w → is_here who w.flat.clients ≡ false → now ≡ bs
+    → added ≡ cs ++ newcomer who (least_free (numbers_of cs)) n ∷ [] → left ≡ filter (λ c. not (is_of who c)) added → (parts now left r sc st).flat ≡ w.flat
+came-not {st = st} {sc = sc} who bs now cs added left r w n e away g a l =
+    ap (λ x. (parts x left r sc st).flat) g
+    ∙ ap (λ x. (parts bs x r sc st).flat) (l ∙ ap (filter (λ c. not (is_of who c))) a ∙ without-new who (newcomer who (least_free (numbers_of cs)) n) cs (ap (λ (k : Kept). is_here who k.flat.clients) e ∙ away) (eq-eqb who who refl))
     ∙ ap (λ (k : Kept). k.flat) e
 
 -- the world after a client went
-pub went : (who : ℕ) (bs gone : List (Option Buffer)) (cs left : List Client) (r : Rest) (options : List Setting) (w : Kept) → parts bs cs r ≡ w → gone ≡ map (option_map (left_behind who)) bs → left ≡ filter (λ c. not (is_of who c)) cs → options ≡ without_client who r.options → (parts gone left (record r { options = options })).flat ≡ left_by_client who w.flat
+pub went : {st : List (Option Stored)} {sc : Scoped} (who : ℕ) (bs gone : List (Option Buffer)) (cs left : List Client) (r : Rest) (options : List Setting) (highlighters : List Highlighter) (tables : TableRows) (w : Kept) → parts bs cs r sc st ≡ w
+    → gone ≡ map (option_map (left_behind who)) bs → left ≡ filter (λ c. not (is_of who c)) cs → options ≡ without_client who r.options
+    → highlighters ≡ highlighters_without (is_of_client who) sc.highlighters → tables ≡ rows_without (is_of_client who) sc.tables
+    → (parts gone left (record r { options = options }) (record { highlighters = highlighters; tables = tables }) st).flat ≡ left_by_client who w.flat
 unfolding left_by_client
-went who bs gone cs left r options w e g l o =
-    ap (λ x. (parts x left (record r { options = options })).flat) g ∙ ap (λ x. (parts (map (option_map (left_behind who)) bs) x (record r { options = options })).flat) l
-    ∙ ap (λ x. (parts (map (option_map (left_behind who)) bs) (filter (λ c. not (is_of who c)) cs) (record r { options = x })).flat) o ∙ ap (λ (k : Kept). left_by_client who k.flat) e
+went {st = st} {sc = sc} who bs gone cs left r options highlighters tables w e g l o h t =
+    let kept : Rest = record r { options = without_client who r.options } in
+    ap (λ x. (parts x left (record r { options = options }) (record { highlighters = highlighters; tables = tables }) st).flat) g
+    ∙ ap (λ x. (parts (map (option_map (left_behind who)) bs) x (record r { options = options }) (record { highlighters = highlighters; tables = tables }) st).flat) l
+    ∙ ap (λ x. (parts (map (option_map (left_behind who)) bs) (filter (λ c. not (is_of who c)) cs) (record r { options = x }) (record { highlighters = highlighters; tables = tables }) st).flat) o
+    ∙ ap (λ x. (parts (map (option_map (left_behind who)) bs) (filter (λ c. not (is_of who c)) cs) kept (record { highlighters = x; tables = tables }) st).flat) h
+    ∙ ap (λ x. (parts (map (option_map (left_behind who)) bs) (filter (λ c. not (is_of who c)) cs) kept (record { highlighters = highlighters_without (is_of_client who) sc.highlighters; tables = x }) st).flat) t
+    ∙ ap (λ (k : Kept). left_by_client who k.flat) e
 
 lowest-mapped : (f : Buffer → Buffer) (bs : List (Option Buffer)) → lowest (map (option_map f) bs) ≡ lowest bs
 lowest-mapped f [] = refl
@@ -209,32 +222,32 @@ has-mapped f bs gone h e = subst HasBuffer (sym e) (record {
 })
 
 -- the story of the buffer that the client sees
-pub story-of : (who : ℕ) (bs : List (Option Buffer)) (cs : List Client) (r : Rest) (w : Kept) (c : Client) (slot : Option Buffer) (b : Buffer) → parts bs cs r ≡ w → c ≡ first_where (is_of who) (newcomer who 0 0) cs → is_joined who w.flat ≡ true → slot ≡ get_or bs c.shown slot → slot ≡ Some b → b.story ≡ story_of who w.flat
+pub story-of : {st : List (Option Stored)} {sc : Scoped} (who : ℕ) (bs : List (Option Buffer)) (cs : List Client) (r : Rest) (w : Kept) (c : Client) (slot : Option Buffer) (b : Buffer) → parts bs cs r sc st ≡ w → c ≡ first_where (is_of who) (newcomer who 0 0) cs → is_joined who w.flat ≡ true → slot ≡ get_or bs c.shown slot → slot ≡ Some b → b.story ≡ story_of who w.flat
 unfolding story_of
-story-of who bs cs r w c slot b e f j g s = ap (λ (x : Buffer). x.story) (buffer-of who bs cs r w c slot b e f j g s)
+story-of {st = st} {sc = sc} who bs cs r w c slot b e f j g s = ap (λ (x : Buffer). x.story) (buffer-of who bs cs r w c slot b e f j g s)
 
 -- the buffer that the client sees was changed
-pub changed-of : (who : ℕ) (bs : List (Option Buffer)) (cs : List Client) (r : Rest) (w : Kept) (c : Client) (slot : Option Buffer) (b to : Buffer) (f : Buffer → Buffer) → parts bs cs r ≡ w → c ≡ first_where (is_of who) (newcomer who 0 0) cs → is_joined who w.flat ≡ true → slot ≡ get_or bs c.shown slot → slot ≡ Some b
-    → to ≡ f b → (parts (set bs c.shown (Some to)) cs r).flat ≡ changed_in (shown_of who w.flat) f w.flat
+pub changed-of : {st : List (Option Stored)} {sc : Scoped} (who : ℕ) (bs : List (Option Buffer)) (cs : List Client) (r : Rest) (w : Kept) (c : Client) (slot : Option Buffer) (b to : Buffer) (f : Buffer → Buffer) → parts bs cs r sc st ≡ w → c ≡ first_where (is_of who) (newcomer who 0 0) cs → is_joined who w.flat ≡ true → slot ≡ get_or bs c.shown slot → slot ≡ Some b
+    → to ≡ f b → (parts (set bs c.shown (Some to)) cs r sc st).flat ≡ changed_in (shown_of who w.flat) f w.flat
 unfolding changed_in
-changed-of who bs cs r w c slot b to f e g j l s t =
-    ap (λ x. (parts (set bs c.shown (Some x)) cs r).flat) t
-    ∙ ap (λ x. (parts x cs r).flat) (set-changed c.shown f b bs (slot-at who bs cs r w c slot b e g j l s))
-    ∙ ap (λ n. (parts (changed_at n f bs) cs r).flat) (shown-of who (parts bs cs r).flat c (client-of who bs cs r (parts bs cs r) c refl g))
+changed-of {st = st} {sc = sc} who bs cs r w c slot b to f e g j l s t =
+    ap (λ x. (parts (set bs c.shown (Some x)) cs r sc st).flat) t
+    ∙ ap (λ x. (parts x cs r sc st).flat) (set-changed c.shown f b bs (slot-at who bs cs r w c slot b e g j l s))
+    ∙ ap (λ n. (parts (changed_at n f bs) cs r sc st).flat) (shown-of who (parts bs cs r sc st).flat c (client-of who bs cs r (parts bs cs r sc st) c refl g))
     ∙ ap (λ (k : Kept). changed_in (shown_of who k.flat) f k.flat) e
 
 -- all pending groups of a client were committed
-pub committed-all : (who : ℕ) (bs now : List (Option Buffer)) (cs : List Client) (r : Rest) (w : Kept) → parts bs cs r ≡ w → now ≡ map (option_map (committed_for who)) bs → (parts now cs r).flat ≡ commits who w.flat
+pub committed-all : {st : List (Option Stored)} {sc : Scoped} (who : ℕ) (bs now : List (Option Buffer)) (cs : List Client) (r : Rest) (w : Kept) → parts bs cs r sc st ≡ w → now ≡ map (option_map (committed_for who)) bs → (parts now cs r sc st).flat ≡ commits who w.flat
 unfolding commits
-committed-all who bs now cs r w e n = ap (λ x. (parts x cs r).flat) n ∙ ap (λ (k : Kept). commits who k.flat) e
+committed-all {st = st} {sc = sc} who bs now cs r w e n = ap (λ x. (parts x cs r sc st).flat) n ∙ ap (λ (k : Kept). commits who k.flat) e
 
 -- it was left as it was
-pub same-of : (who : ℕ) (bs : List (Option Buffer)) (cs : List Client) (r : Rest) (w : Kept) (c : Client) (slot : Option Buffer) (b to : Buffer) → parts bs cs r ≡ w → c ≡ first_where (is_of who) (newcomer who 0 0) cs → is_joined who w.flat ≡ true → slot ≡ get_or bs c.shown slot → slot ≡ Some b
-    → to ≡ b → (parts (set bs c.shown (Some to)) cs r).flat ≡ w.flat
-same-of who bs cs r w c slot b to e g j l s t =
-    ap (λ x. (parts (set bs c.shown (Some x)) cs r).flat) t ∙ ap (λ x. (parts x cs r).flat) (set-same c.shown b bs (slot-at who bs cs r w c slot b e g j l s)) ∙ ap (λ (k : Kept). k.flat) e
+pub same-of : {st : List (Option Stored)} {sc : Scoped} (who : ℕ) (bs : List (Option Buffer)) (cs : List Client) (r : Rest) (w : Kept) (c : Client) (slot : Option Buffer) (b to : Buffer) → parts bs cs r sc st ≡ w → c ≡ first_where (is_of who) (newcomer who 0 0) cs → is_joined who w.flat ≡ true → slot ≡ get_or bs c.shown slot → slot ≡ Some b
+    → to ≡ b → (parts (set bs c.shown (Some to)) cs r sc st).flat ≡ w.flat
+same-of {st = st} {sc = sc} who bs cs r w c slot b to e g j l s t =
+    ap (λ x. (parts (set bs c.shown (Some x)) cs r sc st).flat) t ∙ ap (λ x. (parts x cs r sc st).flat) (set-same c.shown b bs (slot-at who bs cs r w c slot b e g j l s)) ∙ ap (λ (k : Kept). k.flat) e
 
 -- a step of a client begins
-pub entered-flat : (who : ℕ) (bs now : List (Option Buffer)) (cs : List Client) (r : Rest) (w : Kept) → parts bs cs r ≡ w → now ≡ bs → (parts now cs (record r { step = record r.step { turn = Some who } })).flat ≡ takes_turn who w.flat
+pub entered-flat : {st : List (Option Stored)} {sc : Scoped} (who : ℕ) (bs now : List (Option Buffer)) (cs : List Client) (r : Rest) (w : Kept) → parts bs cs r sc st ≡ w → now ≡ bs → (parts now cs (record r { step = record r.step { turn = Some who } }) sc st).flat ≡ takes_turn who w.flat
 unfolding with_rest
-entered-flat who bs now cs r w e b = ap (λ x. (parts x cs (record r { step = record r.step { turn = Some who } })).flat) b ∙ ap (λ (k : Kept). takes_turn who k.flat) e
+entered-flat {st = st} {sc = sc} who bs now cs r w e b = ap (λ x. (parts x cs (record r { step = record r.step { turn = Some who } }) sc st).flat) b ∙ ap (λ (k : Kept). takes_turn who k.flat) e

@@ -1,7 +1,7 @@
 -- The status texts of commands that were refused.
 use Rattle.std.specs.Prelude.{ℕ, List, ◌++◌, codes, chars, decimal}
 use Rattle.kak_world.specs.declared.command_error.CommandError.{CommandError}
-use Rattle.kak_world.specs.declared.command_error.CommandError.TheVariants.{Unclosed, UnknownExpansion, NoSuchCommand, WrongArgumentCount, UnknownSwitch, BadValue, BadSelection, NoSuchRegister, NoSuchOption, NoSuchScope, OptionExists, NoSuchBuffer, TooManyBuffers, ModifiedRemain, FileFault, NotUtf8, Failed}
+use Rattle.kak_world.specs.declared.command_error.CommandError.TheVariants.{Unclosed, UnknownExpansion, NoSuchCommand, WrongArgumentCount, UnknownSwitch, BadValue, BadSelection, NoSuchRegister, NoSuchOption, NoSuchScope, OptionExists, NoSuchBuffer, TooManyBuffers, ModifiedRemain, FileFault, NotUtf8, NoSuchFace, FaceCycle, BadFace, NoSuchHighlighter, HighlighterExists, Failed}
 
 abbrev pub command_text : CommandError → List ℕ
 command_text (Unclosed at) = codes "unclosed at " ++ decimal at
@@ -20,4 +20,9 @@ command_text TooManyBuffers = codes "too many buffers"
 command_text (ModifiedRemain names) = codes "modified buffers remain: " ++ names
 command_text (FileFault word) = codes "file fault: " ++ chars word
 command_text (NotUtf8 at) = codes "not UTF-8 at byte " ++ decimal at
+command_text (NoSuchFace word) = codes "no such face: " ++ chars word
+command_text (FaceCycle word) = codes "face cycle: " ++ chars word
+command_text (BadFace at) = codes "bad face at " ++ decimal at
+command_text (NoSuchHighlighter word) = codes "no such highlighter: " ++ chars word
+command_text (HighlighterExists word) = codes "highlighter exists: " ++ chars word
 command_text (Failed word) = chars word

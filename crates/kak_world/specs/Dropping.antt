@@ -3,10 +3,11 @@ use Rattle.std.specs.Prelude.{◌≡◌, ℕ, zero, suc, true, is_some, if◌the
 use Rattle.std.specs.List.{list_any}
 use Rattle.std.specs.declared.option.Option.{Option}
 use Rattle.std.specs.Prelude.{None}
+use Rattle.scope_options.specs.Scopes.{is_of_buffer}
 use Rattle.scope_options.specs.Settings.{without_buffer}
 use Rattle.list_shelf.specs.declared.holder.Holder.TheVariants.{Of}
 use Rattle.kak_world.specs.declared.clients.Client.{Client}
-use Rattle.kak_world.specs.Flat.{Buffer, Flat, scratch, listed_for, changed_at, lowest, is_joined, turn_of}
+use Rattle.kak_world.specs.Flat.{Buffer, Flat, scratch, listed_for, scoped_without, changed_at, lowest, is_joined, turn_of}
 use Rattle.kak_world.specs.Keeping.{whos_of}
 use Rattle.kak_world.specs.Showing.{seeing_buffer, buffer_placed}
 
@@ -41,12 +42,13 @@ left_without n buffers = or_scratch (emptied n buffers)
 abbrev pub buffers_dropped : ℕ → List Client → List (Option Buffer) → List (Option Buffer)
 buffers_dropped n clients buffers = changed_at (lowest (left_without n buffers)) (listed_for_viewers n clients) (left_without n buffers)
 
--- the world without the buffer of a number, the lists on it and the options that are set there; clients that saw it see the buffer with the least number
+-- the world without the buffer of a number, the lists on it and what is kept of it and of the windows on it; clients that saw it see the buffer with the least number
 unfoldable pub dropped : ℕ → Flat → Flat
 dropped n flat = record flat {
   buffers = buffers_dropped n flat.clients flat.buffers;
   clients = map (moved_on n (lowest (left_without n flat.buffers))) flat.clients;
   rest = record flat.rest { options = without_buffer n flat.rest.options };
+  scoped = scoped_without (is_of_buffer n) flat.scoped;
 }
 
 -- the same clients are there as before, each that had joined has joined still, and it is the same one's turn

@@ -6,7 +6,7 @@ use Rattle.undo_model.specs.declared.travel.Travel.TheVariants.{Undo, Redo, Node
 use Rattle.undo_model.specs.Stories.{opened}
 use Rattle.list_shelf.specs.declared.holder.Holder.TheVariants.{Of}
 use Rattle.list_shelf.specs.Shelves.{Held}
-use Rattle.kak_world.specs.Flat.{Flat, opening, first_rest, is_joined, acts, takes_turn, step_ended, name_of, text_of, sels_of, tabstop_of, story_of, node_number_of, joined_by, left_by_client, buffer_at, numbers_of, fresh_list, newcomer}
+use Rattle.kak_world.specs.Flat.{Flat, opening, first_rest, first_scoped, is_joined, acts, takes_turn, step_ended, name_of, text_of, sels_of, tabstop_of, story_of, node_number_of, joined_by, left_by_client, buffer_at, numbers_of, fresh_list, newcomer}
 use Rattle.kak_world.specs.declared.ask.EditError.TheVariants.{NothingToUndo, NothingToRedo, NoSuchNode}
 use Rattle.kak_world.specs.Changing.{changed_in, buffer_edited, edited_by, traveled_by, commits}
 use Rattle.kak_world.specs.Rows.{Fails, error_text}
@@ -39,6 +39,7 @@ on_text text first second = record {
   buffers = Some (record { name = codes "n"; is_file = true; story = opened text; lists = list_for 7 first ∷ list_for 9 second ∷ [] }) ∷ [];
   clients = newcomer 7 0 0 ∷ newcomer 9 1 0 ∷ [];
   rest = first_rest;
+  scoped = first_scoped;
 }
 
 abbrev pub only_sel_at : ℕ → Selected

@@ -16,8 +16,15 @@ use Rattle.kak_text.specs.declared.widths.TheConstants.{MAX_TABSTOP}
 use Rattle.scope_options.specs.declared.scope.Scope.TheVariants.{Window}
 use Rattle.scope_options.specs.declared.value.OptionValue.{OptionValue}
 use Rattle.scope_options.specs.declared.setting.Setting.{Setting}
+use Rattle.scope_options.specs.declared.scope.Scope.{Scope}
+use Rattle.scope_options.specs.Scopes.{is_of_client}
 use Rattle.scope_options.specs.Settings.{given, seen_from, without_client}
 use Rattle.scope_options.specs.Numbers.{number_within}
+use Rattle.face_texts.specs.declared.rows.NamedFace.{NamedFace}
+use Rattle.face_texts.specs.Given.{given as given_faces}
+use Rattle.highlight_paint.specs.Painters.{Highlighter}
+use Rattle.highlight_paint.specs.Highlighters.{without_scopes as highlighters_without}
+use Rattle.scope_tables.specs.Rows.{TableRows, no_table_rows, without_scopes as rows_without}
 use Rattle.list_shelf.specs.declared.holder.Holder.{Holder}
 use Rattle.list_shelf.specs.declared.holder.Holder.TheVariants.{Of}
 use Rattle.list_shelf.specs.Shelves.{Held, is_held_by}
@@ -40,6 +47,11 @@ pub record Buffer : Type 0 where
   pub story : Story
   pub lists : List Held
 
+-- what is kept by scope, beside options: the highlighters, and the hooks, key maps, aliases and defined commands
+pub record Scoped : Type 0 where
+  pub highlighters : List Highlighter
+  pub tables : TableRows
+
 -- the world
 pub record Flat : Type 0 where
   -- the buffers, each at the place of its number; nothing stands where no buffer has the number
@@ -48,6 +60,8 @@ pub record Flat : Type 0 where
   pub clients : List Client
   -- what is no buffer's and no client's
   pub rest : Rest
+  -- what is kept by scope
+  pub scoped : Scoped
 
 -- the list of one selection, of the character at an offset
 abbrev pub only_at : ℕ → Selected
@@ -67,7 +81,7 @@ scratch = made_buffer (codes "*scratch*") false (10 ∷ [])
 
 -- what a client that has just come has of its own
 abbrev pub first_own : Own
-first_own = record { mode = Normal; count = 0; register = None; pending = None; status = Quiet; appending = false; purpose = Commands; prompt = empty; leaving = false; drawn = false; size = first_size }
+first_own = record { mode = Normal; count = 0; register = None; pending = None; status = Quiet; appending = false; purpose = Commands; prompt = empty; leaving = false; drawn = false; size = first_size; info = None; sent = None }
 
 -- a client that has just come: its number in the history, the number in its name, and that of the buffer that it sees
 abbrev pub newcomer : ℕ → ℕ → ℕ → Client
@@ -77,13 +91,18 @@ newcomer who number shown = record { who = who; number = number; shown = shown; 
 abbrev pub between_steps : Stepping
 between_steps = record { units = 0; turn = None }
 
--- what is no buffer's and no client's before anything happened: no register was set, and the options are those that are given
+-- what is no buffer's and no client's before anything happened: no register was set, and the options and the faces are those
+-- that are given
 abbrev pub first_rest : Rest
-first_rest = record { step = between_steps; registers = []; options = given }
+first_rest = record { step = between_steps; registers = []; options = given; faces = given_faces }
+
+-- what is kept by scope before anything happened: nothing
+abbrev pub first_scoped : Scoped
+first_scoped = record { highlighters = []; tables = no_table_rows }
 
 -- the world before anything happened: the one buffer, and no client
 abbrev pub opening : Flat
-opening = record { buffers = Some scratch ∷ []; clients = []; rest = first_rest }
+opening = record { buffers = Some scratch ∷ []; clients = []; rest = first_rest; scoped = first_scoped }
 
 -- whether a client has that number in the history
 abbrev pub is_of : ℕ → Client → Bool
@@ -183,6 +202,10 @@ is_joined who flat = is_here who flat.clients && (is_there (shown_of who flat) f
 unfoldable pub rest_of : Flat → Rest
 rest_of flat = flat.rest
 
+-- what is kept by scope; each thing that is seen of it is a field of it
+unfoldable pub scoped_of : Flat → Scoped
+scoped_of flat = flat.scoped
+
 -- whose turn it is: the client's whose step is under way
 abbrev pub turn_of : Flat → Option ℕ
 turn_of flat = (rest_of flat).step.turn
@@ -249,6 +272,18 @@ units_of flat = (rest_of flat).step.units
 abbrev pub registers_of : Flat → List Register
 registers_of flat = (rest_of flat).registers
 
+-- the faces that are set
+abbrev pub faces_of : Flat → List NamedFace
+faces_of flat = (rest_of flat).faces
+
+-- the highlighters
+abbrev pub highlighters_of : Flat → List Highlighter
+highlighters_of flat = (scoped_of flat).highlighters
+
+-- the hooks, key maps, aliases and defined commands
+abbrev pub tables_of : Flat → TableRows
+tables_of flat = (scoped_of flat).tables
+
 abbrev pub mode_of : ℕ → Flat → Mode
 mode_of who flat = (own_of who flat).mode
 
@@ -285,13 +320,17 @@ is_drawn who flat = (own_of who flat).drawn
 unfoldable pub with_own : ℕ → (Own → Own) → Flat → Flat
 with_own who f flat = record flat { clients = changed_where (is_of who) (λ c. record c { own = f c.own }) flat.clients }
 
--- the world with other buffers, and with what is no buffer's and no client's changed: each change of the world writes one of its
--- three parts by these two and `with_own`, but where clients come, go or are shown another buffer
+-- the world with other buffers, with what is no buffer's and no client's changed, and with what is kept by scope changed: each
+-- change of the world writes one of its four parts by these three and `with_own`, but where clients come, go or are shown
+-- another buffer, and where a buffer is dropped
 unfoldable pub with_buffers : List (Option Buffer) → Flat → Flat
 with_buffers buffers flat = record flat { buffers = buffers }
 
 unfoldable pub with_rest : (Rest → Rest) → Flat → Flat
 with_rest f flat = record flat { rest = f flat.rest }
+
+unfoldable pub with_scoped : (Scoped → Scoped) → Flat → Flat
+with_scoped f flat = record flat { scoped = f flat.scoped }
 
 -- the world with a client's list on the buffer that it sees changed
 unfoldable pub with_list_of : ℕ → (Held → Held) → Flat → Flat
@@ -326,6 +365,22 @@ with_registers rows flat = with_rest (λ r. record r { registers = rows }) flat
 abbrev pub with_options : List Setting → Flat → Flat
 with_options rows flat = with_rest (λ r. record r { options = rows }) flat
 
+-- the world with other faces that are set
+abbrev pub with_faces : List NamedFace → Flat → Flat
+with_faces rows flat = with_rest (λ r. record r { faces = rows }) flat
+
+-- the world with other highlighters
+abbrev pub with_highlighters : List Highlighter → Flat → Flat
+with_highlighters rows flat = with_scoped (λ s. record s { highlighters = rows }) flat
+
+-- the world with other hooks, key maps, aliases and defined commands
+abbrev pub with_tables : TableRows → Flat → Flat
+with_tables rows flat = with_scoped (λ s. record s { tables = rows }) flat
+
+-- what is kept by scope without that of the scopes that pass a test
+abbrev pub scoped_without : (Scope → Bool) → Scoped → Scoped
+scoped_without goes s = record { highlighters = highlighters_without goes s.highlighters; tables = rows_without goes s.tables }
+
 -- the world with one more client, named by the least number that no other has; it sees the buffer with the least number
 unfoldable pub joined_by : ℕ → Flat → Flat
 joined_by who flat = record flat {
@@ -333,10 +388,11 @@ joined_by who flat = record flat {
   clients = flat.clients ++ newcomer who (least_free (numbers_of flat.clients)) (lowest flat.buffers) ∷ [];
 }
 
--- the world without a client, its lists and the options of its windows; what was pending of it is committed
+-- the world without a client, its lists and what is kept of its windows; what was pending of it is committed
 unfoldable pub left_by_client : ℕ → Flat → Flat
 left_by_client who flat = record flat {
   buffers = map (option_map (left_behind who)) flat.buffers;
   clients = filter (λ c. not (is_of who c)) flat.clients;
   rest = record flat.rest { options = without_client who flat.rest.options };
+  scoped = scoped_without (is_of_client who) flat.scoped;
 }

@@ -13,6 +13,8 @@ use Rattle.list_shelf.specs.declared.rows.ShelfRow.{ShelfRow}
 use Rattle.list_shelf.specs.Shelves.{Shelved, empty_shelf, lists_in, Stands, IsUp, KeepsUp, IsTrimmed}
 use Rattle.kak_world.specs.declared.clients.Client.{Client}
 use Rattle.kak_world.specs.Settled.{SlotIsSettled}
+use Rattle.kak_world.specs.declared.since.Since.{Since}
+use Rattle.kak_world.specs.Stored.{Stored, Began, just_opened, nothing_since, Leaves, LeavesOthersOf, IsTurnAtMost}
 use Rattle.kak_world.specs.Flat.{Buffer, Flat, made_buffer, is_of, is_here, newcomer, lowest, is_there}
 
 -- a buffer, by its name, whether that is a file's, its story, and the shelf of the lists on it: each list is seen as if it had been moved
@@ -20,21 +22,30 @@ use Rattle.kak_world.specs.Flat.{Buffer, Flat, made_buffer, is_of, is_here, newc
 abbrev pub buffer_seen : List ℕ → Bool → Story → Shelved → Buffer
 buffer_seen name is_file story shelf = record { name = name; is_file = is_file; story = story; lists = lists_in story.text shelf }
 
--- a buffer as it is kept: as the flat world has it, and its lists as they are stored, with the log of the changes that they missed
+-- a buffer as it is kept: as the flat world has it, its lists as they are stored, with the log of the changes that they missed, and
+-- what became of it since a step began
 pub record KeptBuffer : Type 0 where
   pub seen : Buffer
   pub shelf : Shelved
+  pub since : Since
 
-abbrev pub buffer_kept : List ℕ → Bool → Story → Shelved → KeptBuffer
-buffer_kept name is_file story shelf = record { seen = buffer_seen name is_file story shelf; shelf = shelf }
+abbrev pub buffer_kept : List ℕ → Bool → Story → Shelved → Since → KeptBuffer
+buffer_kept name is_file story shelf since = record { seen = buffer_seen name is_file story shelf; shelf = shelf; since = since }
 
 -- a buffer that was just opened with a text, with nobody's list on it
 abbrev pub buffer_made : List ℕ → Bool → List ℕ → KeptBuffer
-buffer_made name is_file text = record { seen = made_buffer name is_file text; shelf = empty_shelf MAX_STAMP }
+buffer_made name is_file text = record { seen = made_buffer name is_file text; shelf = empty_shelf MAX_STAMP; since = just_opened }
 
 -- a buffer that is seen otherwise, with its lists as they are stored
 abbrev pub with_seen : (Buffer → Buffer) → KeptBuffer → KeptBuffer
-with_seen f b = record { seen = f b.seen; shelf = b.shelf }
+with_seen f b = record { seen = f b.seen; shelf = b.shelf; since = b.since }
+
+-- what is stored of it
+abbrev pub stored_of : KeptBuffer → Stored
+stored_of b = record { shelf = b.shelf; since = b.since }
+
+abbrev pub all_stored : List (Option KeptBuffer) → List (Option Stored)
+all_stored buffers = map (option_map stored_of) buffers
 
 -- a shelf is that of a text, and its log holds no shift that no list has yet to go through
 pub record IsShelfOf (text : List ℕ) (shelf : Shelved) : Type 0 where
@@ -72,6 +83,37 @@ AllKeepUp old new = (n : ℕ) → SlotKeepsUp (slice_index_or old n None) (slice
 abbrev pub TurnIsUp : Option ℕ → List Client → List (Option KeptBuffer) → Type 0
 TurnIsUp turn clients buffers = (who : ℕ) → turn ≡ Some who → is_here who clients ≡ true → SlotIsUp (Of who) (slice_index_or buffers (first_where (is_of who) (newcomer who 0 0) clients).shown None)
 
+-- what others have on a buffer is left as it is stored: where the buffer is there still, it was there, or it was opened in the step
+abbrev pub SlotLeaves : Holder → Option KeptBuffer → Option KeptBuffer → Type 0
+SlotLeaves holder old None = Unit {0}
+SlotLeaves holder None (Some new) = new.since.is_new ≡ false → new.since.began_again ≡ false → ⊥
+SlotLeaves holder (Some old) (Some new) = Leaves holder (stored_of old) (stored_of new)
+
+-- and so on each buffer
+abbrev pub AllLeave : Holder → List (Option KeptBuffer) → List (Option KeptBuffer) → Type 0
+AllLeave holder old new = (n : ℕ) → SlotLeaves holder (slice_index_or old n None) (slice_index_or new n None)
+
+-- a step under way: the turn is that of the client whose step it is, or nobody's, and what others had when it began is left as it was stored
+pub record StepStands (began : Began) (now : Option ℕ) (buffers : List (Option KeptBuffer)) : Type 0 where
+  pub turn : IsTurnAtMost began.who now
+  pub others : LeavesOthersOf began.who began.stored (all_stored buffers)
+
+-- where something is said of the step
+abbrev pub IsInStep : Option Began → Option ℕ → List (Option KeptBuffer) → Type 0
+IsInStep None turn buffers = Unit {0}
+IsInStep (Some began) turn buffers = StepStands began turn buffers
+
+-- a buffer with which a step begins: nothing became of it since
+abbrev pub begun_in : KeptBuffer → KeptBuffer
+begun_in b = record { seen = b.seen; shelf = b.shelf; since = nothing_since }
+
+-- nothing became of a buffer since the step began, where there is one, and of none of them
+abbrev pub SlotIsCalm : Option KeptBuffer → Type 0
+SlotIsCalm slot = IfSome slot (λ b. b.since ≡ nothing_since)
+
+abbrev pub AreCalm : List (Option KeptBuffer) → Type 0
+AreCalm buffers = AllByRecursion SlotIsCalm buffers
+
 -- some buffer is there, and their numbers are below 1,024
 pub record HasBuffer (buffers : List (Option Buffer)) : Type 0 where
   pub some : is_there (lowest buffers) buffers ≡ true
@@ -92,15 +134,19 @@ KeptIsQuiet slot = SlotIsQuiet (slot_seen slot)
 abbrev pub KeptIsSettled : Option KeptBuffer → Type 0
 KeptIsSettled slot = SlotIsSettled (slot_seen slot)
 
--- buffers as a world keeps them, which knows where nothing is pending, and whose turn it is
-pub record BuffersStand (may_pend : Bool) (turn : Option ℕ) (clients : List Client) (buffers : List (Option KeptBuffer)) : Type 0 where
+-- buffers as a world keeps them, which knows in what step it is, where nothing is pending, where nothing became of them since that
+-- began, and whose turn it is
+pub record BuffersStand (began : Option Began) (may_pend may_differ : Bool) (turn : Option ℕ) (clients : List Client) (buffers : List (Option KeptBuffer)) : Type 0 where
   pub has : HasBuffer (all_seen buffers)
   pub quiet : may_pend ≡ false → AreQuiet (all_seen buffers)
+  pub calm : may_differ ≡ false → AreCalm buffers
   pub up : TurnIsUp turn clients buffers
+  pub step : IsInStep began turn buffers
 
--- the world as contracts see it
+-- the world as contracts see it: the flat world, and what is stored of the lists on each buffer, by its number
 pub record Kept : Type 0 where
   pub flat : Flat
+  pub stored : List (Option Stored)
 
 -- an answer without a value, with this value where it is well
 abbrev pub CarriesValue : {T E : Type 0} → Result (Unit {0}) E → T → Result T E → Type 0

@@ -1,16 +1,16 @@
 //! A buffer: a text under a name, with the selection lists on it.
 
-ghost use Rattle.std.specs.Prelude.{◌≡◌, ◌<◌, ◌≤◌, ◌+◌, ◌^◌, ◌↔◌, ◌⊎◌, true, false, is_some, length, None, Ok, Err, IfOk, IfErr, OnOk, OnErr, IsErrOf};
+ghost use Rattle.std.specs.Prelude.{◌≡◌, ◌<◌, ◌≤◌, ◌+◌, ◌^◌, ◌↔◌, ◌⊎◌, true, false, is_some, length, None, Ok, Err, [], IfOk, IfErr, OnOk, OnErr, IsOk, IsErrOf, IsTrue};
 ghost use Rattle.list_model.specs.Ranges.{Selected};
 ghost use Rattle.selection_set.specs.Held.{selected, IsHeld};
 ghost use Rattle.undo_model.specs.Steps.{AreSteps};
 ghost use Rattle.undo_model.specs.declared.TheConstants.{MAX_NODES};
 ghost use Rattle.undo_model.specs.Stories.{committed, is_undo_full, is_modified};
 ghost use Rattle.kak_world.specs.Saving.{marked_as_saved, is_unsaved};
-ghost use Rattle.undo_model.specs.Moves.{target_of};
+ghost use Rattle.undo_model.specs.Moves.{target_of, move_changes};
 ghost use Rattle.undo_model.specs.Edits.{is_too_long};
 ghost use Rattle.list_shelf.specs.declared.holder.Holder.TheVariants.{Of};
-ghost use Rattle.list_shelf.specs.Shelves.{row_of, entered, IsUp, KeepsUp, LeavesOthers};
+ghost use Rattle.list_shelf.specs.Shelves.{same_holder, has_room, row_of, entered, all_noted, all_moved, CanFollow, IsUp, KeepsUp, LeavesRows};
 ghost use Rattle.buffer_store.specs.declared.errors.BufferError.TheVariants.{UndoFull, TextFull};
 ghost use Rattle.buffer_store.specs.declared.errors.BufferError.TheVariants as edit;
 ghost use Rattle.buffer_store.specs.declared.errors.MoveError.TheVariants as move;
@@ -20,11 +20,13 @@ ghost use Rattle.kak_world.specs.Editing.{is_full_for};
 ghost use Rattle.kak_world.specs.Flat.{has_list, list_on, with_list, listed_for, unlisted_for, committed_for};
 ghost use Rattle.kak_world.specs.Settled.{ListsAreSettled};
 ghost use Rattle.kak_world.specs.Dropping.{listed_for_viewers};
-ghost use Rattle.kak_world.specs.Seen.{buffer_made, with_seen, and_then, CarriesValue};
+ghost use Rattle.kak_world.specs.Seen.{buffer_made, begun_in, with_seen, stored_of, and_then, CarriesValue};
+ghost use Rattle.kak_world.specs.Stored.{nothing_since, since_behind, is_nobody, LeavesBut, Leaves};
 ghost use Rattle.kak_world.specs.Changing.{buffer_edited, buffer_traveled, IsSomeEdited, IsCutMove};
 
 use crate::clients::Client;
 use crate::lists::{add_first, add_for_viewers};
+use crate::since::Since;
 use buffer_store::{Buffer as Store, BufferError, MoveError, Splice};
 use kak_text::{Chars, Shift};
 use line_buffer::Lines;
@@ -44,6 +46,7 @@ pub struct WorldBuffer {
     is_file: bool,
     store: Store,
     shelf: Shelf,
+    since: Since,
 }
 
 impl Model for WorldBuffer {
@@ -51,7 +54,7 @@ impl Model for WorldBuffer {
 
     ghost Value = { KeptBuffer };
 
-    ghost view = { λ b. buffer_kept b.name b.is_file b.store b.shelf };
+    ghost view = { λ b. buffer_kept b.name b.is_file b.store b.shelf b.since };
 
     ghost invariant = { λ b. IsShelfOf b.store.text b.shelf };
 }
@@ -89,6 +92,21 @@ fn moved(noted: Result<(), AllocError>) -> Result<(), MoveError>
     }
 }
 
+// Notes the shifts of changes that a holder made, and brings its list up to date, as the shelf does; no memory is wanting where there
+// are none.
+fn note_for(shelf: &mut Shelf, holder: Holder, shifts: &[Shift]) -> Result<(), AllocError>
+    requires { CanFollow shelf.old shifts.now }
+    ensures ok { OnOk result (shelf.new ≡ entered holder (all_noted shifts.now shelf.old)) }
+    ensures err { OnErr result (shelf.new ≡ entered holder (all_moved shifts.now shelf.old)) }
+    ensures none { shifts.now ≡ [] → IsOk result }
+{
+    if shifts.is_empty() {
+        shelf.enter(holder);
+        return Ok(());
+    }
+    shelf.note_for(holder, shifts)
+}
+
 impl WorldBuffer {
     /// A buffer with a text that counts as saved, and nobody's list on it.
     pub fn new(
@@ -104,6 +122,7 @@ impl WorldBuffer {
             is_file,
             store: Store::new(alloc, lines)?,
             shelf: Shelf::new(alloc),
+            since: Since::just_opened(),
         })
     }
 
@@ -206,12 +225,27 @@ impl WorldBuffer {
         self.shelf.corner(holder)
     }
 
+    /// Whether nothing became of it since the step began.
+    pub(crate) fn is_calm(&self) -> bool
+        ensures { IsTrue result → self.now.since ≡ nothing_since }
+    {
+        self.since.is_nothing()
+    }
+
+    /// A step begins: nothing became of it since.
+    pub fn begin_step(&mut self)
+        ensures { self.new ≡ begun_in self.old }
+    {
+        self.since = Since::nothing();
+    }
+
     /// Brings a holder's list up to date, where it has one, and drops what no list has yet to go through then. All other lists
     /// are left as they are stored. Takes no memory.
     pub fn enter(&mut self, holder: Holder)
         ensures seen { self.new.seen ≡ self.old.seen }
         ensures shelf { self.new.shelf ≡ entered holder self.old.shelf }
         ensures up { IsUp holder self.new.shelf }
+        ensures stays { LeavesBut (same_holder holder) (stored_of self.old) (stored_of self.new) }
     {
         self.shelf.enter(holder);
     }
@@ -222,6 +256,7 @@ impl WorldBuffer {
         requires held { IsHeld self.old.seen.story.text sels }
         ensures seen { self.new.seen ≡ with_list holder (λ held. record held { sels = selected self.old.seen.story.text sels }) self.old.seen }
         ensures up { KeepsUp self.old.shelf self.new.shelf }
+        ensures stays { LeavesBut (same_holder holder) (stored_of self.old) (stored_of self.new) }
     {
         self.shelf.set_sels(holder, sels);
         self.shelf.trim();
@@ -234,6 +269,7 @@ impl WorldBuffer {
         requires there { n < length (list_on holder self.old.seen).sels.list }
         ensures seen { self.new.seen ≡ with_list holder (λ held. record held { sels = record { list = (list_on holder self.old.seen).sels.list; main = n } }) self.old.seen }
         ensures up { KeepsUp self.old.shelf self.new.shelf }
+        ensures stays { LeavesBut (same_holder holder) (stored_of self.old) (stored_of self.new) }
     {
         self.shelf.set_main(holder, n);
     }
@@ -243,6 +279,7 @@ impl WorldBuffer {
         requires { has_list holder self.old.seen ≡ true }
         ensures seen { self.new.seen ≡ with_list holder (λ held. record held { corner = corner }) self.old.seen }
         ensures up { KeepsUp self.old.shelf self.new.shelf }
+        ensures stays { LeavesBut (same_holder holder) (stored_of self.old) (stored_of self.new) }
     {
         self.shelf.set_corner(holder, corner);
     }
@@ -251,6 +288,7 @@ impl WorldBuffer {
     pub fn add_list(&mut self, alloc: Global, holder: Holder) -> Result<(), AllocError>
         ensures ok { OnOk result (self.new.seen ≡ listed_for holder self.old.seen) }
         ensures up { OnOk result (KeepsUp self.old.shelf self.new.shelf) }
+        ensures stays { OnOk result (LeavesBut is_nobody (stored_of self.old) (stored_of self.new)) }
         ensures err { OnErr result (self.new ≡ self.old) }
     {
         add_first(&mut self.shelf, alloc, self.store.lines(), holder)
@@ -266,6 +304,7 @@ impl WorldBuffer {
     ) -> Result<(), AllocError>
         ensures ok { OnOk result (self.new.seen ≡ listed_for_viewers n clients.now self.old.seen) }
         ensures up { OnOk result (KeepsUp self.old.shelf self.new.shelf) }
+        ensures stays { OnOk result (LeavesBut is_nobody (stored_of self.old) (stored_of self.new)) }
         ensures err { OnErr result (self.new ≡ self.old) }
     {
         add_for_viewers(&mut self.shelf, alloc, self.store.lines(), n, clients)
@@ -275,6 +314,7 @@ impl WorldBuffer {
     pub fn drop_lists(&mut self, holder: Holder)
         ensures seen { self.new.seen ≡ unlisted_for holder self.old.seen }
         ensures up { KeepsUp self.old.shelf self.new.shelf }
+        ensures stays { LeavesBut (same_holder holder) (stored_of self.old) (stored_of self.new) }
     {
         self.shelf.drop_lists(holder);
         self.shelf.trim();
@@ -334,12 +374,17 @@ impl WorldBuffer {
         ensures text_left { IsErrOf result TextFull → self.new.seen ≡ self.old.seen }
         ensures err { OnErr result (IsSomeEdited who (changes_of self.old.seen.story.text splices.now) self.old.seen self.new.seen) }
         ensures up { IsUp (Of who) self.new.shelf }
-        ensures others { IfOk result (λ shifts. LeavesOthers (Of who) (length shifts.items) self.old.shelf self.new.shelf) }
+        ensures others { IfOk result (λ shifts. LeavesRows (Of who) (length shifts.items) self.old.shelf self.new.shelf) }
+        ensures stays { Leaves (Of who) (stored_of self.old) (stored_of self.new) }
+        ensures since { IfOk result (λ shifts. self.new.since ≡ since_behind (has_room (length shifts.items) self.old.shelf) self.old.since) }
+        ensures refused { (IsErrOf result UndoFull ⊎ IsErrOf result TextFull) → self.new.since ≡ self.old.since }
     {
         self.store.is_story();
         let mut shifts = Vec::new(alloc);
         let done = self.store.edit(alloc, who, splices, &mut shifts);
-        let noted = self.shelf.note_for(Holder::Of(who), shifts.as_slice());
+        let has_room = self.shelf.has_room(shifts.len());
+        let noted = note_for(&mut self.shelf, Holder::Of(who), shifts.as_slice());
+        self.since = self.since.behind(has_room, &noted);
         carrying(both(done, noted), shifts)
     }
 
@@ -355,11 +400,18 @@ impl WorldBuffer {
         ensures refused { IfErr result (λ e. (e ≡ move.NoMemory) ⊎ (target_of travel self.old.seen.story ≡ None)) }
         ensures err { OnErr result (IsCutMove holder travel self.old.seen self.new.seen) }
         ensures up { IsUp holder self.new.shelf }
+        ensures others { OnOk result (LeavesRows holder (length (move_changes travel self.old.seen.story)) self.old.shelf self.new.shelf) }
+        ensures stays { Leaves holder (stored_of self.old) (stored_of self.new) }
+        ensures since { OnOk result (self.new.since ≡
+            since_behind (has_room (length (move_changes travel self.old.seen.story)) self.old.shelf) self.old.since) }
+        ensures still { target_of travel self.old.seen.story ≡ None → self.new.since ≡ self.old.since }
     {
         self.store.is_story();
         let mut shifts = Vec::new(alloc);
         let left = self.store.travel(alloc, travel, &mut shifts);
-        let noted = self.shelf.note_for(holder, shifts.as_slice());
+        let has_room = self.shelf.has_room(shifts.len());
+        let noted = note_for(&mut self.shelf, holder, shifts.as_slice());
+        self.since = self.since.behind(has_room, &noted);
         match left {
             Ok(Some(sels)) => {
                 self.set_sels(holder, sels);

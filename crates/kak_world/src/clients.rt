@@ -174,6 +174,8 @@ impl Clients {
                 leaving: false,
                 drawn: false,
                 size: Size::first(),
+                info: None,
+                sent: None,
             },
         };
         self.rows.push(client)?;

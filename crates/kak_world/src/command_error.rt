@@ -45,6 +45,16 @@ const FILE_FAULT: &str = "file fault: ";
 
 const NOT_UTF8: &str = "not UTF-8 at byte ";
 
+const NO_SUCH_FACE: &str = "no such face: ";
+
+const FACE_CYCLE: &str = "face cycle: ";
+
+const BAD_FACE_AT: &str = "bad face at ";
+
+const NO_SUCH_HIGHLIGHTER: &str = "no such highlighter: ";
+
+const HIGHLIGHTER_EXISTS: &str = "highlighter exists: ";
+
 /// Why a command was refused. Its status text is what the user is told.
 #[derive(Drop, Debug, Error)]
 pub enum CommandError {
@@ -96,6 +106,21 @@ pub enum CommandError {
     /// The byte of the file, from 0, at which no character of UTF-8 begins.
     #[error("{text}{0}", text = NOT_UTF8)]
     NotUtf8(usize),
+    /// No face of this name is set.
+    #[error("{text}{0}", text = NO_SUCH_FACE)]
+    NoSuchFace(Utf8Text),
+    /// Following bases would come back to the face of this name.
+    #[error("{text}{0}", text = FACE_CYCLE)]
+    FaceCycle(Utf8Text),
+    /// The character of a text, from 0, at which no face can be read.
+    #[error("{text}{0}", text = BAD_FACE_AT)]
+    BadFace(usize),
+    /// There is no highlighter of this path, none can stand there, or it is no type of one.
+    #[error("{text}{0}", text = NO_SUCH_HIGHLIGHTER)]
+    NoSuchHighlighter(Utf8Text),
+    /// There is a highlighter of this path.
+    #[error("{text}{0}", text = HIGHLIGHTER_EXISTS)]
+    HighlighterExists(Utf8Text),
     /// It was to fail, with this text.
     #[error("{0}")]
     Failed(Utf8Text),
@@ -162,6 +187,11 @@ impl CommandError {
             CommandError::ModifiedRemain(names) => with_names(alloc, MODIFIED_REMAIN, names),
             CommandError::FileFault(word) => with_word(alloc, FILE_FAULT, word),
             CommandError::NotUtf8(at) => with_number(alloc, NOT_UTF8, *at),
+            CommandError::NoSuchFace(word) => with_word(alloc, NO_SUCH_FACE, word),
+            CommandError::FaceCycle(word) => with_word(alloc, FACE_CYCLE, word),
+            CommandError::BadFace(at) => with_number(alloc, BAD_FACE_AT, *at),
+            CommandError::NoSuchHighlighter(word) => with_word(alloc, NO_SUCH_HIGHLIGHTER, word),
+            CommandError::HighlighterExists(word) => with_word(alloc, HIGHLIGHTER_EXISTS, word),
             CommandError::Failed(word) => Chars::from_str(alloc, word.as_str()),
         }
     }

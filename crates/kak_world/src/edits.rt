@@ -12,13 +12,16 @@ ghost use Rattle.kak_world.specs.Changing.{edited_by, commits, IsAfterSomeChange
 ghost use Rattle.kak_world.specs.Editing.{edit_row, long_refusal, travel_row};
 ghost use Rattle.kak_world.specs.Rows.{Answers};
 ghost use Rattle.kak_world.specs.Seen.{with_seen, KeptIsQuiet};
+ghost use Rattle.kak_world.specs.Stored.{nothing_since};
 
 use crate::ask::EditError;
 use crate::buffer::WorldBuffer;
+use crate::turn::Turn;
 use crate::world::World;
 use buffer_store::Splice;
 use kak_text::Shift;
 use list_shelf::Holder;
+use regex_ports::Pattern;
 use std::alloc::Global;
 use undo_model::Travel;
 
@@ -63,7 +66,17 @@ fn any_pending(buffers: &[Option<WorldBuffer>]) -> bool
     false
 }
 
-impl World {
+// Whether something may have become of a buffer since the step began, behind a change of one of them.
+fn differs_behind(may_differ: bool, buffer: &WorldBuffer) -> bool
+    ensures { result ≡ false → (may_differ ≡ false) × (buffer.now.since ≡ nothing_since) }
+{
+    if may_differ {
+        return true;
+    }
+    !buffer.is_calm()
+}
+
+impl<P: Pattern, T: Turn> World<P, T> {
     /// Makes the replacements of a client whose turn it is in the text that it sees, from the first to the last, and gives the
     /// shifts of the single changes. Each single change moves every list on that text, whoever holds it. `UndoFull` and `TextFull` leave the world;
     /// after want of memory it is as it is behind some of the single changes, from the first on.
@@ -85,10 +98,14 @@ impl World {
         let n = self.clients.client(who).shown as usize;
         match &mut self.buffers[n] {
             None => unreachable!(),
-            Some(buffer) => match buffer.edit(alloc, who, splices) {
-                Ok(shifts) => Ok(shifts),
-                Err(error) => Err(EditError::from(error)),
-            },
+            Some(buffer) => {
+                let done = buffer.edit(alloc, who, splices);
+                self.may_differ = differs_behind(self.may_differ, buffer);
+                match done {
+                    Ok(shifts) => Ok(shifts),
+                    Err(error) => Err(EditError::from(error)),
+                }
+            }
         }
     }
 
@@ -119,10 +136,14 @@ impl World {
         let n = self.clients.client(who).shown as usize;
         match &mut self.buffers[n] {
             None => unreachable!(),
-            Some(buffer) => match buffer.travel(alloc, Holder::Of(who), travel) {
-                Ok(()) => Ok(()),
-                Err(error) => Err(EditError::from(error)),
-            },
+            Some(buffer) => {
+                let done = buffer.travel(alloc, Holder::Of(who), travel);
+                self.may_differ = differs_behind(self.may_differ, buffer);
+                match done {
+                    Ok(()) => Ok(()),
+                    Err(error) => Err(EditError::from(error)),
+                }
+            }
         }
     }
 

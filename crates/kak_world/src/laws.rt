@@ -4,8 +4,10 @@ ghost use Rattle.kak_world.specs.DroppingExamples.{DroppingExamples};
 ghost use Rattle.kak_world.specs.Examples.{Examples};
 ghost use Rattle.kak_world.specs.Names.{NamesAreLeast};
 ghost use Rattle.kak_world.specs.Showing.{GapsAreTaken};
+ghost use Rattle.kak_world.specs.ScopedExamples.{ScopedExamples};
 ghost use Rattle.kak_world.specs.ShowingExamples.{ShowingExamples};
 ghost use Rattle.kak_world.specs.WindowExamples.{WindowExamples};
+ghost use Rattle.kak_world.specs.StoredExamples.{StoredExamples};
 ghost use Rattle.std.specs.Prelude.{◌≡◌};
 
 use crate::options::MAX_INDENT;
@@ -52,4 +54,15 @@ pub fn window_examples()
 #[tactic(auto, unfolding(crate::specs::Flat::client_of, crate::specs::Flat::shown_of, crate::specs::Flat::rest_of, crate::specs::Flat::buffer_of, crate::specs::Flat::list_of, crate::specs::Flat::is_joined, crate::specs::Flat::name_of, crate::specs::Flat::sels_of, crate::specs::Flat::with_list_of, crate::specs::Flat::with_sels, crate::specs::Flat::joined_by, crate::specs::Showing::shows, crate::specs::Showing::buffer_opened, crate::specs::Dropping::dropped))]
 pub fn dropping_examples()
     ensures { DroppingExamples }
+{}
+
+/// Worked examples of what is kept by scope: it goes with its client or its buffer.
+#[tactic(auto, unfolding(crate::specs::Flat::client_of, crate::specs::Flat::shown_of, crate::specs::Flat::rest_of, crate::specs::Flat::scoped_of, crate::specs::Flat::buffer_of, crate::specs::Flat::list_of, crate::specs::Flat::is_joined, crate::specs::Flat::with_scoped, crate::specs::Flat::with_list_of, crate::specs::Flat::with_sels, crate::specs::Flat::joined_by, crate::specs::Flat::left_by_client, crate::specs::Showing::shows, crate::specs::Showing::buffer_opened, crate::specs::Dropping::dropped))]
+pub fn scoped_examples()
+    ensures { ScopedExamples }
+{}
+
+/// Worked examples of what a step leaves as it is stored: what others have, with exactly the exceptions that are meant.
+pub fn stored_examples()
+    ensures { StoredExamples }
 {}

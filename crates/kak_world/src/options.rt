@@ -6,9 +6,11 @@ ghost use Rattle.scope_options.specs.Changes.{declare_in, option_set_in, option_
 ghost use Rattle.kak_world.specs.Flat.{is_joined, options_of, with_options, tabstop_of, indentwidth_of};
 ghost use Rattle.kak_world.specs.declared.options.TheConstants.{MAX_INDENT};
 
+use crate::turn::Turn;
 use crate::world::World;
 use byte_texts::Words;
 use kak_text::MAX_TABSTOP;
+use regex_ports::Pattern;
 use scope_options::{OptionError, OptionType, Options, Scope};
 use std::alloc::Global;
 use window_view::Tabstop;
@@ -16,7 +18,7 @@ use window_view::Tabstop;
 /// The most columns that a line is indented by at once.
 pub const MAX_INDENT: u32 = 64;
 
-impl World {
+impl<P: Pattern, T: Turn> World<P, T> {
     /// What options are set to.
     pub fn options(&self) -> &Options
         ensures { result.now ≡ options_of self.now.flat }

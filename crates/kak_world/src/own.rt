@@ -2,6 +2,7 @@
 
 use crate::purpose::Purpose;
 use edit_line::EditLine;
+use kak_faces::Face;
 use kak_text::Chars;
 use key_names::Key;
 use window_view::Size;
@@ -23,6 +24,21 @@ pub enum StatusText {
     Said(Chars),
     /// Why a key or a command was refused.
     Refused(Chars),
+}
+
+/// A box that a client is to be shown: its title, which may be empty, and its content, of lines with newlines between them.
+#[derive(Drop, Debug)]
+pub struct Note {
+    pub title: Chars,
+    pub content: Chars,
+}
+
+/// A box as a drawing had it.
+#[derive(Drop, Debug)]
+pub struct SentBox {
+    pub title: Chars,
+    pub content: Chars,
+    pub face: Face,
 }
 
 /// What is a client's own.
@@ -48,4 +64,8 @@ pub struct Own {
     pub drawn: bool,
     /// How many rows and columns each of its windows has, also one on a buffer that it sees later.
     pub size: Size,
+    /// The box that it is to be shown, if there is one.
+    pub info: Option<Note>,
+    /// The box as its last drawing had it, if that had one.
+    pub sent: Option<SentBox>,
 }

@@ -1,7 +1,11 @@
 //! What patterns and prompts are for.
 
+use byte_texts::Utf8Text;
 use directions::Direction;
+use highlight_paint::GroupFace;
 use kak_text::Chars;
+use scope_options::Scope;
+use sequences::Seq;
 
 /// What is done with the matches of a pattern.
 #[derive(Clone, Copy, PartialEq, Eq, Debug)]
@@ -24,11 +28,32 @@ pub enum Use {
     Add(Direction, u32),
 }
 
-/// A pattern that is to be made of a text, and what is done with its matches.
+/// A highlighter that waits for its pattern.
+#[derive(Drop, Debug)]
+pub struct NewHighlighter {
+    pub scope: Scope,
+    /// Its path, without the word of the scope.
+    pub path: Utf8Text,
+    /// The groups of the pattern that have a face.
+    pub groups: Seq<GroupFace>,
+    /// Whether one of its path may be replaced.
+    pub replace: bool,
+}
+
+/// What a pattern is made for.
+#[derive(Drop, Debug)]
+pub enum Wanted {
+    /// A use is made of its matches.
+    Selects(Use),
+    /// A highlighter is added.
+    Paints(NewHighlighter),
+}
+
+/// A pattern that is to be made of a text, and what it is made for.
 #[derive(Drop, Debug)]
 pub struct PatternUse {
     pub pattern: Chars,
-    pub then: Use,
+    pub then: Wanted,
 }
 
 /// What the line of a prompt is taken as when it is accepted.

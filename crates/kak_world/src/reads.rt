@@ -14,9 +14,11 @@ ghost use Rattle.kak_world.specs.Flat.{is_there, turn_of, is_turn_of, shown_of, 
 
 use crate::buffer::WorldBuffer;
 use crate::own::Own;
+use crate::turn::Turn;
 use crate::world::World;
 use line_buffer::Lines;
 use list_shelf::Holder;
+use regex_ports::Pattern;
 use selection_set::Sels;
 use std::alloc::{AllocError, Global};
 use window_view::{Corner, Window};
@@ -34,7 +36,7 @@ fn has_list_at(buffers: &[Option<WorldBuffer>], n: u32, holder: Holder) -> bool
     }
 }
 
-impl World {
+impl<P: Pattern, T: Turn> World<P, T> {
     ghost use Rattle.kak_world.specs.LendingWorld.{LendsOwn};
 
     // The buffer that a client sees; its list there is up to date where it is its turn.
@@ -105,7 +107,7 @@ impl World {
     /// What is a client's own, to be changed.
     pub fn own_mut(&mut self, who: u32) -> &mut Own
         requires { is_joined who self.old.flat ≡ true }
-        ensures* writes_back { sem 𝓛 (LendsOwn self.entry who result) }
+        ensures* writes_back { sem 𝓛 (LendsOwn P.row T.row P.Pattern T.Turn self.entry who result) }
         ensures value { result.now ≡ own_of who self.old.flat }
     {
         self.clients.own_mut(who)
@@ -163,9 +165,9 @@ impl World {
         Window::of(self.shown(who).corner(Holder::Of(who)), own.size)
     }
 
-    /// Changes the selections of a client, to a settled list inside the text that it sees.
+    /// Changes the selections of a client whose turn it is, to a settled list inside the text that it sees.
     pub fn set_sels(&mut self, who: u32, sels: Sels)
-        requires joined { is_joined who self.old.flat ≡ true }
+        requires acts { acts who self.old.flat ≡ true }
         requires held { IsHeld (text_of who self.old.flat) sels }
         ensures { self.new.flat ≡ with_sels who (selected (text_of who self.old.flat) sels) self.old.flat }
     {
@@ -189,9 +191,9 @@ impl World {
         }
     }
 
-    // Lets a client's window on the buffer that it sees stand elsewhere.
+    // Lets the window of a client whose turn it is stand elsewhere on the buffer that it sees.
     fn set_corner(&mut self, who: u32, corner: Corner)
-        requires { is_joined who self.old.flat ≡ true }
+        requires { acts who self.old.flat ≡ true }
         ensures { self.new.flat ≡ with_corner who corner self.old.flat }
     {
         let n = self.clients.client(who).shown as usize;
@@ -201,10 +203,11 @@ impl World {
         }
     }
 
-    /// Lets a client's window follow a cursor: its line, the display column of its first cell, the number of its
+    /// Lets the window of a client whose turn it is follow a cursor: its line, the display column of its first cell, the number of its
     /// cells, and the number of cells that stand before the text. Its corner alone changes, and that on this buffer alone.
+    #[tactic(auto, using(crate::proofs::WorldLaws::acts_joined))]
     pub fn follow(&mut self, who: u32, line: u32, column: u32, width: u32, gutter: u32)
-        requires joined { is_joined who self.old.flat ≡ true }
+        requires acts { acts who self.old.flat ≡ true }
         requires fits { column + width < 2 ^ 32 }
         ensures { self.new.flat ≡ with_corner who (corner_of (followed (view_of who self.old.flat) line column width gutter)) self.old.flat }
     {

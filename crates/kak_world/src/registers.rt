@@ -7,11 +7,13 @@ ghost use Rattle.kak_world.specs.Registers.{with_register, set_row};
 ghost use Rattle.kak_world.specs.Rows.{Answers};
 
 use crate::ask::EditError;
+use crate::turn::Turn;
 use crate::world::World;
 use byte_texts::Words;
 use kak_registers::Registers;
+use regex_ports::Pattern;
 
-impl World {
+impl<P: Pattern, T: Turn> World<P, T> {
     /// What the registers hold.
     #[tactic(auto, unfolding(crate::specs::Flat::rest_of))]
     pub fn registers(&self) -> &Registers

@@ -6,8 +6,10 @@ ghost use Rattle.kak_world.specs.Seen.{with_seen, slot_seen};
 ghost use Rattle.kak_world.specs.Saving.{is_named, number_named, buffer_number_from, marked_as_saved, saved_in, is_unsaved, with_name, unsaved_behind, unsaved_names, others_leave};
 
 use crate::buffer::WorldBuffer;
+use crate::turn::Turn;
 use crate::world::World;
 use kak_text::Chars;
+use regex_ports::Pattern;
 use std::alloc::{AllocError, Global};
 
 // Whether there is a buffer, of that name.
@@ -61,7 +63,7 @@ fn with_unsaved(
     Ok(Some(with_name(alloc, names, buffer.name())?))
 }
 
-impl World {
+impl<P: Pattern, T: Turn> World<P, T> {
     /// The least number of a buffer of that name, if there is one.
     pub fn number_named(&self, name: &[char]) -> Option<u32>
         ensures value { result ≡ number_named name.now self.now.flat }

@@ -1,17 +1,20 @@
 //! Buffers that are opened, each under the least number that no other has.
 
-ghost use Rattle.std.specs.Prelude.{◌≡◌, ◌≤◌, [], IfOk, OnOk, OnErr, Err, length};
+ghost use Rattle.std.specs.Prelude.{◌≡◌, ◌≤◌, [], true, IfOk, OnOk, OnErr, Err, length};
 ghost use Rattle.kak_world.specs.Keeping.{KeepsClients};
-ghost use Rattle.kak_world.specs.Seen.{all_seen, AllKeepUp};
+ghost use Rattle.list_shelf.specs.declared.holder.Holder.{Holder};
+ghost use Rattle.kak_world.specs.Seen.{all_seen, AllKeepUp, AllLeave};
 ghost use Rattle.kak_world.specs.Showing.{first_gap, buffer_placed, buffer_opened, buffer_count, has_all_buffers};
 ghost use Rattle.kak_world.specs.declared.slots.TheConstants.{MAX_BUFFERS};
 ghost use Rattle.kak_world.specs.declared.slots.WorldError.TheVariants.{TooManyBuffers, NoMemory};
 
 use crate::buffer::WorldBuffer;
 use crate::command_error::TOO_MANY_BUFFERS;
+use crate::turn::Turn;
 use crate::world::World;
 use kak_text::Chars;
 use line_buffer::Lines;
+use regex_ports::Pattern;
 use std::alloc::{AllocError, Global};
 use thiserror::Error;
 
@@ -57,8 +60,10 @@ fn put_buffer(
 ) -> Result<(), AllocError>
     requires gap { at ≡ first_gap (all_seen buffers.old.items) }
     requires bare { buffer.shelf.rows ≡ [] }
+    requires fresh { buffer.since.is_new ≡ true }
     ensures ok { OnOk result (all_seen buffers.new.items ≡ buffer_placed buffer.seen (all_seen buffers.old.items)) }
     ensures up { OnOk result (AllKeepUp buffers.old.items buffers.new.items) }
+    ensures leaves { OnOk result ((other : Holder) → AllLeave other buffers.old.items buffers.new.items) }
     ensures err { OnErr result (buffers.new.items ≡ buffers.old.items) }
 {
     if at < buffers.len() {
@@ -69,7 +74,7 @@ fn put_buffer(
     Ok(())
 }
 
-impl World {
+impl<P: Pattern, T: Turn> World<P, T> {
     /// Whether there are as many buffers as there can be.
     pub fn has_all_buffers(&self) -> bool
         ensures { result ≡ has_all_buffers self.now.flat }
@@ -98,6 +103,7 @@ impl World {
             return Err(WorldError::TooManyBuffers);
         }
         self.may_pend = true;
+        self.may_differ = true;
         let buffer = WorldBuffer::new(alloc, name, is_file, lines)?;
         put_buffer(&mut self.buffers, n, buffer)?;
         Ok(n as u32)

@@ -1,7 +1,9 @@
 //! The list of whose turn it is, which is up to date on the buffer that it sees.
 
-ghost use Rattle.std.specs.Prelude.{◌≡◌};
-ghost use Rattle.kak_world.specs.Seen.{slot_seen, all_seen, SlotIsUp, TurnIsUp};
+ghost use Rattle.std.specs.Prelude.{◌≡◌, ℕ};
+ghost use Rattle.list_shelf.specs.declared.holder.Holder.TheVariants.{Of};
+ghost use Rattle.kak_world.specs.Seen.{slot_seen, all_seen, SlotIsUp, TurnIsUp, SlotLeaves, AllLeave, SlotIsCalm, AreCalm};
+ghost use Rattle.kak_world.specs.Stored.{IsTurnAtMost};
 
 use crate::buffer::WorldBuffer;
 use crate::clients::Clients;
@@ -11,6 +13,8 @@ use list_shelf::Holder;
 fn enter_slot(slot: &mut Option<WorldBuffer>, holder: Holder)
     ensures seen { slot_seen slot.new ≡ slot_seen slot.old }
     ensures up { SlotIsUp holder slot.new }
+    ensures leaves { SlotLeaves holder slot.old slot.new }
+    ensures calm { SlotIsCalm slot.old → SlotIsCalm slot.new }
 {
     match slot {
         None => {}
@@ -27,6 +31,8 @@ pub(crate) fn bring_turn_up(
 )
     ensures seen { all_seen buffers.new.items ≡ all_seen buffers.old.items }
     ensures up { TurnIsUp turn clients.now buffers.new.items }
+    ensures leaves { (k : ℕ) → IsTurnAtMost k turn → AllLeave (Of k) buffers.old.items buffers.new.items }
+    ensures calm { AreCalm buffers.old.items → AreCalm buffers.new.items }
 {
     let Some(who) = turn else {
         return;

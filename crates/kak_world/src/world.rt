@@ -5,16 +5,24 @@ ghost use Rattle.std.specs.List.{AllByRecursion};
 ghost use Rattle.kak_world.specs.Seen.{KeptIsSettled};
 ghost use Rattle.kak_world.specs.Settled.{AllListsSettled};
 ghost use Rattle.kak_world.specs.Flat.{scratch, between_steps, opening, is_joined, units_of, with_units, takes_turn, step_ended};
+ghost use Rattle.kak_world.specs.Stored.{IsStepOf, first_stored, just_opened};
+ghost use Rattle.list_shelf.specs.Shelves.{empty_shelf};
+ghost use Rattle.change_list.specs.declared.log.TheConstants.{MAX_STAMP};
 
 use crate::buffer::WorldBuffer;
 use crate::clients::Clients;
+use crate::turn::{AnyTurn, Turn};
 use crate::turning::bring_turn_up;
+use face_texts::FaceTable;
+use highlight_paint::Highlighters;
 use kak_registers::Registers;
 use kak_text::{Chars, Text};
 use line_buffer::Lines;
+use regex_ports::Pattern;
 use scope_options::Options;
+use scope_tables::Tables;
 use std::alloc::{AllocError, Global};
-use std::marker::Model;
+use std::marker::{Model, PhantomData};
 
 /// The most clients that there can be at once.
 pub const MAX_CLIENTS: usize = 64;
@@ -37,27 +45,44 @@ pub struct Rest {
     pub registers: Registers,
     /// What all options are set to.
     pub options: Options,
+    /// The faces that are set.
+    pub faces: FaceTable,
 }
 
-/// The state that all clients share, and what is each client's own.
-#[derive(Drop, Debug)]
-pub struct World {
+/// The state that all clients share, and what is each client's own, in a step `T`. Contracts see each pattern by the text that
+/// it was made of, and beside the flat world how the lists of all clients are stored: what `T` says of others' when the step
+/// began holds as long as the world is in it.
+#[derive(Drop)]
+pub struct World<P: Pattern, T: Turn> {
     // each at the place of its number
     pub(crate) buffers: Vec<Option<WorldBuffer>>,
     pub(crate) clients: Clients,
     pub(crate) rest: Rest,
+    pub(crate) highlighters: Highlighters<P>,
+    pub(crate) tables: Tables<P>,
     // whether a client's changes may be pending in a buffer: false only where they are in none
     pub(crate) may_pend: bool,
+    // whether something may have become of a buffer since the step began: false only where nothing did of any
+    pub(crate) may_differ: bool,
+    pub(crate) step: PhantomData<T>,
 }
 
-impl Model for World {
-    ghost use Rattle.kak_world.specs.Seen.{Kept, all_seen, BuffersStand};
+impl<P: Pattern, T: Turn> Model for World<P, T> {
+    ghost use Rattle.kak_world.specs.Seen.{Kept, all_seen, all_stored, BuffersStand};
 
     ghost Value = { Kept };
 
-    ghost view = { λ w. record { flat = record { buffers = all_seen w.buffers.items; clients = w.clients; rest = w.rest } } };
+    ghost view = { λ w. record {
+      flat = record {
+        buffers = all_seen w.buffers.items;
+        clients = w.clients;
+        rest = w.rest;
+        scoped = record { highlighters = w.highlighters; tables = w.tables };
+      };
+      stored = all_stored w.buffers.items;
+    } };
 
-    ghost invariant = { λ w. BuffersStand w.may_pend w.rest.step.turn w.clients w.buffers.items };
+    ghost invariant = { λ w. BuffersStand T.began w.may_pend w.may_differ w.rest.step.turn w.clients w.buffers.items };
 }
 
 // No step is under way.
@@ -72,7 +97,7 @@ fn between_steps() -> Stepping
 
 /// The buffer that is there when nothing else is.
 pub(crate) fn scratch_buffer(alloc: Global) -> Result<WorldBuffer, AllocError>
-    ensures { IfOk result (λ b. (b.seen ≡ scratch) × (b.shelf.rows ≡ [])) }
+    ensures { IfOk result (λ b. (b.seen ≡ scratch) × (b.shelf.rows ≡ []) × (b.since.is_new ≡ true) × (b.shelf ≡ empty_shelf MAX_STAMP) × (b.since ≡ just_opened)) }
 {
     let name = Chars::from_str(alloc, "*scratch*")?;
     let text = Text::newline(alloc)?;
@@ -99,12 +124,11 @@ fn all_are_settled(buffers: &[Option<WorldBuffer>])
     }
 }
 
-#[tactic(auto, unfolding(crate::specs::Flat::rest_of, crate::specs::Flat::with_rest))]
-impl World {
-    /// The world before anything happened: the buffer `*scratch*` with a text of one newline, no client, and the
-    /// options that are given.
-    pub fn new(alloc: Global) -> Result<World, AllocError>
-        ensures { IfOk result (λ w. w.flat ≡ opening) }
+impl<P: Pattern> World<P, AnyTurn> {
+    /// The world before anything happened: the buffer `*scratch*` with a text of one newline, no client, the options and
+    /// the faces that are given, and nothing that is kept by scope.
+    pub fn new(alloc: Global) -> Result<World<P, AnyTurn>, AllocError>
+        ensures { IfOk result (λ w. w ≡ record { flat = opening; stored = first_stored }) }
     {
         let mut buffers = Vec::new(alloc);
         buffers.push(Some(scratch_buffer(alloc)?))?;
@@ -115,11 +139,19 @@ impl World {
                 step: between_steps(),
                 registers: Registers::new(alloc),
                 options: Options::new(alloc)?,
+                faces: FaceTable::given(alloc)?,
             },
+            highlighters: Highlighters::new(alloc),
+            tables: Tables::new(alloc),
             may_pend: true,
+            may_differ: true,
+            step: PhantomData,
         })
     }
+}
 
+#[tactic(auto, unfolding(crate::specs::Flat::rest_of, crate::specs::Flat::with_rest))]
+impl<P: Pattern, T: Turn> World<P, T> {
     /// A law: every list on every buffer is settled, and lies inside the buffer's text.
     pub fn lists_are_held(&self)
         ensures { AllListsSettled self.now.flat }
@@ -137,7 +169,8 @@ impl World {
     /// A step of a client begins: it is its turn. Its selections can be read then, and no other client's: they go through the changes
     /// of the text that it sees which they missed, and what no list has yet to go through then is dropped. Takes no memory.
     pub fn enter(&mut self, who: u32)
-        requires { is_joined who self.old.flat ≡ true }
+        requires joined { is_joined who self.old.flat ≡ true }
+        requires own { IsStepOf who T.began }
         ensures { self.new.flat ≡ takes_turn who self.old.flat }
     {
         self.rest.step.turn = Some(who);

@@ -4,6 +4,7 @@ use Rattle.kak_world.specs.Seen.{all_seen}
 use Rattle.kak_world.specs.Dropping.{emptied}
 use Rattle.kak_world.proofs.DroppingLemmas.{other-dropped, other-number, last-number}
 use Rattle.kak_world.proofs.KeptLemmas.{seen-length, seen-set, seen-at}
+use Rattle.kak_world.proofs.StoredLemmas.{leave-after, leave-set, gone-leaves}
 use Rattle.kak_world.proofs.dropping.drop_at.Goals as goal
 
 pub returns-then-to-len-clause-number : goal.returns-then-to-len-clause-number
@@ -24,3 +25,6 @@ returns-clause-number c =
     other-number c.args.n c.lowest_other-to.result (all_seen c.args.buffers.now.items)
     (c.lowest_other-to.ensures ∙ ap (λ bs. lowest (emptied c.args.n (all_seen bs))) c.as_slice.ensures.value)
     (omega (arith, c.if-to-len.false, c.len.ensures, c.args.buffers.now.ok.0, seen-length c.args.buffers.now.items))
+
+pub returns-clause-leaves : goal.returns-clause-leaves
+returns-clause-leaves c = λ other. leave-after other _ _ _ (leave-set other _ _ _ _ c.index_mut.ensures.value (c.in_ok-list_viewers_in.ensures.leaves other)) (gone-leaves other c.args.n _)

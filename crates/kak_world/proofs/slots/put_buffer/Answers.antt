@@ -1,7 +1,8 @@
 use Rattle.std.proofs.Common.{arith, sym, subst, ◌∙◌, Some}
-use Rattle.kak_world.specs.Seen.{all_seen, AllKeepUp}
+use Rattle.kak_world.specs.Seen.{all_seen, AllKeepUp, AllLeave}
 use Rattle.kak_world.proofs.GapLemmas.{placed-set, placed-end}
 use Rattle.kak_world.proofs.KeptLemmas.{seen-length, seen-set, seen-added, seen-all, placed-keeps, added-keeps}
+use Rattle.kak_world.proofs.StoredLemmas.{placed-leaves, pushed-leaves}
 use Rattle.kak_world.proofs.slots.put_buffer.Goals as goal
 
 pub returns-then-at-len-clause-ok : goal.returns-then-at-len-clause-ok
@@ -20,3 +21,9 @@ returns-clause-ok c =
 
 pub returns-clause-up : goal.returns-clause-up
 returns-clause-up c = subst (AllKeepUp c.args.buffers.now.items) (sym c.in_ok-push.ensures.items) (added-keeps c.args.buffer c.args.buffers.now.items c.requires.bare)
+
+pub returns-then-at-len-clause-leaves : goal.returns-then-at-len-clause-leaves
+returns-then-at-len-clause-leaves c = λ other. placed-leaves other c.args.at c.args.buffer c.args.buffers.now.items c.requires.fresh
+
+pub returns-clause-leaves : goal.returns-clause-leaves
+returns-clause-leaves c = λ other. subst (AllLeave other c.args.buffers.now.items) (sym c.in_ok-push.ensures.items) (pushed-leaves other c.args.buffer c.args.buffers.now.items c.requires.fresh)

@@ -1,4 +1,4 @@
-use Rattle.std.proofs.Common.{◌≡◌, [], true, false, length, ap, sym, subst, ◌∙◌}
+use Rattle.std.proofs.Common.{◌≡◌, [], true, false, length, ap, sym, subst, ◌∙◌, arith}
 use Rattle.undo_model.specs.Stories.{is_undo_full}
 use Rattle.undo_model.specs.Edits.{is_too_long}
 use Rattle.buffer_store.specs.Stored.{change_shifts}
@@ -8,7 +8,8 @@ use Rattle.list_shelf.specs.declared.holder.Holder.TheVariants.{Of}
 use Rattle.kak_world.specs.Changing.{buffer_edited}
 use Rattle.kak_world.specs.Seen.{KeptBuffer}
 use Rattle.kak_world.proofs.AnswerLemmas.{carried-ok, carried-if, carried-err, carried-from, carried-to}
-use Rattle.kak_world.proofs.EditingLemmas.{some-of, can-follow, has-followed, both-ok, both-from, both-to, not-undo_full, not-text_full, edited-is, edited-some, edited-all, left-alone, leaves-others}
+use Rattle.kak_world.proofs.EditingLemmas.{some-of, can-follow, has-followed, both-ok, both-from, both-to, not-undo_full, not-text_full, edited-is, edited-some, edited-all, left-alone}
+use Rattle.kak_world.proofs.StoredLemmas.{leaves-others, noted-stays, since-noted, since-none, by-either, told-ok}
 use Rattle.kak_world.proofs.buffer.WorldBuffer.edit.Goals as goal
 
 pub note_for-noted-requires : goal.note_for-noted-requires
@@ -77,4 +78,21 @@ pub returns-clause-others : goal.returns-clause-others
 returns-clause-others c =
     let e = c.edit-done.ensures.edits in
     carried-if _ c.both.result _ _ c.carrying.ensures (both-ok _ c.edit-done.result c.note_for-noted.result c.both.result c.both.ensures e.all c.note_for-noted.ensures.ok (λ all noted.
-    leaves-others _ _ _ (Of c.args.who) _ _ _ _ _ c.self.view_is c.as_slice.ensures.value noted))
+    leaves-others _ _ _ (Of c.args.who) _ _ _ _ _ _ c.self.view_is (ap length c.as_slice.ensures.value) noted))
+
+pub returns-clause-stays : goal.returns-clause-stays
+returns-clause-stays c =
+    noted-stays _ _ _ (Of c.args.who) c.as_slice.result.now c.len.result _ c.note_for-noted.result _ _ _ _ _ c.self.view_is (omega (arith, c.len.ensures, c.edit-done.new.shifts.ok.0, ap length c.as_slice.ensures.value)) c.has_room-has_room.ensures c.note_for-noted.ensures.ok c.behind-self-inside.ensures
+
+pub returns-clause-since : goal.returns-clause-since
+returns-clause-since c =
+    let e = c.edit-done.ensures.edits in
+    let kept = since-noted _ _ _ c.len.result (length c.edit-done.new.shifts.items) _ c.note_for-noted.result _ _ _ _ c.self.view_is (omega (arith, c.len.ensures, c.edit-done.new.shifts.ok.0)) c.has_room-has_room.ensures c.behind-self-inside.ensures in
+    carried-if _ c.both.result _ _ c.carrying.ensures (both-ok _ c.edit-done.result c.note_for-noted.result c.both.result c.both.ensures e.all kept (λ all s. s))
+
+pub returns-clause-refused : goal.returns-clause-refused
+returns-clause-refused c = λ h.
+    let none = by-either h
+    (λ u. (c.edit-done.ensures.undo_left (both-from _ c.edit-done.result c.note_for-noted.result _ _ c.both.ensures not-undo_full (carried-from c.both.result _ _ _ c.carrying.ensures u))).1)
+    (λ t. (c.edit-done.ensures.text_left (both-from _ c.edit-done.result c.note_for-noted.result _ _ c.both.ensures not-text_full (carried-from c.both.result _ _ _ c.carrying.ensures t))).1) in
+    since-none _ _ _ c.len.result _ c.note_for-noted.result _ _ _ _ c.self.view_is (omega (arith, c.len.ensures, c.edit-done.new.shifts.ok.0, ap length none)) c.has_room-has_room.ensures (told-ok c.note_for-noted.result (c.note_for-noted.ensures.none (c.as_slice.ensures.value ∙ none))) c.behind-self-inside.ensures

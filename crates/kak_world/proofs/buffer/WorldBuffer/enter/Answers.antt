@@ -1,7 +1,8 @@
 use Rattle.std.proofs.Common.{ap, ◌∙◌}
-use Rattle.list_shelf.specs.Shelves.{entered}
+use Rattle.list_shelf.specs.Shelves.{same_holder, entered}
 use Rattle.kak_world.specs.Seen.{KeptBuffer}
 use Rattle.kak_world.proofs.ListLemmas.{can-stand, entered-got, entered-up, now-same}
+use Rattle.kak_world.proofs.StoredLemmas.{but-outside, up-leaves}
 use Rattle.kak_world.proofs.buffer.WorldBuffer.enter.Goals as goal
 
 pub enter-requires : goal.enter-requires
@@ -18,3 +19,6 @@ returns-clause-shelf c = c.enter.ensures ∙ ap (λ (b : KeptBuffer). entered c.
 
 pub returns-clause-up : goal.returns-clause-up
 returns-clause-up c = entered-up c.args.holder _ _ _ c.self.invariant c.enter.ensures
+
+pub returns-clause-stays : goal.returns-clause-stays
+returns-clause-stays c = but-outside (same_holder c.args.holder) _ _ _ _ _ _ _ c.self.view_is (up-leaves c.args.holder _ _ c.enter.ensures)

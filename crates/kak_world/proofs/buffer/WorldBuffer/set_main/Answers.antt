@@ -1,9 +1,10 @@
 use Rattle.std.proofs.Common.{refl, sym, subst}
-use Rattle.list_shelf.specs.Shelves.{KeepsUp}
+use Rattle.list_shelf.specs.Shelves.{same_holder, KeepsUp}
 use Rattle.list_shelf.proofs.StandLemmas.{main_seen}
 use Rattle.list_shelf.proofs.UpLemmas.{up-main}
 use Rattle.kak_world.specs.Flat.{list_on}
 use Rattle.kak_world.proofs.ListLemmas.{list-has, up-inside, up-outside, main-there, main-got, now-one}
+use Rattle.kak_world.proofs.StoredLemmas.{but-outside, main-leaves}
 use Rattle.kak_world.proofs.buffer.WorldBuffer.set_main.Goals as goal
 
 pub set_main-requires-clause-list : goal.set_main-requires-clause-list
@@ -29,3 +30,6 @@ returns-clause-seen c =
 
 pub returns-clause-up : goal.returns-clause-up
 returns-clause-up c = up-outside _ _ _ _ c.set_main.new.self _ c.self.view_is (subst (KeepsUp c.self.inside.shelf) (sym c.set_main.ensures) (up-main c.args.holder c.args.n c.self.inside.shelf))
+
+pub returns-clause-stays : goal.returns-clause-stays
+returns-clause-stays c = but-outside (same_holder c.args.holder) _ _ _ _ _ _ _ c.self.view_is (main-leaves c.args.holder c.args.n _ _ c.set_main.ensures)

@@ -1,4 +1,4 @@
-use Rattle.std.proofs.Common.{◌≡◌, [], ap, sym, subst, ◌∙◌, inl, inr, Err, None}
+use Rattle.std.proofs.Common.{◌≡◌, [], length, refl, ap, sym, subst, ◌∙◌, arith, inl, inr, Err, None}
 use Rattle.undo_model.specs.Stories.{Story}
 use Rattle.undo_model.specs.Moves.{target_of, moved_by, move_changes}
 use Rattle.text_model.specs.Changes.{all_changed}
@@ -6,9 +6,10 @@ use Rattle.buffer_store.specs.Stored.{change_shifts}
 use Rattle.move_marks.specs.Marking.{IsLeftBy}
 use Rattle.kak_world.specs.Flat.{has_list}
 use Rattle.kak_world.specs.Seen.{KeptBuffer}
-use Rattle.kak_world.proofs.AnswerLemmas.{on-ok-of, on-err, error-of}
+use Rattle.kak_world.proofs.AnswerLemmas.{on-ok, on-ok-of, on-err, error-of}
 use Rattle.kak_world.proofs.KeepingLaws.{has-edited}
 use Rattle.kak_world.proofs.EditingLemmas.{some-moved, can-follow, has-followed, has-gone, gone-is, gone-some, gone-moved, gone-moves, gone-text, gone-left, gone-list_held, gone-without, gone-nowhere, wanting-only}
+use Rattle.kak_world.proofs.StoredLemmas.{leaves-others, others-then, counted-move, moved-ok, noted-stays, then-stays, since-noted}
 use Rattle.kak_world.proofs.buffer.WorldBuffer.travel.Goals as goal
 
 pub note_for-noted-requires : goal.note_for-noted-requires
@@ -120,3 +121,26 @@ pub returns-clause-up : goal.returns-clause-up
 returns-clause-up c =
     let g = has-gone c.travel-left.result c.args.travel _ _ _ c.is_story.ensures c.travel-left.ensures.ok c.travel-left.ensures.shifts c.travel-left.ensures.broken in
     (has-followed c.note_for-noted.result c.args.holder _ _ _ _ _ _ c.note_for-noted.ensures.ok c.note_for-noted.ensures.err g.steps g.shifts_are c.as_slice.ensures.value c.self.invariant).up
+
+pub returns-in-Ok-Some-clause-others : goal.returns-in-Ok-Some-clause-others
+returns-in-Ok-Some-clause-others c = moved-ok _ _ c.note_for-noted.result c.moved.result c.moved.ensures (on-ok c.note_for-noted.result c.note_for-noted.ensures.ok (λ noted.
+    others-then c.args.holder _ _ _ _ _ refl (leaves-others _ _ _ c.args.holder (length (move_changes c.args.travel c.args.self.now.seen.story)) _ _ _ _ _ c.self.view_is (ap length c.as_slice.ensures.value ∙ omega (arith, c.len.ensures, c.travel-left.new.shifts.ok.0, (counted-move _ _ _ c.args.travel c.len.result _ _ _ _ c.self.view_is (omega (arith, c.len.ensures, c.travel-left.new.shifts.ok.0)) c.in-Ok-Some.ensures.shifts))) noted) c.set_sels.ensures.stays))
+
+pub returns-in-Ok-Some-clause-stays : goal.returns-in-Ok-Some-clause-stays
+returns-in-Ok-Some-clause-stays c = then-stays c.args.holder _ _ _ (noted-stays _ _ _ c.args.holder c.as_slice.result.now c.len.result _ c.note_for-noted.result _ _ _ _ _ c.self.view_is (omega (arith, c.len.ensures, c.travel-left.new.shifts.ok.0, ap length c.as_slice.ensures.value)) c.has_room-has_room.ensures c.note_for-noted.ensures.ok c.behind-self-inside.ensures) c.set_sels.ensures.stays
+
+pub returns-in-Ok-Some-clause-since : goal.returns-in-Ok-Some-clause-since
+returns-in-Ok-Some-clause-since c = moved-ok _ _ c.note_for-noted.result c.moved.result c.moved.ensures (on-ok c.note_for-noted.result (since-noted _ _ _ c.len.result _ _ c.note_for-noted.result _ _ _ _ c.self.view_is (counted-move _ _ _ c.args.travel c.len.result _ _ _ _ c.self.view_is (omega (arith, c.len.ensures, c.travel-left.new.shifts.ok.0)) c.in-Ok-Some.ensures.shifts) c.has_room-has_room.ensures c.behind-self-inside.ensures) (λ k. c.set_sels.ensures.stays.since ∙ k))
+
+pub returns-in-Ok-None-clause-others : goal.returns-in-Ok-None-clause-others
+returns-in-Ok-None-clause-others c = moved-ok _ _ c.note_for-noted.result c.moved-in-Ok-None.result c.moved-in-Ok-None.ensures (on-ok c.note_for-noted.result c.note_for-noted.ensures.ok (λ noted.
+    (leaves-others _ _ _ c.args.holder (length (move_changes c.args.travel c.args.self.now.seen.story)) _ _ _ _ _ c.self.view_is (ap length c.as_slice.ensures.value ∙ omega (arith, c.len.ensures, c.travel-left.new.shifts.ok.0, (counted-move _ _ _ c.args.travel c.len.result _ _ _ _ c.self.view_is (omega (arith, c.len.ensures, c.travel-left.new.shifts.ok.0)) c.in-Ok-None.ensures.shifts))) noted)))
+
+pub returns-in-Ok-None-clause-stays : goal.returns-in-Ok-None-clause-stays
+returns-in-Ok-None-clause-stays c = (noted-stays _ _ _ c.args.holder c.as_slice.result.now c.len.result _ c.note_for-noted.result _ _ _ _ _ c.self.view_is (omega (arith, c.len.ensures, c.travel-left.new.shifts.ok.0, ap length c.as_slice.ensures.value)) c.has_room-has_room.ensures c.note_for-noted.ensures.ok c.behind-self-inside.ensures)
+
+pub returns-in-Ok-None-clause-since : goal.returns-in-Ok-None-clause-since
+returns-in-Ok-None-clause-since c = moved-ok _ _ c.note_for-noted.result c.moved-in-Ok-None.result c.moved-in-Ok-None.ensures (since-noted _ _ _ c.len.result _ _ c.note_for-noted.result _ _ _ _ c.self.view_is (counted-move _ _ _ c.args.travel c.len.result _ _ _ _ c.self.view_is (omega (arith, c.len.ensures, c.travel-left.new.shifts.ok.0)) c.in-Ok-None.ensures.shifts) c.has_room-has_room.ensures c.behind-self-inside.ensures)
+
+pub returns-clause-stays : goal.returns-clause-stays
+returns-clause-stays c = (noted-stays _ _ _ c.args.holder c.as_slice.result.now c.len.result _ c.note_for-noted.result _ _ _ _ _ c.self.view_is (omega (arith, c.len.ensures, c.travel-left.new.shifts.ok.0, ap length c.as_slice.ensures.value)) c.has_room-has_room.ensures c.note_for-noted.ensures.ok c.behind-self-inside.ensures)

@@ -64,3 +64,23 @@ returns-in-FileFault c = rw c.in-FileFault.is c.with_word-in-FileFault.ensures
 pub returns-in-NotUtf8 : goal.returns-in-NotUtf8
 unfolding chars
 returns-in-NotUtf8 c = rw c.in-NotUtf8.is c.with_number-in-NotUtf8.ensures
+
+pub returns-in-NoSuchFace : goal.returns-in-NoSuchFace
+unfolding chars
+returns-in-NoSuchFace c = rw c.in-NoSuchFace.is c.with_word-in-NoSuchFace.ensures
+
+pub returns-in-FaceCycle : goal.returns-in-FaceCycle
+unfolding chars
+returns-in-FaceCycle c = rw c.in-FaceCycle.is c.with_word-in-FaceCycle.ensures
+
+pub returns-in-BadFace : goal.returns-in-BadFace
+unfolding chars
+returns-in-BadFace c = rw c.in-BadFace.is c.with_number-in-BadFace.ensures
+
+pub returns-in-NoSuchHighlighter : goal.returns-in-NoSuchHighlighter
+unfolding chars
+returns-in-NoSuchHighlighter c = rw c.in-NoSuchHighlighter.is c.with_word-in-NoSuchHighlighter.ensures
+
+pub returns-in-HighlighterExists : goal.returns-in-HighlighterExists
+unfolding chars
+returns-in-HighlighterExists c = rw c.in-HighlighterExists.is c.with_word-in-HighlighterExists.ensures

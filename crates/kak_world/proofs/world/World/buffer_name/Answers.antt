@@ -4,4 +4,4 @@ use Rattle.kak_world.proofs.world.World.buffer_name.Goals as goal
 
 pub returns : goal.returns
 unfolding name_of
-returns c = c.name.ensures ∙ ap (λ (b : Buffer). b.name) c.shown.ensures.seen
+returns g c = c.name.ensures ∙ ap (λ (b : Buffer). b.name) c.shown.ensures.seen

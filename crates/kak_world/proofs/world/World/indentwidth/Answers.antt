@@ -8,6 +8,6 @@ use Rattle.kak_world.proofs.world.World.indentwidth.Goals as goal
 
 pub returns-clause-value : goal.returns-clause-value
 unfolding indentwidth_of
-returns-clause-value c =
+returns-clause-value g c =
     c.number_seen.ensures.value
     ∙ ap₂ (λ (n : ℕ) (rows : List Setting). number_within 0 64 4 (seen_from (Window c.args.who n) (codes "indentwidth") rows)) c.shown_number.ensures c.options.ensures

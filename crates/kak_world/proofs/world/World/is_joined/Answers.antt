@@ -7,10 +7,10 @@ use Rattle.kak_world.specs.Seen.{all_seen}
 use Rattle.kak_world.proofs.world.World.is_joined.Goals as goal
 
 pub returns-then-not-is_here : goal.returns-then-not-is_here
-returns-then-not-is_here c = joined-not c.args.who _ _ _ _ c.self.view_is (sym c.is_here.ensures ∙ c.if-not-is_here.true)
+returns-then-not-is_here g c = joined-not c.args.who _ _ _ _ c.self.view_is (sym c.is_here.ensures ∙ c.if-not-is_here.true)
 
 pub returns : goal.returns
-returns c =
+returns g c =
     c.has_list_at.ensures
     ∙ ap (λ bs. is_there c.client-client.result.now.shown (all_seen bs) && has_list (Of c.args.who) (buffer_at c.client-client.result.now.shown (all_seen bs))) c.as_slice.ensures.value
     ∙ joined-test c.args.who _ _ _ _ _ c.self.view_is (sym c.is_here.ensures ∙ c.if-not-is_here.false) c.client-client.ensures

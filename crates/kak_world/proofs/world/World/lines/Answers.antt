@@ -4,4 +4,4 @@ use Rattle.kak_world.proofs.world.World.lines.Goals as goal
 
 pub returns : goal.returns
 unfolding text_of
-returns c = c.lines.ensures ∙ ap (λ (b : Buffer). b.story.text) c.shown.ensures.seen
+returns g c = c.lines.ensures ∙ ap (λ (b : Buffer). b.story.text) c.shown.ensures.seen

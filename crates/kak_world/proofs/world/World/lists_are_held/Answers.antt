@@ -6,4 +6,4 @@ use Rattle.kak_world.proofs.StandingLemmas.{all-seen}
 use Rattle.kak_world.proofs.world.World.lists_are_held.Goals as goal
 
 pub returns : goal.returns
-returns c = subst (λ (k : Kept). AllListsSettled k.flat) c.self.view_is (all-seen SlotIsSettled c.self.inside.buffers.items (subst (AllByRecursion KeptIsSettled) c.as_slice.ensures.value c.all_are_settled.ensures))
+returns g c = subst (λ (k : Kept). AllListsSettled k.flat) c.self.view_is (all-seen SlotIsSettled c.self.inside.buffers.items (subst (AllByRecursion KeptIsSettled) c.as_slice.ensures.value c.all_are_settled.ensures))

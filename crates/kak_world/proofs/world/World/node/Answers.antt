@@ -5,4 +5,4 @@ use Rattle.kak_world.proofs.world.World.node.Goals as goal
 
 pub returns-clause-value : goal.returns-clause-value
 unfolding node_number_of story_of
-returns-clause-value c = c.node.ensures.value ∙ ap (λ (b : Buffer). (committed b.story).current) c.shown.ensures.seen
+returns-clause-value g c = c.node.ensures.value ∙ ap (λ (b : Buffer). (committed b.story).current) c.shown.ensures.seen

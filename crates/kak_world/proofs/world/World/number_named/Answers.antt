@@ -6,7 +6,7 @@ use Rattle.kak_world.proofs.KeptLemmas.{seen-length, seen-at}
 use Rattle.kak_world.proofs.world.World.number_named.Goals as goal
 
 pub returns-then-is_named-clause-value : goal.returns-then-is_named-clause-value
-returns-then-is_named-clause-value c =
+returns-then-is_named-clause-value g c =
     sym (named-here c.args.name.now (all_seen c.deref-slot-items.result.now) c.loop-n.n (slot_seen c.slot-item.result) (omega (arith, c.loop-n-test.true, seen-length c.deref-slot-items.result.now))
     (seen-at c.deref-slot-items.result.now c.loop-n.n c.slot-item.result c.slot-item.is) (sym c.is_named.ensures ∙ c.if-is_named.true))
     ∙ c.loop-n.invariant
@@ -14,7 +14,7 @@ returns-then-is_named-clause-value c =
     ∙ ap (λ (k : Kept). number_named c.args.name.now k.flat) c.self.view_is
 
 pub loop-n-preserved : goal.loop-n-preserved
-loop-n-preserved c =
+loop-n-preserved g c =
     sym (named-on c.args.name.now (all_seen c.deref-slot-items.result.now) c.loop-n.n (slot_seen c.slot-item.result) (omega (arith, c.loop-n-test.true, seen-length c.deref-slot-items.result.now))
     (seen-at c.deref-slot-items.result.now c.loop-n.n c.slot-item.result c.slot-item.is) (sym c.is_named.ensures ∙ c.if-is_named.false))
     ∙ c.loop-n.invariant

@@ -2,7 +2,7 @@ use Rattle.kak_world.proofs.WorldLemmas.{here-of, client-of, own-of}
 use Rattle.kak_world.proofs.world.World.own.Goals as goal
 
 pub client-client-requires : goal.client-client-requires
-client-client-requires c = here-of c.args.who _ _ _ _ c.self.view_is c.requires
+client-client-requires g c = here-of c.args.who _ _ _ _ c.self.view_is c.requires
 
 pub returns : goal.returns
-returns c = own-of c.args.who _ _ (client-of c.args.who _ _ _ _ _ c.self.view_is c.client-client.ensures)
+returns g c = own-of c.args.who _ _ (client-of c.args.who _ _ _ _ _ c.self.view_is c.client-client.ensures)

@@ -6,8 +6,8 @@ use Rattle.kak_world.proofs.WorldLaws.{joined_list}
 use Rattle.kak_world.proofs.world.World.sel_count.Goals as goal
 
 pub sel_count-requires : goal.sel_count-requires
-sel_count-requires c = ap (has_list (Of c.args.who)) c.shown.ensures.seen ∙ joined_list c.args.who c.args.self.now.flat c.requires
+sel_count-requires g c = ap (has_list (Of c.args.who)) c.shown.ensures.seen ∙ joined_list c.args.who c.args.self.now.flat c.requires
 
 pub returns : goal.returns
 unfolding sels_of list_of
-returns c = if-ok _ _ c.sel_count.result c.sel_count.ensures (λ count e. e ∙ ap (λ (b : Buffer). length (list_on (Of c.args.who) b).sels.list) c.shown.ensures.seen)
+returns g c = if-ok _ _ c.sel_count.result c.sel_count.ensures (λ count e. e ∙ ap (λ (b : Buffer). length (list_on (Of c.args.who) b).sels.list) c.shown.ensures.seen)

@@ -6,18 +6,18 @@ use Rattle.kak_world.proofs.WorldLaws.{acts_joined, acts_turned, joined_list}
 use Rattle.kak_world.proofs.world.World.sels.Goals as goal
 
 pub shown-requires : goal.shown-requires
-shown-requires c = acts_joined c.args.who c.args.self.now.flat c.requires
+shown-requires g c = acts_joined c.args.who c.args.self.now.flat c.requires
 
 pub sels-requires-clause-list : goal.sels-requires-clause-list
-sels-requires-clause-list c = ap (has_list (Of c.args.who)) c.shown.ensures.seen ∙ joined_list c.args.who c.args.self.now.flat (acts_joined c.args.who c.args.self.now.flat c.requires)
+sels-requires-clause-list g c = ap (has_list (Of c.args.who)) c.shown.ensures.seen ∙ joined_list c.args.who c.args.self.now.flat (acts_joined c.args.who c.args.self.now.flat c.requires)
 
 pub sels-requires-clause-up : goal.sels-requires-clause-up
-sels-requires-clause-up c = c.shown.ensures.up (acts_turned c.args.who c.args.self.now.flat c.requires)
+sels-requires-clause-up g c = c.shown.ensures.up (acts_turned c.args.who c.args.self.now.flat c.requires)
 
 pub returns-clause-sels : goal.returns-clause-sels
 unfolding sels_of list_of text_of
-returns-clause-sels c = sym (ap (λ (b : Buffer). (list_on (Of c.args.who) b).sels) c.shown.ensures.seen) ∙ c.sels.ensures.sels ∙ ap (λ (b : Buffer). selected b.story.text c.sels.result.now) c.shown.ensures.seen
+returns-clause-sels g c = sym (ap (λ (b : Buffer). (list_on (Of c.args.who) b).sels) c.shown.ensures.seen) ∙ c.sels.ensures.sels ∙ ap (λ (b : Buffer). selected b.story.text c.sels.result.now) c.shown.ensures.seen
 
 pub returns-clause-held : goal.returns-clause-held
 unfolding text_of
-returns-clause-held c = subst (λ (b : Buffer). IsHeld b.story.text c.sels.result.now) c.shown.ensures.seen c.sels.ensures.held
+returns-clause-held g c = subst (λ (b : Buffer). IsHeld b.story.text c.sels.result.now) c.shown.ensures.seen c.sels.ensures.held

@@ -1,4 +1,4 @@
-use Rattle.std.proofs.Common.{◌<◌, length, ap, ◌∙◌, arith}
+use Rattle.std.proofs.Common.{◌<◌, length, ap, ◌∙◌, arith, refl}
 use Rattle.list_shelf.specs.declared.holder.Holder.TheVariants.{Of}
 use Rattle.kak_world.specs.Flat.{Buffer, rest_of, turn_of, is_turn_of, with_list, sels_of, with_sels}
 use Rattle.kak_world.proofs.WorldLaws.{acts_joined, acts_turned}
@@ -6,35 +6,40 @@ use Rattle.kak_world.proofs.WorldLemmas.{here-of, shown-inside, shown-not_none, 
 use Rattle.kak_world.proofs.StandingLemmas.{stands-set}
 use Rattle.kak_world.specs.Seen.{Kept, all_seen}
 use Rattle.kak_world.proofs.KeptLemmas.{seen-length, seen-at, seen-some, seen-none, kept-at, parts-set, shown-up}
+use Rattle.kak_world.proofs.StoredLemmas.{follows-turn, leave-set, some-leaves}
 use Rattle.kak_world.proofs.world.World.set_main.Goals as goal
 
 pub client-requires : goal.client-requires
-client-requires c = here-of c.args.who _ _ _ _ c.self.view_is (acts_joined c.args.who c.args.self.now.flat c.requires.acts)
+client-requires g c = here-of c.args.who _ _ _ _ c.self.view_is (acts_joined c.args.who c.args.self.now.flat c.requires.acts)
 
 pub index_mut-requires : goal.index_mut-requires
-index_mut-requires c = let inside : c.client.result.now.shown < length (all_seen c.self.inside.buffers.items) = shown-inside c.args.who _ _ _ _ _ c.self.view_is c.client.ensures (acts_joined c.args.who c.args.self.now.flat c.requires.acts) in omega (arith, seen-length c.self.inside.buffers.items, c.self.inside.buffers.ok.0)
+index_mut-requires g c = let inside : c.client.result.now.shown < length (all_seen c.self.inside.buffers.items) = shown-inside c.args.who _ _ _ _ _ c.self.view_is c.client.ensures (acts_joined c.args.who c.args.self.now.flat c.requires.acts) in omega (arith, seen-length c.self.inside.buffers.items, c.self.inside.buffers.ok.0)
 
 pub unreachable-requires : goal.unreachable-requires
-unreachable-requires c = shown-not_none c.args.who _ _ _ _ _ _ c.self.view_is c.client.ensures (acts_joined c.args.who c.args.self.now.flat c.requires.acts) (seen-at c.self.inside.buffers.items c.client.result.now.shown _ c.index_mut.ensures.value) (seen-none _ c.in-None.is)
+unreachable-requires g c = shown-not_none c.args.who _ _ _ _ _ _ c.self.view_is c.client.ensures (acts_joined c.args.who c.args.self.now.flat c.requires.acts) (seen-at c.self.inside.buffers.items c.client.result.now.shown _ c.index_mut.ensures.value) (seen-none _ c.in-None.is)
 
 pub set_main-requires-clause-list : goal.set_main-requires-clause-list
-set_main-requires-clause-list c = list-of c.args.who _ _ _ _ _ _ _ c.self.view_is c.client.ensures (acts_joined c.args.who c.args.self.now.flat c.requires.acts) (seen-at c.self.inside.buffers.items c.client.result.now.shown _ c.index_mut.ensures.value) (seen-some _ _ c.in-Some.is)
+set_main-requires-clause-list g c = list-of c.args.who _ _ _ _ _ _ _ c.self.view_is c.client.ensures (acts_joined c.args.who c.args.self.now.flat c.requires.acts) (seen-at c.self.inside.buffers.items c.client.result.now.shown _ c.index_mut.ensures.value) (seen-some _ _ c.in-Some.is)
 
 pub set_main-requires-clause-up : goal.set_main-requires-clause-up
 unfolding rest_of
-set_main-requires-clause-up c =
+set_main-requires-clause-up g c =
     let joined = (acts_joined c.args.who c.args.self.now.flat c.requires.acts) in
     let inside = shown-inside c.args.who _ _ _ _ _ c.self.view_is c.client.ensures joined in
     shown-up c.args.who _ _ _ _ _ (ap (λ (k : Kept). is_turn_of c.args.who (turn_of k.flat)) c.self.view_is ∙ acts_turned c.args.who c.args.self.now.flat c.requires.acts) (here-of c.args.who _ _ _ _ c.self.view_is joined) c.client.ensures (kept-at _ _ _ _ inside c.index_mut.ensures.value c.in-Some.is) c.self.invariant.up
 
 pub set_main-requires-clause-there : goal.set_main-requires-clause-there
-set_main-requires-clause-there c = omega (arith, ap (λ s. length s.list) (sels-of c.args.who _ _ _ _ _ _ _ c.self.view_is c.client.ensures (acts_joined c.args.who c.args.self.now.flat c.requires.acts) (seen-at c.self.inside.buffers.items c.client.result.now.shown _ c.index_mut.ensures.value) (seen-some _ _ c.in-Some.is)), c.requires.there)
+set_main-requires-clause-there g c = omega (arith, ap (λ s. length s.list) (sels-of c.args.who _ _ _ _ _ _ _ c.self.view_is c.client.ensures (acts_joined c.args.who c.args.self.now.flat c.requires.acts) (seen-at c.self.inside.buffers.items c.client.result.now.shown _ c.index_mut.ensures.value) (seen-some _ _ c.in-Some.is)), c.requires.there)
 
 pub invariant_of-self : goal.invariant_of-self
-invariant_of-self c =
+unfolding rest_of
+invariant_of-self g c =
     let inside = shown-inside c.args.who _ _ _ _ _ c.self.view_is c.client.ensures (acts_joined c.args.who c.args.self.now.flat c.requires.acts) in
-    stands-set _ _ _ _ _ _ _ (kept-at _ _ _ _ inside c.index_mut.ensures.value c.in-Some.is) (ap (λ (b : Buffer). b.story) c.set_main.ensures.seen) c.set_main.ensures.up c.self.invariant
+    stands-set _ _ _ _ _ _ _ (kept-at _ _ _ _ inside c.index_mut.ensures.value c.in-Some.is) (ap (λ (b : Buffer). b.story) c.set_main.ensures.seen) c.set_main.ensures.up
+    (follows-turn _ c.args.who _ _ _ (ap (λ (k : Kept). is_turn_of c.args.who (turn_of k.flat)) c.self.view_is ∙ acts_turned c.args.who c.args.self.now.flat c.requires.acts) (leave-set (Of c.args.who) _ _ _ _ c.index_mut.ensures.value (some-leaves (Of c.args.who) _ _ _ _ c.in-Some.is refl (λ _ _. c.set_main.ensures.stays))))
+    c.set_main.ensures.stays.since
+    c.self.invariant
 
 pub returns : goal.returns
 unfolding with_sels
-returns c = parts-set _ _ _ _ _ ∙ list-set-of c.args.who _ _ _ _ _ _ _ _ (λ held. record held { sels = record { list = (sels_of c.args.who c.args.self.now.flat).list; main = c.args.n } }) c.self.view_is c.client.ensures (acts_joined c.args.who c.args.self.now.flat c.requires.acts) (seen-at c.self.inside.buffers.items c.client.result.now.shown _ c.index_mut.ensures.value) (seen-some _ _ c.in-Some.is) (c.set_main.ensures.seen ∙ ap (λ s. with_list (Of c.args.who) (λ held. record held { sels = record { list = s.list; main = c.args.n } }) c.in-Some.buffer.seen) (sels-of c.args.who _ _ _ _ _ _ _ c.self.view_is c.client.ensures (acts_joined c.args.who c.args.self.now.flat c.requires.acts) (seen-at c.self.inside.buffers.items c.client.result.now.shown _ c.index_mut.ensures.value) (seen-some _ _ c.in-Some.is)))
+returns g c = parts-set _ _ _ _ _ ∙ list-set-of c.args.who _ _ _ _ _ _ _ _ (λ held. record held { sels = record { list = (sels_of c.args.who c.args.self.now.flat).list; main = c.args.n } }) c.self.view_is c.client.ensures (acts_joined c.args.who c.args.self.now.flat c.requires.acts) (seen-at c.self.inside.buffers.items c.client.result.now.shown _ c.index_mut.ensures.value) (seen-some _ _ c.in-Some.is) (c.set_main.ensures.seen ∙ ap (λ s. with_list (Of c.args.who) (λ held. record held { sels = record { list = s.list; main = c.args.n } }) c.in-Some.buffer.seen) (sels-of c.args.who _ _ _ _ _ _ _ c.self.view_is c.client.ensures (acts_joined c.args.who c.args.self.now.flat c.requires.acts) (seen-at c.self.inside.buffers.items c.client.result.now.shown _ c.index_mut.ensures.value) (seen-some _ _ c.in-Some.is)))

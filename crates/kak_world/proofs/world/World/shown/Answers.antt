@@ -6,19 +6,19 @@ use Rattle.kak_world.proofs.KeptLemmas.{seen-length, seen-at, seen-some, seen-no
 use Rattle.kak_world.proofs.world.World.shown.Goals as goal
 
 pub client-client-requires : goal.client-client-requires
-client-client-requires c = here-of c.args.who _ _ _ _ c.self.view_is c.requires
+client-client-requires g c = here-of c.args.who _ _ _ _ c.self.view_is c.requires
 
 pub index-requires : goal.index-requires
-index-requires c = let inside : c.client-client.result.now.shown < length (all_seen c.self.inside.buffers.items) = shown-inside c.args.who _ _ _ _ _ c.self.view_is c.client-client.ensures c.requires in omega (arith, seen-length c.self.inside.buffers.items, c.self.inside.buffers.ok.0)
+index-requires g c = let inside : c.client-client.result.now.shown < length (all_seen c.self.inside.buffers.items) = shown-inside c.args.who _ _ _ _ _ c.self.view_is c.client-client.ensures c.requires in omega (arith, seen-length c.self.inside.buffers.items, c.self.inside.buffers.ok.0)
 
 pub unreachable-requires : goal.unreachable-requires
-unreachable-requires c = shown-not_none c.args.who _ _ _ _ _ _ c.self.view_is c.client-client.ensures c.requires (seen-at c.self.inside.buffers.items c.client-client.result.now.shown _ c.index.ensures) (seen-none _ c.in-None.is)
+unreachable-requires g c = shown-not_none c.args.who _ _ _ _ _ _ c.self.view_is c.client-client.ensures c.requires (seen-at c.self.inside.buffers.items c.client-client.result.now.shown _ c.index.ensures) (seen-none _ c.in-None.is)
 
 pub returns-clause-seen : goal.returns-clause-seen
-returns-clause-seen c = buffer-of c.args.who _ _ _ _ _ _ _ c.self.view_is c.client-client.ensures c.requires (seen-at c.self.inside.buffers.items c.client-client.result.now.shown _ c.index.ensures) (seen-some _ _ c.in-Some.is)
+returns-clause-seen g c = buffer-of c.args.who _ _ _ _ _ _ _ c.self.view_is c.client-client.ensures c.requires (seen-at c.self.inside.buffers.items c.client-client.result.now.shown _ c.index.ensures) (seen-some _ _ c.in-Some.is)
 
 pub returns-clause-up : goal.returns-clause-up
 unfolding rest_of
-returns-clause-up c = λ turn.
+returns-clause-up g c = λ turn.
     let inside = shown-inside c.args.who _ _ _ _ _ c.self.view_is c.client-client.ensures c.requires in
     shown-up c.args.who _ _ _ _ _ (ap (λ (k : Kept). is_turn_of c.args.who (turn_of k.flat)) c.self.view_is ∙ turn) (here-of c.args.who _ _ _ _ c.self.view_is c.requires) c.client-client.ensures (kept-at _ _ _ _ inside c.index.ensures c.in-Some.is) c.self.invariant.up

@@ -7,10 +7,10 @@ use Rattle.kak_world.proofs.WorldLaws.{joined_list}
 use Rattle.kak_world.proofs.world.World.window.Goals as goal
 
 pub corner-requires : goal.corner-requires
-corner-requires c = ap (has_list (Of c.args.who)) c.shown.ensures.seen ∙ joined_list c.args.who c.args.self.now.flat c.requires
+corner-requires g c = ap (has_list (Of c.args.who)) c.shown.ensures.seen ∙ joined_list c.args.who c.args.self.now.flat c.requires
 
 pub returns : goal.returns
 unfolding view_of list_of
-returns c =
+returns g c =
     c.of.ensures
     ∙ ap₂ view_at (c.corner.ensures ∙ ap (λ (b : Buffer). (list_on (Of c.args.who) b).corner) c.shown.ensures.seen) (ap (λ (o : Own). o.size) c.own-own.ensures)
