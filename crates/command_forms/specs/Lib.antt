@@ -1,8 +1,13 @@
 pub mod Results
 pub mod Errors
+pub mod Lookup
 pub mod Names
+pub mod Numbers
+pub mod Parting
 pub mod Switches
 pub mod Arguments
 pub mod Places
+pub mod Painters
 pub mod Orders
+pub mod Laws
 pub mod Examples

@@ -1,44 +1,61 @@
 -- The names of commands.
-use Rattle.std.specs.Prelude.{ℕ, List, if◌then◌else◌, Option, Some, None, codes}
-use Rattle.std.specs.Str.{bytes_eq}
+use Rattle.std.specs.Prelude.{ℕ, List, [], ◌∷◌, Option, Some, None, codes}
 use Rattle.command_forms.specs.declared.names.CommandName.{CommandName}
-use Rattle.command_forms.specs.declared.names.CommandName.TheVariants.{Edit, Write, WriteQuit, Quit, QuitForced, Buffer, Delete, DeleteForced, Declare, Set, Unset, SetRegister, Select, Echo, Fail, Nop}
+use Rattle.command_forms.specs.declared.names.CommandName.TheVariants as name
+use Rattle.command_forms.specs.Lookup.{Row, row, looked_up}
 
--- the command of a whole name
+-- the whole names
+abbrev pub full_names : List (Row CommandName)
+full_names =
+    row (codes "edit") name.Edit
+    ∷ row (codes "write") name.Write
+    ∷ row (codes "write-quit") name.WriteQuit
+    ∷ row (codes "quit") name.Quit
+    ∷ row (codes "quit!") name.QuitForced
+    ∷ row (codes "buffer") name.Buffer
+    ∷ row (codes "delete-buffer") name.Delete
+    ∷ row (codes "delete-buffer!") name.DeleteForced
+    ∷ row (codes "declare-option") name.Declare
+    ∷ row (codes "set-option") name.Set
+    ∷ row (codes "unset-option") name.Unset
+    ∷ row (codes "set-register") name.SetRegister
+    ∷ row (codes "select") name.Select
+    ∷ row (codes "echo") name.Echo
+    ∷ row (codes "fail") name.Fail
+    ∷ row (codes "nop") name.Nop
+    ∷ row (codes "info") name.Info
+    ∷ row (codes "set-face") name.SetFace
+    ∷ row (codes "unset-face") name.UnsetFace
+    ∷ row (codes "add-highlighter") name.AddHighlighter
+    ∷ row (codes "remove-highlighter") name.RemoveHighlighter
+    ∷ []
+
+-- the short names
+abbrev pub short_names : List (Row CommandName)
+short_names =
+    row (codes "e") name.Edit
+    ∷ row (codes "w") name.Write
+    ∷ row (codes "wq") name.WriteQuit
+    ∷ row (codes "q") name.Quit
+    ∷ row (codes "q!") name.QuitForced
+    ∷ row (codes "b") name.Buffer
+    ∷ row (codes "db") name.Delete
+    ∷ row (codes "db!") name.DeleteForced
+    ∷ row (codes "decl") name.Declare
+    ∷ row (codes "set") name.Set
+    ∷ row (codes "unset") name.Unset
+    ∷ row (codes "reg") name.SetRegister
+    ∷ row (codes "face") name.SetFace
+    ∷ row (codes "addhl") name.AddHighlighter
+    ∷ row (codes "rmhl") name.RemoveHighlighter
+    ∷ []
+
+-- the command of a whole name, and of a short one
 abbrev pub full_name : List ℕ → Option CommandName
-full_name word =
-    if bytes_eq word (codes "edit") then Some Edit else
-    (if bytes_eq word (codes "write") then Some Write else
-    (if bytes_eq word (codes "write-quit") then Some WriteQuit else
-    (if bytes_eq word (codes "quit") then Some Quit else
-    (if bytes_eq word (codes "quit!") then Some QuitForced else
-    (if bytes_eq word (codes "buffer") then Some Buffer else
-    (if bytes_eq word (codes "delete-buffer") then Some Delete else
-    (if bytes_eq word (codes "delete-buffer!") then Some DeleteForced else
-    (if bytes_eq word (codes "declare-option") then Some Declare else
-    (if bytes_eq word (codes "set-option") then Some Set else
-    (if bytes_eq word (codes "unset-option") then Some Unset else
-    (if bytes_eq word (codes "set-register") then Some SetRegister else
-    (if bytes_eq word (codes "select") then Some Select else
-    (if bytes_eq word (codes "echo") then Some Echo else
-    (if bytes_eq word (codes "fail") then Some Fail else
-    (if bytes_eq word (codes "nop") then Some Nop else None)))))))))))))))
+full_name word = looked_up word full_names
 
--- the command of a short name
 abbrev pub alias_of : List ℕ → Option CommandName
-alias_of word =
-    if bytes_eq word (codes "e") then Some Edit else
-    (if bytes_eq word (codes "w") then Some Write else
-    (if bytes_eq word (codes "wq") then Some WriteQuit else
-    (if bytes_eq word (codes "q") then Some Quit else
-    (if bytes_eq word (codes "q!") then Some QuitForced else
-    (if bytes_eq word (codes "b") then Some Buffer else
-    (if bytes_eq word (codes "db") then Some Delete else
-    (if bytes_eq word (codes "db!") then Some DeleteForced else
-    (if bytes_eq word (codes "decl") then Some Declare else
-    (if bytes_eq word (codes "set") then Some Set else
-    (if bytes_eq word (codes "unset") then Some Unset else
-    (if bytes_eq word (codes "reg") then Some SetRegister else None)))))))))))
+alias_of word = looked_up word short_names
 
 -- a command by its whole name, if there is one, or else by its short name
 abbrev pub or_alias : List ℕ → Option CommandName → Option CommandName

@@ -1,31 +1,29 @@
 -- Which order the words of a command are, or why they are none.
 use Rattle.std.specs.Prelude.{ℕ, Bool, List, [], ◌∷◌, if◌then◌else◌, Option, Some, None, Result, Ok, Err, codes}
-use Rattle.std.specs.Str.{bytes_eq}
 use Rattle.scope_options.specs.declared.value.OptionType.{OptionType}
 use Rattle.scope_options.specs.declared.value.OptionType.TheVariants as kind
 use Rattle.command_forms.specs.declared.names.CommandName.{CommandName}
 use Rattle.command_forms.specs.declared.names.CommandName.TheVariants as name
 use Rattle.command_forms.specs.declared.switches.Given.{Given}
-use Rattle.command_forms.specs.declared.switches.Switch.TheVariants.{Add, Codepoint}
+use Rattle.command_forms.specs.declared.switches.Switch.TheVariants.{Add, Codepoint, Title}
+use Rattle.command_forms.specs.declared.switches.Owner.TheVariants as owner
 use Rattle.command_forms.specs.declared.places.Columns.{Columns}
 use Rattle.command_forms.specs.declared.places.Columns.TheVariants.{Bytes, Characters}
 use Rattle.command_forms.specs.declared.order.Order.{Order}
 use Rattle.command_forms.specs.declared.order.Order.TheVariants as order
 use Rattle.command_forms.specs.declared.error.OrderError.{OrderError}
-use Rattle.command_forms.specs.declared.error.OrderError.TheVariants.{NoSuchCommand, WrongArgumentCount, BadValue}
+use Rattle.command_forms.specs.declared.error.OrderError.TheVariants.{WrongArgumentCount, BadValue}
 use Rattle.command_forms.specs.Results.{then_as, then_with}
-use Rattle.command_forms.specs.Names.{named}
-use Rattle.command_forms.specs.Switches.{TakenSwitches, is_given, taken}
+use Rattle.command_forms.specs.Lookup.{row, looked_up}
+use Rattle.command_forms.specs.Switches.{TakenSwitches, is_given, word_or_empty, taken}
 use Rattle.command_forms.specs.Arguments.{Headed, Paired, no_words, one_word, optional_word, headed, paired}
 use Rattle.command_forms.specs.Places.{descriptions}
+use Rattle.command_forms.specs.Painters.{highlighter_added, highlighter_removed}
 
 -- the type that a word names
 abbrev pub type_named : List ℕ → Option OptionType
 type_named word =
-    if bytes_eq word (codes "int") then Some kind.Int else
-    (if bytes_eq word (codes "bool") then Some kind.Bool else
-    (if bytes_eq word (codes "str") then Some kind.Str else
-    (if bytes_eq word (codes "str-list") then Some kind.StrList else None)))
+    looked_up word (row (codes "int") kind.Int ∷ row (codes "bool") kind.Bool ∷ row (codes "str") kind.Str ∷ row (codes "str-list") kind.StrList ∷ [])
 
 -- the words of the value that an option has where none is given
 abbrev pub empty_value : OptionType → List (List ℕ)
@@ -73,6 +71,19 @@ selection columns [] = Err WrongArgumentCount
 selection columns (w ∷ ws) =
     then_as (λ ranges. order.Select (record { columns = columns; ranges = ranges })) (descriptions (w ∷ ws))
 
+-- a box takes a text or none
+abbrev pub info : List Given → List (List ℕ) → Result Order OrderError
+info given ws = then_as (λ text. order.Info (record { title = word_or_empty Title given; text = text })) (optional_word ws)
+
+-- setting a face takes a scope, a name and a face
+abbrev pub face_set : List (List ℕ) → Result Order OrderError
+face_set ws =
+    then_with (λ (p : Paired). then_as (λ face. order.SetFace (record { scope = p.first; name = p.second; face = face })) (one_word p.more)) (paired ws)
+
+-- unsetting one takes a scope and a name
+abbrev pub face_unset : List (List ℕ) → Result Order OrderError
+face_unset ws = then_with (λ (p : Paired). no_words (order.UnsetFace (record { scope = p.first; name = p.second })) p.more) (paired ws)
+
 -- the order of a command, by the switches that it was given and its other words
 abbrev pub order_by : CommandName → List Given → List (List ℕ) → Result Order OrderError
 order_by name.Edit given ws = then_as order.Edit (one_word ws)
@@ -91,17 +102,12 @@ order_by name.Select given ws = selection (columns_of given) ws
 order_by name.Echo given ws = Ok (order.Echo ws)
 order_by name.Fail given ws = then_as order.Fail (optional_word ws)
 order_by name.Nop given ws = no_words order.Nothing ws
+order_by name.Info given ws = info given ws
+order_by name.SetFace given ws = face_set ws
+order_by name.UnsetFace given ws = face_unset ws
+order_by name.AddHighlighter given ws = highlighter_added given ws
+order_by name.RemoveHighlighter given ws = highlighter_removed ws
 
 -- the order of a command by the words behind its name: the switches are judged first
 abbrev pub order_after : CommandName → List (List ℕ) → Result Order OrderError
-order_after name ws = then_with (λ (t : TakenSwitches). order_by name t.given t.words) (taken name None ws)
-
--- the order of a command, if there is that command
-abbrev pub order_named : Option CommandName → List ℕ → List (List ℕ) → Result Order OrderError
-order_named None word ws = Err (NoSuchCommand word)
-order_named (Some name) word ws = order_after name ws
-
--- the order that words are: the first one names a command
-abbrev pub order_of : List (List ℕ) → Result Order OrderError
-order_of [] = Ok order.Nothing
-order_of (w ∷ ws) = order_named (named w) w ws
+order_after name ws = then_with (λ (t : TakenSwitches). order_by name t.given t.words) (taken (owner.Command name) None ws)

@@ -1,43 +1,12 @@
 -- Selections as the words of commands describe them: `l.c,l.c`, anchor and cursor, in decimal numbers from 1.
-use Rattle.std.specs.Prelude.{ℕ, ◌+◌, ◌-◌, ◌*◌, ◌==◌, ◌&&◌, Bool, List, [], ◌∷◌, take, drop, min, nat_le, nat_lt, if◌then◌else◌, Option, Some, None, option_map, option_and_then, position, Result, Ok, Err}
-use Rattle.std.specs.List.{list_all}
+use Rattle.std.specs.Prelude.{ℕ, List, [], ◌∷◌, Option, Some, None, option_and_then, Result, Ok, Err}
 use Rattle.command_forms.specs.declared.places.ArgumentPlace.{ArgumentPlace}
 use Rattle.command_forms.specs.declared.places.Described.{Described}
 use Rattle.command_forms.specs.declared.error.OrderError.{OrderError}
 use Rattle.command_forms.specs.declared.error.OrderError.TheVariants.{BadSelection}
+use Rattle.command_forms.specs.Numbers.{number_of}
+use Rattle.command_forms.specs.Parting.{Parts, parted}
 use Rattle.command_forms.specs.Results.{then_as, then_with}
-
--- the greatest number that a place has, 2^32 - 1; greater ones mean it
-abbrev pub greatest_number : ℕ
-greatest_number = 4294967295
-
--- whether a byte is a decimal digit
-abbrev pub is_digit : ℕ → Bool
-is_digit d = nat_le 48 d && nat_le d 57
-
--- the number that digits behind those of a number make of it
-abbrev pub value_on : ℕ → List ℕ → ℕ
-value_on n [] = n
-value_on n (d ∷ ds) = value_on (n * 10 + (d - 48)) ds
-
--- the number that a number and the digits behind it are, from 1 on; none where these aren't all digits
-abbrev pub number_from : ℕ → List ℕ → Option ℕ
-number_from n ds =
-    if list_all is_digit ds && nat_lt 0 (min (value_on n ds) greatest_number) then Some (min (value_on n ds) greatest_number) else None
-
--- the number that a text is, from 1 on
-abbrev pub number_of : List ℕ → Option ℕ
-number_of ds = number_from 0 ds
-
--- what stands before a mark and behind it
-pub record Parts : Type 0 where
-  pub before : List ℕ
-  pub behind : List ℕ
-
--- a text parted at a mark where that stands first
-abbrev pub parted : ℕ → List ℕ → Option Parts
-parted mark text =
-    option_map (λ n. record { before = take n text; behind = drop (n + 1) text }) (position (λ c. c == mark) text)
 
 -- the place of two numbers
 abbrev pub place_by : Option ℕ → Option ℕ → Option ArgumentPlace

@@ -5,7 +5,6 @@ ghost use Rattle.command_forms.specs.Arguments.{no_words, one_word, optional_wor
 ghost use Rattle.command_forms.specs.Errors.{IsDue};
 
 use crate::error::OrderError;
-use crate::order::Order;
 use byte_texts::{Utf8Text, Words};
 use std::alloc::{AllocError, Global};
 
@@ -27,13 +26,13 @@ pub(crate) fn words_of(alloc: Global, words: &[String]) -> Result<Words, AllocEr
     Ok(Words::of_vec(copies))
 }
 
-// An order that takes no word.
-pub(crate) fn no_words(order: Order, words: &[String]) -> Result<Order, OrderError>
-    ensures order { IfOk result (λ o. no_words order (map (λ w. string_bytes w) words.now) ≡ Ok o) }
-    ensures refused { IfErr result (λ e. IsDue e (no_words order (map (λ w. string_bytes w) words.now))) }
+// What takes no word.
+pub(crate) fn no_words<T: Drop>(value: T, words: &[String]) -> Result<T, OrderError>
+    ensures value { IfOk result (λ v. no_words value (map (λ w. string_bytes w) words.now) ≡ Ok v) }
+    ensures refused { IfErr result (λ e. IsDue e (no_words value (map (λ w. string_bytes w) words.now))) }
 {
     match words {
-        [] => Ok(order),
+        [] => Ok(value),
         _ => Err(OrderError::WrongArgumentCount),
     }
 }

@@ -10,9 +10,6 @@ use thiserror::Error;
 /// Why words are no order.
 #[derive(Drop, Debug, Error)]
 pub enum OrderError {
-    /// No command has this name.
-    #[error("no such command: {0}")]
-    NoSuchCommand(Utf8Text),
     /// The command takes more or fewer words, or a switch lacks the word that goes with it.
     #[error("wrong argument count")]
     WrongArgumentCount,
@@ -22,6 +19,9 @@ pub enum OrderError {
     /// A word that names a type names none.
     #[error("bad value")]
     BadValue,
+    /// No highlighters have this type.
+    #[error("no such highlighter: {0}")]
+    NoSuchHighlighter(Utf8Text),
     /// This word describes no selection.
     #[error("bad selection description: {0}")]
     BadSelection(Utf8Text),

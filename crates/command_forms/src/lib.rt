@@ -7,13 +7,24 @@ pub mod describing;
 pub mod error;
 pub mod laws;
 pub mod names;
+pub mod numbers;
 pub mod order;
+pub mod painters;
+pub mod parting;
 pub mod places;
 pub mod reading;
 pub mod switches;
 
 pub use error::OrderError;
-pub use laws::worked_examples;
-pub use order::{Declaration, OptionName, Order, RegisterValues, SettingOrder};
+pub use laws::{switches_are_apart, worked_examples};
+pub use names::{CommandName, command_named};
+pub use numbers::whole_number;
+pub use order::{
+    Declaration, FaceName, FaceSetting, InfoTexts, OptionName, Order, RegisterValues, SettingOrder,
+};
+pub use painters::{
+    HighlighterOrder, HighlighterWords, LineNumbers, MatchWords, PainterWords, PlaceFace,
+};
+pub use parting::parted;
 pub use places::{ArgumentPlace, Columns, Described, Descriptions, Selection};
-pub use reading::read_order;
+pub use reading::read_order_of;

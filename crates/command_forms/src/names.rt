@@ -22,6 +22,11 @@ pub enum CommandName {
     Echo,
     Fail,
     Nop,
+    Info,
+    SetFace,
+    UnsetFace,
+    AddHighlighter,
+    RemoveHighlighter,
 }
 
 // The command of a whole name.
@@ -45,6 +50,11 @@ fn full_name(word: &str) -> Option<CommandName>
         "echo" => Some(CommandName::Echo),
         "fail" => Some(CommandName::Fail),
         "nop" => Some(CommandName::Nop),
+        "info" => Some(CommandName::Info),
+        "set-face" => Some(CommandName::SetFace),
+        "unset-face" => Some(CommandName::UnsetFace),
+        "add-highlighter" => Some(CommandName::AddHighlighter),
+        "remove-highlighter" => Some(CommandName::RemoveHighlighter),
         _ => None,
     }
 }
@@ -66,12 +76,15 @@ fn alias_of(word: &str) -> Option<CommandName>
         "set" => Some(CommandName::Set),
         "unset" => Some(CommandName::Unset),
         "reg" => Some(CommandName::SetRegister),
+        "face" => Some(CommandName::SetFace),
+        "addhl" => Some(CommandName::AddHighlighter),
+        "rmhl" => Some(CommandName::RemoveHighlighter),
         _ => None,
     }
 }
 
-/// The command that a word names, by its whole name or a short one.
-pub(crate) fn named(word: &str) -> Option<CommandName>
+/// The command that a word names, by its whole name or a short one; none where it names none.
+pub fn command_named(word: &str) -> Option<CommandName>
     ensures { result ≡ named word.now }
 {
     match full_name(word) {

@@ -1,5 +1,6 @@
 //! What a command orders.
 
+use crate::painters::HighlighterOrder;
 use crate::places::Selection;
 use byte_texts::{Utf8Text, Words};
 use scope_options::OptionType;
@@ -7,7 +8,7 @@ use scope_options::OptionType;
 /// What a command orders, with the words that it is about.
 #[derive(Drop, Debug)]
 pub enum Order {
-    /// Nothing, as no words and `nop` do.
+    /// Nothing, as `nop` does.
     Nothing,
     /// Show the buffer of this name, or read the file.
     Edit(Utf8Text),
@@ -39,6 +40,14 @@ pub enum Order {
     Echo(Words),
     /// Fail with this text.
     Fail(Option<Utf8Text>),
+    /// Show a box, or hide it.
+    Info(InfoTexts),
+    /// Set a face.
+    SetFace(FaceSetting),
+    /// A face isn't set any more.
+    UnsetFace(FaceName),
+    /// Add or remove a highlighter.
+    Highlighter(HighlighterOrder),
 }
 
 /// An option that is to be declared, with the words of its value. Where the command had none, these are `0`, `false`,
@@ -70,4 +79,26 @@ pub struct SettingOrder {
 pub struct RegisterValues {
     pub name: Utf8Text,
     pub values: Words,
+}
+
+/// The title of a box, which is empty where none was given, and what stands in it; without that the box is to be hidden.
+#[derive(Drop, Debug)]
+pub struct InfoTexts {
+    pub title: Utf8Text,
+    pub text: Option<Utf8Text>,
+}
+
+/// What a face is to be set to, with the word of a scope.
+#[derive(Drop, Debug)]
+pub struct FaceSetting {
+    pub scope: Utf8Text,
+    pub name: Utf8Text,
+    pub face: Utf8Text,
+}
+
+/// A face with the word of a scope.
+#[derive(Drop, Debug)]
+pub struct FaceName {
+    pub scope: Utf8Text,
+    pub name: Utf8Text,
 }

@@ -1,16 +1,19 @@
 //! Reading the words of a command as an order: one small function for each command that takes more than a word.
 
 ghost use Rattle.std.specs.Prelude.{◌≡◌, map, string_bytes, Ok, IfOk, IfErr};
-ghost use Rattle.command_forms.specs.Orders.{type_named, empty_value, value_words, declaration, setting, unsetting, register_set, columns_of, selection, order_by, order_after, order_of};
+ghost use Rattle.command_forms.specs.Orders.{type_named, empty_value, value_words, declaration, setting, unsetting, register_set, columns_of, selection, info, face_set, face_unset, order_by, order_after};
 ghost use Rattle.command_forms.specs.Errors.{IsDue};
 
 use crate::arguments::{headed, no_words, one_word, optional_word, paired, text_of, words_of};
 use crate::describing::descriptions;
 use crate::error::OrderError;
-use crate::names::{CommandName, named};
-use crate::order::{Declaration, OptionName, Order, RegisterValues, SettingOrder};
+use crate::names::CommandName;
+use crate::order::{
+    Declaration, FaceName, FaceSetting, InfoTexts, OptionName, Order, RegisterValues, SettingOrder,
+};
+use crate::painters::{highlighter_added, highlighter_removed};
 use crate::places::{Columns, Selection};
-use crate::switches::{Given, Switch, is_given, take_switches};
+use crate::switches::{Given, Owner, Switch, is_given, take_switches, word_or_empty};
 use byte_texts::Words;
 use scope_options::OptionType;
 use std::alloc::{AllocError, Global};
@@ -134,6 +137,43 @@ fn selection(alloc: Global, columns: Columns, words: &[String]) -> Result<Order,
     Ok(Order::Select(Selection { columns, ranges }))
 }
 
+// A box takes a text or none.
+fn info(alloc: Global, given: &[Given], words: &[String]) -> Result<Order, OrderError>
+    ensures order { IfOk result (λ o. info given.now (map (λ w. string_bytes w) words.now) ≡ Ok o) }
+    ensures refused { IfErr result (λ e. IsDue e (info given.now (map (λ w. string_bytes w) words.now))) }
+{
+    Ok(Order::Info(InfoTexts {
+        text: optional_word(alloc, words)?,
+        title: word_or_empty(alloc, Switch::Title, given)?,
+    }))
+}
+
+// Setting a face takes a scope, a name and a face.
+fn face_set(alloc: Global, words: &[String]) -> Result<Order, OrderError>
+    ensures order { IfOk result (λ o. face_set (map (λ w. string_bytes w) words.now) ≡ Ok o) }
+    ensures refused { IfErr result (λ e. IsDue e (face_set (map (λ w. string_bytes w) words.now))) }
+{
+    let (scope, name, more) = paired(words)?;
+    Ok(Order::SetFace(FaceSetting {
+        face: one_word(alloc, more)?,
+        scope: text_of(alloc, scope)?,
+        name: text_of(alloc, name)?,
+    }))
+}
+
+// Unsetting one takes a scope and a name.
+fn face_unset(alloc: Global, words: &[String]) -> Result<Order, OrderError>
+    ensures order { IfOk result (λ o. face_unset (map (λ w. string_bytes w) words.now) ≡ Ok o) }
+    ensures refused { IfErr result (λ e. IsDue e (face_unset (map (λ w. string_bytes w) words.now))) }
+{
+    let (scope, name, more) = paired(words)?;
+    let face = FaceName {
+        scope: text_of(alloc, scope)?,
+        name: text_of(alloc, name)?,
+    };
+    no_words(Order::UnsetFace(face), more)
+}
+
 // The order of a command, by the switches that it was given and its other words.
 fn order_by(
     alloc: Global,
@@ -161,32 +201,27 @@ fn order_by(
         CommandName::Echo => Ok(Order::Echo(words_of(alloc, words)?)),
         CommandName::Fail => Ok(Order::Fail(optional_word(alloc, words)?)),
         CommandName::Nop => no_words(Order::Nothing, words),
+        CommandName::Info => info(alloc, given, words),
+        CommandName::SetFace => face_set(alloc, words),
+        CommandName::UnsetFace => face_unset(alloc, words),
+        CommandName::AddHighlighter => highlighter_added(alloc, given, words),
+        CommandName::RemoveHighlighter => highlighter_removed(alloc, words),
     }
 }
 
-// The order of a command by the words behind its name: the switches are judged first.
-fn order_after(alloc: Global, name: CommandName, words: &[String]) -> Result<Order, OrderError>
+/// The order of a command, by the words behind its name. A word before the others that begins with a dash is a switch, and
+/// `--` ends the switches. The errors are, in this order, `UnknownSwitch` or `WrongArgumentCount` for the first switch
+/// that is wrong, `WrongArgumentCount` for the number of other words, and `BadValue`, `NoSuchHighlighter` or
+/// `BadSelection` for what these are. Of a highlighter the type is judged first, and then what stands behind it in the same
+/// way. `NoMemory` may come at any time.
+pub fn read_order_of(
+    alloc: Global,
+    name: CommandName,
+    words: &[String],
+) -> Result<Order, OrderError>
     ensures order { IfOk result (λ o. order_after name (map (λ w. string_bytes w) words.now) ≡ Ok o) }
     ensures refused { IfErr result (λ e. IsDue e (order_after name (map (λ w. string_bytes w) words.now))) }
 {
-    let arguments = take_switches(alloc, name, words)?;
+    let arguments = take_switches(alloc, Owner::Command(name), words)?;
     order_by(alloc, name, arguments.given.as_slice(), arguments.words)
-}
-
-/// The order that the words of a command are, of which the first names it; no words order nothing. A word before the
-/// others that begins with a dash is a switch, and `--` ends the switches. The errors are, in this order,
-/// `NoSuchCommand`, `UnknownSwitch` or `WrongArgumentCount` for the first switch that is wrong, `WrongArgumentCount`
-/// for the number of other words, and `BadValue` or `BadSelection` for what these are. `NoMemory` may come at any time.
-pub fn read_order(alloc: Global, words: &[String]) -> Result<Order, OrderError>
-    ensures order { IfOk result (λ o. order_of (map (λ w. string_bytes w) words.now) ≡ Ok o) }
-    ensures refused { IfErr result (λ e. IsDue e (order_of (map (λ w. string_bytes w) words.now))) }
-{
-    if words.is_empty() {
-        return Ok(Order::Nothing);
-    }
-    let (word, words) = headed(words)?;
-    let Some(name) = named(word.as_str()) else {
-        return Err(OrderError::NoSuchCommand(text_of(alloc, word)?));
-    };
-    order_after(alloc, name, words)
 }

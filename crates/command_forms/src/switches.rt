@@ -1,8 +1,9 @@
-//! The switches of commands: words before all others that begin with a dash.
+//! The switches of commands, and of one type of highlighters: words before all others that begin with a dash.
 
-ghost use Rattle.std.specs.Prelude.{◌≡◌, ◌==◌, ◌++◌, ◌∷◌, [], map, string_bytes, slice_index, Ok, None, IfOk, IfErr, OnOk};
+ghost use Rattle.std.specs.Prelude.{◌≡◌, ◌==◌, ◌++◌, ◌∷◌, [], map, string_bytes, slice_index, unwrap_or, Ok, None, IfOk, IfErr, OnOk};
+ghost use Rattle.std.specs.Option.{option_copied};
 ghost use Rattle.std.specs.List.{list_any};
-ghost use Rattle.command_forms.specs.Switches.{begins_dash, switch_named, declare_switch, takes_word, is_same_switch, is_given, taken, AreSwitchesTaken};
+ghost use Rattle.command_forms.specs.Switches.{begins_dash, switch_named, declare_switch, number_switch, command_switch, takes_word, switch_number, is_same_switch, is_given, word_given, word_or_empty, taken, AreSwitchesTaken};
 ghost use Rattle.command_forms.specs.Errors.{IsDue};
 
 use crate::error::OrderError;
@@ -17,6 +18,17 @@ pub enum Switch {
     Docstring,
     Add,
     Codepoint,
+    Title,
+    Override,
+    HlCursor,
+    Separator,
+}
+
+/// What has switches: a command, or the type of highlighters that number lines.
+#[derive(Clone, Copy, PartialEq, Eq, Debug)]
+pub enum Owner {
+    Command(CommandName),
+    NumberLines,
 }
 
 /// A switch that was given, with the word that goes with it, which is empty where none does.
@@ -26,7 +38,7 @@ pub struct Given {
     pub word: Utf8Text,
 }
 
-/// The switches that a command was given, and its other words.
+/// The switches that were given, and the other words.
 #[derive(Drop)]
 pub(crate) struct Arguments<'a> {
     pub given: Vec<Given>,
@@ -54,15 +66,38 @@ fn declare_switch(word: &str) -> Option<Switch>
     }
 }
 
+// The switch of highlighters that number lines.
+fn number_switch(word: &str) -> Option<Switch>
+    ensures { result ≡ number_switch word.now }
+{
+    match word {
+        "-hlcursor" => Some(Switch::HlCursor),
+        "-separator" => Some(Switch::Separator),
+        _ => None,
+    }
+}
+
 // The switch that a word is for a command, if it has that one.
-fn switch_named(name: CommandName, word: &str) -> Option<Switch>
-    ensures { result ≡ switch_named name word.now }
+fn command_switch(name: CommandName, word: &str) -> Option<Switch>
+    ensures { result ≡ command_switch name word.now }
 {
     match name {
         CommandName::Declare => declare_switch(word),
         CommandName::Set if word == "-add" => Some(Switch::Add),
         CommandName::Select if word == "-codepoint" => Some(Switch::Codepoint),
+        CommandName::Info if word == "-title" => Some(Switch::Title),
+        CommandName::AddHighlighter if word == "-override" => Some(Switch::Override),
         _ => None,
+    }
+}
+
+// The switch that a word is, if there is that one.
+fn switch_named(owner: Owner, word: &str) -> Option<Switch>
+    ensures { result ≡ switch_named owner word.now }
+{
+    match owner {
+        Owner::Command(name) => command_switch(name, word),
+        Owner::NumberLines => number_switch(word),
     }
 }
 
@@ -70,9 +105,25 @@ fn switch_named(name: CommandName, word: &str) -> Option<Switch>
 fn takes_word(switch: Switch) -> bool
     ensures { result ≡ takes_word switch }
 {
+    matches!(
+        switch,
+        Switch::Docstring | Switch::Title | Switch::Separator
+    )
+}
+
+// The number of a switch.
+fn switch_number(switch: Switch) -> u8
+    ensures { result ≡ switch_number switch }
+{
     match switch {
-        Switch::Docstring => true,
-        Switch::Hidden | Switch::Add | Switch::Codepoint => false,
+        Switch::Hidden => 0,
+        Switch::Docstring => 1,
+        Switch::Add => 2,
+        Switch::Codepoint => 3,
+        Switch::Title => 4,
+        Switch::Override => 5,
+        Switch::HlCursor => 6,
+        Switch::Separator => 7,
     }
 }
 
@@ -80,13 +131,7 @@ fn takes_word(switch: Switch) -> bool
 fn is_same_switch(a: Switch, b: Switch) -> bool
     ensures { result ≡ is_same_switch a b }
 {
-    matches!(
-        (a, b),
-        (Switch::Hidden, Switch::Hidden)
-            | (Switch::Docstring, Switch::Docstring)
-            | (Switch::Add, Switch::Add)
-            | (Switch::Codepoint, Switch::Codepoint)
-    )
+    switch_number(a) == switch_number(b)
 }
 
 /// Whether a switch was given.
@@ -94,6 +139,33 @@ pub(crate) fn is_given(switch: Switch, given: &[Given]) -> bool
     ensures { result ≡ is_given switch given.now }
 {
     given.iter().any(|g| is_same_switch(g.switch, switch))
+}
+
+/// The word that went with a switch where it was given last.
+pub(crate) fn word_given(switch: Switch, given: &[Given]) -> Option<&Utf8Text>
+    ensures { option_copied result ≡ word_given switch given.now }
+{
+    let mut found = None;
+    for g in given {
+        if is_same_switch(g.switch, switch) {
+            found = Some(&g.word);
+        }
+    }
+    found
+}
+
+/// A copy of the word that went with a switch, or an empty one.
+pub(crate) fn word_or_empty(
+    alloc: Global,
+    switch: Switch,
+    given: &[Given],
+) -> Result<Utf8Text, AllocError>
+    ensures { IfOk result (λ t. t ≡ word_or_empty switch given.now) }
+{
+    match word_given(switch, given) {
+        Some(word) => Utf8Text::from_str(alloc, word.as_str()),
+        None => Ok(Utf8Text::of_string(String::new(alloc))),
+    }
 }
 
 // Adds a switch with a word.
@@ -110,15 +182,15 @@ fn push_switch(
     Ok(())
 }
 
-/// Takes the switches off the words behind a command's name. `UnknownSwitch` and `WrongArgumentCount`, where a switch
-/// lacks its word, come for the first switch that is wrong.
+/// Takes the switches off words. `UnknownSwitch` and `WrongArgumentCount`, where a switch lacks its word, come for the first
+/// switch that is wrong.
 pub(crate) fn take_switches<'a>(
     alloc: Global,
-    name: CommandName,
+    owner: Owner,
     words: &'a [String],
 ) -> Result<Arguments<'a>, OrderError>
-    ensures taken { IfOk result (λ a. AreSwitchesTaken name (map (λ w. string_bytes w) words.now) a.given.items (map (λ w. string_bytes w) a.words.now)) }
-    ensures refused { IfErr result (λ e. IsDue e (taken name None (map (λ w. string_bytes w) words.now))) }
+    ensures taken { IfOk result (λ a. AreSwitchesTaken owner (map (λ w. string_bytes w) words.now) a.given.items (map (λ w. string_bytes w) a.words.now)) }
+    ensures refused { IfErr result (λ e. IsDue e (taken owner None (map (λ w. string_bytes w) words.now))) }
 {
     let mut given = Vec::new(alloc);
     let mut waiting: Option<Switch> = None;
@@ -136,7 +208,7 @@ pub(crate) fn take_switches<'a>(
             let (_, rest) = words.split_at(i + 1);
             return Ok(Arguments { given, words: rest });
         }
-        let Some(switch) = switch_named(name, word.as_str()) else {
+        let Some(switch) = switch_named(owner, word.as_str()) else {
             let word = Utf8Text::from_str(alloc, word.as_str())?;
             return Err(OrderError::UnknownSwitch(word));
         };

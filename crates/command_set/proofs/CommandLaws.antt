@@ -11,17 +11,22 @@ use Rattle.command_forms.specs.declared.order.Order.TheVariants as order
 use Rattle.command_forms.specs.declared.error.OrderError.{OrderError}
 use Rattle.command_forms.specs.declared.places.Columns.{Columns}
 use Rattle.command_forms.specs.declared.places.Described.{Described}
-use Rattle.command_forms.specs.Orders.{order_of}
+use Rattle.command_forms.specs.declared.names.CommandName.{CommandName}
+use Rattle.command_forms.specs.Names.{named as command_of}
+use Rattle.command_forms.specs.Orders.{order_after}
 use Rattle.kak_registers.specs.declared.names.RegisterError.{RegisterError}
 use Rattle.kak_registers.specs.Names.{named}
 use Rattle.kak_registers.specs.Refusals.{register_refusal}
+use Rattle.face_texts.specs.declared.text.FaceText.{FaceText}
+use Rattle.face_texts.specs.declared.rows.NamedFace.{NamedFace}
+use Rattle.face_texts.specs.Tables.{face_set_in, word_text}
 use Rattle.scope_options.specs.declared.scope.Scope.{Scope}
 use Rattle.scope_options.specs.declared.scope.Scope.TheVariants.{Buffer as InBuffer}
 use Rattle.scope_options.specs.declared.setting.Setting.{Setting}
 use Rattle.scope_options.specs.declared.options.OptionError.{OptionError}
 use Rattle.scope_options.specs.Changes.{declare_in, option_set_in, option_unset_in}
 use Rattle.kak_world.specs.declared.ask.Saving.{Saving}
-use Rattle.kak_world.specs.Flat.{Buffer, Flat, shown_of, name_of, units_of, options_of, is_there, with_own, with_sels, with_options}
+use Rattle.kak_world.specs.Flat.{Buffer, Flat, shown_of, name_of, units_of, options_of, faces_of, is_there, with_own, with_sels, with_options, with_faces}
 use Rattle.kak_world.specs.Registers.{set_unless, set_row}
 use Rattle.kak_world.specs.Dropping.{KeepsJoined, dropped}
 use Rattle.kak_world.specs.Showing.{first_gap, buffer_placed, has_all_buffers, buffer_opened, shows}
@@ -39,17 +44,11 @@ use Rattle.command_set.specs.Options.{scope_named, is_declared, options_row, dec
 use Rattle.command_set.specs.Registers.{register_set, register_row, echo_row}
 use Rattle.command_set.specs.Selecting.{described_selected}
 use Rattle.command_set.specs.Expanding.{table_of}
-use Rattle.command_set.specs.Rows.{row_order, row_read_order, row_words, row_expanded, row_command}
+use Rattle.command_set.specs.Rows.{row_order, row_read_order, row_named, row_words, row_expanded, row_command}
+use Rattle.command_set.specs.Boxes.{info_row}
+use Rattle.command_set.specs.Faces.{faces_row, face_read_row, set_face_row, unset_face_row}
 use Rattle.command_set.specs.Laws.{IsTame}
-
--- a row that leaves the world
-tame-same : (flat : Flat) (row : Row) → IsTame flat (record { world = flat; row = row })
-tame-same flat row = record { units = refl; keeps = joined_same flat }
-
--- whichever of two rows
-tame-if : (flat : Flat) (t : Bool) (a b : RowEnd) → IsTame flat a → IsTame flat b → IsTame flat (if t then a else b)
-tame-if flat true a b h g = h
-tame-if flat false a b h g = g
+use Rattle.command_set.proofs.PaintingLaws.{tame-same, tame-if, tame-highlighter}
 
 -- a number that is found by a name is a buffer's
 named-from : (k : ℕ) (name : List ℕ) (bs : List (Option Buffer)) (n : ℕ) → buffer_number_from k name bs ≡ Some n → (m : ℕ) × (n ≡ k + m) × (is_there m bs ≡ true)
@@ -141,6 +140,28 @@ tame-selected columns (d ∷ ds) who flat =
 tame-echo : (words : List (List ℕ)) (who : ℕ) (flat : Flat) → IsTame flat (echo_row words who flat)
 tame-echo words who flat = record { units = ap units_in (rest_own who _ flat); keeps = joined_kept flat (with_own who _ flat) (keeps_own who _ flat) }
 
+-- boxes
+tame-info : (title : List ℕ) (text : Option (List ℕ)) (who : ℕ) (flat : Flat) → IsTame flat (info_row title text who flat)
+tame-info title text who flat = record { units = ap units_in (rest_own who _ flat); keeps = joined_kept flat (with_own who _ flat) (keeps_own who _ flat) }
+
+-- faces
+tame-with_faces : (rows : List NamedFace) (flat : Flat) → IsTame flat (does (with_faces rows flat))
+tame-with_faces rows flat = record { units = ap units_in (rest_rest _ flat); keeps = joined_kept flat (with_faces rows flat) (keeps_rest _ flat (λ r. refl)) }
+
+tame-faces : (r : Result (List NamedFace) (List ℕ)) (flat : Flat) → IsTame flat (faces_row r flat)
+tame-faces (Ok rows) flat = tame-with_faces rows flat
+tame-faces (Err name) flat = tame-same flat _
+
+tame-face_read : (name : List ℕ) (r : Result FaceText ℕ) (flat : Flat) → IsTame flat (face_read_row name r flat)
+tame-face_read name (Ok text) flat = tame-faces (face_set_in name text (faces_of flat)) flat
+tame-face_read name (Err at) flat = tame-same flat _
+
+tame-set_face : (scope name word : List ℕ) (flat : Flat) → IsTame flat (set_face_row scope name word flat)
+tame-set_face scope name word flat = tame-if flat _ _ _ (tame-face_read name (word_text (faces_of flat) word) flat) (tame-same flat _)
+
+tame-unset_face : (scope name : List ℕ) (flat : Flat) → IsTame flat (unset_face_row scope name flat)
+tame-unset_face scope name flat = tame-if flat _ _ _ (tame-if flat _ _ _ (tame-with_faces _ flat) (tame-same flat _)) (tame-same flat _)
+
 -- all orders
 tame-order : (o : Order) (who : ℕ) (flat : Flat) → IsTame flat (row_order o who flat)
 tame-order order.Nothing who flat = tame-same flat _
@@ -160,14 +181,23 @@ tame-order (order.SetRegister r) who flat = tame-register (named r.name) r.name 
 tame-order (order.Select s) who flat = tame-selected s.columns s.ranges who flat
 tame-order (order.Echo words) who flat = tame-echo words who flat
 tame-order (order.Fail text) who flat = tame-same flat _
+tame-order (order.Info i) who flat = tame-info i.title i.text who flat
+tame-order (order.SetFace f) who flat = tame-set_face f.scope f.name f.face flat
+tame-order (order.UnsetFace f) who flat = tame-unset_face f.scope f.name flat
+tame-order (order.Highlighter h) who flat = tame-highlighter h who flat
 
 tame-read_order : (r : Result Order OrderError) (who : ℕ) (flat : Flat) → IsTame flat (row_read_order r who flat)
 tame-read_order (Ok o) who flat = tame-order o who flat
 tame-read_order (Err e) who flat = tame-same flat _
 
+tame-named : (name : Option CommandName) (word : List ℕ) (words : List (List ℕ)) (who : ℕ) (flat : Flat) → IsTame flat (row_named name word words who flat)
+tame-named None word words who flat = tame-same flat _
+tame-named (Some name) word words who flat = tame-read_order (order_after name words) who flat
+
 tame-words : (words : List (List ℕ)) (who : ℕ) (flat : Flat) → IsTame flat (row_words words who flat)
 unfolding row_words
-tame-words words who flat = tame-read_order (order_of words) who flat
+tame-words [] who flat = tame-same flat _
+tame-words (w ∷ ws) who flat = tame-named (command_of w) w ws who flat
 
 tame-expanded : (r : Result (List (List ℕ)) (List ℕ)) (who : ℕ) (flat : Flat) → IsTame flat (row_expanded r who flat)
 tame-expanded (Ok words) who flat = tame-words words who flat

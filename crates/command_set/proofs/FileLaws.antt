@@ -1,5 +1,6 @@
 -- What is made of files takes no units, keeps those that have joined, and asks for nothing that a row comes behind.
 use Rattle.std.proofs.Common.{◌≡◌, ◌<◌, ◌+◌, ◌*◌, ℕ, Bool, true, false, List, [], ◌∷◌, refl, sym, ap, ap₂, ◌∙◌, arith}
+use Rattle.std.proofs.lemmas.Bool.{and_from}
 use Rattle.std.specs.Prelude.{if◌then◌else◌, is_some, slice_index_or, chars, Some, None, Ok, Err}
 use Rattle.std.specs.declared.option.Option.{Option}
 use Rattle.std.specs.declared.result.Result.{Result}
@@ -18,13 +19,13 @@ use Rattle.scope_options.specs.declared.setting.Setting.{Setting}
 use Rattle.scope_options.specs.declared.options.OptionError.{OptionError}
 use Rattle.scope_options.specs.Changes.{option_set_in}
 use Rattle.kak_world.specs.declared.ask.Saving.{Saving}
-use Rattle.kak_world.specs.Flat.{Buffer, Flat, units_of, options_of, is_there, is_joined, with_options, with_rest}
+use Rattle.kak_world.specs.Flat.{Buffer, Flat, units_of, options_of, is_there, is_joined, turn_of, is_turn_of, acts, with_options, with_rest}
 use Rattle.kak_world.specs.Dropping.{KeepsJoined}
 use Rattle.kak_world.specs.Showing.{first_gap, buffer_placed, has_all_buffers, buffer_opened, shows}
 use Rattle.kak_world.specs.Saving.{is_named, unsaved_names, others_leave, saved_in}
 use Rattle.kak_world.specs.Rows.{Row, RowEnd, does, stages_of}
 use Rattle.kak_world.proofs.KeepingLaws.{keeps_rest}
-use Rattle.kak_world.proofs.WorldLaws.{units_in, rest_rest}
+use Rattle.kak_world.proofs.WorldLaws.{units_in, rest_rest, acts_joined, acts_turned}
 use Rattle.kak_world.proofs.ShownLaws.{rest_shows, rest_opened}
 use Rattle.kak_world.proofs.GapLemmas.{gaps_are_taken, keeps_opened}
 use Rattle.kak_world.proofs.JoinedLemmas.{joined_kept, joined_same, joined_then, stays_shows, keeps_saved as keeps_marked, rest_saved}
@@ -172,9 +173,18 @@ pub keeps_saved : (saving : Saving) (answer : Put) (who : ℕ) (flat : Flat) →
 keeps_saved saving answer who flat = (tame_saved saving answer who flat).keeps
 
 -- so it is with the world in which a file's text was opened
-pub joined_loaded : (who n : ℕ) (name text : List ℕ) (eol : Eol) (bom : Bom) (flat mid now : Flat) → is_joined who flat ≡ true → mid ≡ buffer_opened name true text flat → now ≡ formatted n eol bom mid → is_joined who now ≡ true
-joined_loaded who n name text eol bom flat mid now j e f =
-    ap (is_joined who) f ∙ (follows-form n eol bom mid).keeps.joined who (ap (is_joined who) e ∙ (follows-opened name true text flat).keeps.joined who j)
+-- who acts in a world acts in one that keeps those that have joined
+acts-stays : (who : ℕ) (old new : Flat) → KeepsJoined old new → acts who old ≡ true → acts who new ≡ true
+unfolding acts
+acts-stays who old new k a =
+    and_from (is_joined who new) (is_turn_of who (turn_of new)) (k.joined who (acts_joined who old a)) (ap (is_turn_of who) k.turn ∙ acts_turned who old a)
+
+pub acts_opened : (who : ℕ) (name text : List ℕ) (flat now : Flat) → acts who flat ≡ true → now ≡ buffer_opened name true text flat → acts who now ≡ true
+acts_opened who name text flat now a e = ap (acts who) e ∙ acts-stays who flat _ (follows-opened name true text flat).keeps a
+
+pub acts_loaded : (who n : ℕ) (name text : List ℕ) (eol : Eol) (bom : Bom) (flat mid now : Flat) → acts who flat ≡ true → mid ≡ buffer_opened name true text flat → now ≡ formatted n eol bom mid → acts who now ≡ true
+acts_loaded who n name text eol bom flat mid now a e f =
+    ap (acts who) f ∙ acts-stays who mid _ (follows-form n eol bom mid).keeps (acts_opened who name text flat mid a e)
 
 pub there_opened : (n : ℕ) (name text : List ℕ) (flat now : Flat) → n ≡ first_gap flat.buffers → now ≡ buffer_opened name true text flat → is_there n now.buffers ≡ true
 there_opened n name text flat now g e = ap₂ (λ (k : ℕ) (w : Flat). is_there k w.buffers) g e ∙ opened_there name true text flat

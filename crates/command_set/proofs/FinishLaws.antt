@@ -6,6 +6,8 @@ use Rattle.list_model.specs.Ranges.{Range, Selected}
 use Rattle.kak_world.specs.declared.ask.EditError.TheVariants.{TooManySelections}
 use Rattle.kak_world.specs.declared.purpose.Use.{Use}
 use Rattle.kak_world.specs.declared.purpose.Use.TheVariants.{Select, Split, Keep, Drop, Search, Reach, Step, Add}
+use Rattle.kak_world.specs.declared.purpose.Wanted.{Wanted}
+use Rattle.kak_world.specs.declared.purpose.Wanted.TheVariants.{Selects, Paints}
 use Rattle.kak_world.specs.Flat.{Flat, units_of, with_sels}
 use Rattle.kak_world.specs.Keeping.{KeepsClients}
 use Rattle.kak_world.specs.Rows.{RowEnd, Fails, does, fails, stages_of}
@@ -14,7 +16,8 @@ use Rattle.kak_world.proofs.WorldLaws.{units_in, rest_sels, units_units}
 use Rattle.key_rows.specs.Sequence.{then_row, after_unit}
 use Rattle.key_rows.specs.Patterns.{asks_for_last}
 use Rattle.key_rows.proofs.KeepingLaws.{KeepsIn, keeps_behind}
-use Rattle.command_set.specs.Finishing.{unless_none, list_used, next_use, further_asked, row_finish}
+use Rattle.command_set.specs.Finishing.{unless_none, list_used, next_use, further_asked, made_row, row_finish}
+use Rattle.command_set.proofs.PaintingLaws.{IsLast, last-painted}
 
 -- A row that may take a list for a client, and asks for nothing.
 data Lists (who : ℕ) (flat : Flat) : RowEnd → Type 0 where
@@ -56,11 +59,18 @@ falls-behind : (who : ℕ) (flat : Flat) (row : RowEnd) (next : Option Use) → 
 falls-behind who flat row next (Takes sels) = asked-falls next (units_of flat) (with_sels who sels flat) (ap units_in (rest_sels who sels flat))
 falls-behind who flat row next (Refuses text) = omega arith
 
-pub finish_falls : (wanted : Use) (made : Option (List ℕ)) (who : ℕ) (flat : Flat)
+falls-last : (flat : Flat) (row : RowEnd) → IsLast flat row → weight row < 3 * units_of flat + 1
+falls-last flat row h = omega (arith, h.units, h.ends)
+
+falls-made : (wanted : Wanted) (source : List ℕ) (who : ℕ) (flat : Flat) → weight (made_row wanted source who flat) < 3 * units_of flat + 1
+falls-made (Selects what) source who flat = falls-behind who flat (list_used what source who flat) (next_use what) (lists-used what source who flat)
+falls-made (Paints new) source who flat = falls-last flat _ (last-painted new source flat)
+
+pub finish_falls : (wanted : Wanted) (made : Option (List ℕ)) (who : ℕ) (flat : Flat)
     → 3 * units_of (row_finish wanted made who flat).world + stages_of (row_finish wanted made who flat).row < 3 * units_of flat + 1
 unfolding row_finish
 finish_falls wanted None who flat = omega arith
-finish_falls wanted (Some source) who flat = falls-behind who flat (list_used wanted source who flat) (next_use wanted) (lists-used wanted source who flat)
+finish_falls wanted (Some source) who flat = falls-made wanted source who flat
 
 -- and no client comes or goes
 keeps-asked : (next : Option Use) → KeepsIn (further_asked next)
@@ -75,9 +85,13 @@ keeps-lists : (who : ℕ) (flat : Flat) (row : RowEnd) → Lists who flat row �
 keeps-lists who flat row (Takes sels) = keeps_sels who sels flat
 keeps-lists who flat row (Refuses text) = keeps_same flat
 
-pub keeps_finish : (wanted : Use) (made : Option (List ℕ)) (who : ℕ) (flat : Flat) → KeepsClients flat (row_finish wanted made who flat).world
+keeps-made : (wanted : Wanted) (source : List ℕ) (who : ℕ) (flat : Flat) → KeepsClients flat (made_row wanted source who flat).world
+keeps-made (Selects what) source who flat =
+    let row : RowEnd = list_used what source who flat in
+    keeps_behind row.row (further_asked (next_use what)) flat row.world (keeps-lists who flat row (lists-used what source who flat)) (keeps-asked (next_use what))
+keeps-made (Paints new) source who flat = (last-painted new source flat).keeps
+
+pub keeps_finish : (wanted : Wanted) (made : Option (List ℕ)) (who : ℕ) (flat : Flat) → KeepsClients flat (row_finish wanted made who flat).world
 unfolding row_finish
 keeps_finish wanted None who flat = keeps_same flat
-keeps_finish wanted (Some source) who flat =
-    let row : RowEnd = list_used wanted source who flat in
-    keeps_behind row.row (further_asked (next_use wanted)) flat row.world (keeps-lists who flat row (lists-used wanted source who flat)) (keeps-asked (next_use wanted))
+keeps_finish wanted (Some source) who flat = keeps-made wanted source who flat

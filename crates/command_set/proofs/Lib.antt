@@ -1,3 +1,6 @@
+pub mod NamingLemmas
+pub mod PlainLemmas
+pub mod PaintingLaws
 pub mod CommandLaws
 pub mod ExpandingLemmas
 pub mod FileLaws

@@ -5,7 +5,7 @@ use Rattle.kak_ports.specs.declared.sink.Put.{Put}
 use Rattle.kak_files.specs.declared.files.FileRead.{FileRead}
 use Rattle.kak_words.specs.declared.parts.Command.{Command}
 use Rattle.kak_world.specs.declared.ask.Saving.{Saving}
-use Rattle.kak_world.specs.declared.purpose.Use.{Use}
+use Rattle.kak_world.specs.declared.purpose.Wanted.{Wanted}
 use Rattle.kak_world.specs.Flat.{Flat, units_of}
 use Rattle.kak_world.specs.Keeping.{KeepsClients}
 use Rattle.kak_world.specs.Dropping.{KeepsJoined}
@@ -30,11 +30,11 @@ pub record FilesAreTame : Type 0 where
   pub read_ends : (name : List ℕ) (answer : FileRead) (who : ℕ) (flat : Flat) → stages_of (row_read name answer who flat).row ≡ 0
   pub saved_ends : (saving : Saving) (put : Put) (who : ℕ) (flat : Flat) → stages_of (row_saved saving put who flat).row ≡ 0
 
--- a use of a pattern takes a unit where it asks for more: what may come behind it is less than what might have come before
+-- what is made of a pattern takes a unit where it asks for more: what may come behind it is less than what might have come before
 abbrev pub FinishFalls : Type 0
-FinishFalls = (wanted : Use) (made : Option (List ℕ)) (who : ℕ) (flat : Flat)
+FinishFalls = (wanted : Wanted) (made : Option (List ℕ)) (who : ℕ) (flat : Flat)
     → 3 * units_of (row_finish wanted made who flat).world + stages_of (row_finish wanted made who flat).row < 3 * units_of flat + 1
 
--- no use of a pattern makes a client come or go
+-- nothing that is made of a pattern makes a client come or go
 abbrev pub FinishKeepsClients : Type 0
-FinishKeepsClients = (wanted : Use) (made : Option (List ℕ)) (who : ℕ) (flat : Flat) → KeepsClients flat (row_finish wanted made who flat).world
+FinishKeepsClients = (wanted : Wanted) (made : Option (List ℕ)) (who : ℕ) (flat : Flat) → KeepsClients flat (row_finish wanted made who flat).world

@@ -3,6 +3,10 @@ pub mod Buffers
 pub mod Options
 pub mod Registers
 pub mod Selecting
+pub mod Boxes
+pub mod Faces
+pub mod Painters
+pub mod Painting
 pub mod Expanding
 pub mod Files
 pub mod Wanting
@@ -11,3 +15,4 @@ pub mod Finishing
 pub mod Refusing
 pub mod Laws
 pub mod Examples
+pub mod PaintingExamples

@@ -1,5 +1,6 @@
 -- The commands: what each does.
-use Rattle.std.specs.Prelude.{ℕ, true, false, List, None, Some, Ok, Err}
+use Rattle.std.specs.Prelude.{ℕ, true, false, List, [], ◌∷◌, None, Some, Ok, Err}
+use Rattle.std.specs.declared.option.Option.{Option}
 use Rattle.std.specs.declared.result.Result.{Result}
 use Rattle.kak_words.specs.declared.parts.Command.{Command}
 use Rattle.kak_words.specs.Expanding.{expanded}
@@ -7,17 +8,22 @@ use Rattle.command_forms.specs.declared.order.Order.{Order}
 use Rattle.command_forms.specs.declared.order.Order.TheVariants as order
 use Rattle.command_forms.specs.declared.error.OrderError.{OrderError}
 use Rattle.command_forms.specs.declared.error.OrderError.TheVariants as forms
-use Rattle.command_forms.specs.Orders.{order_of}
+use Rattle.command_forms.specs.declared.names.CommandName.{CommandName}
+use Rattle.command_forms.specs.Names.{named}
+use Rattle.command_forms.specs.Orders.{order_after}
 use Rattle.kak_world.specs.declared.ask.Ask.TheVariants.{Leave}
 use Rattle.kak_world.specs.declared.ask.EditError.{EditError}
 use Rattle.kak_world.specs.declared.ask.EditError.TheVariants.{Command as OfCommand, NoMemory}
-use Rattle.kak_world.specs.declared.command_error.CommandError.TheVariants.{NoSuchCommand, WrongArgumentCount, UnknownSwitch, BadValue, BadSelection, UnknownExpansion}
+use Rattle.kak_world.specs.declared.command_error.CommandError.TheVariants.{NoSuchCommand, WrongArgumentCount, UnknownSwitch, BadValue, NoSuchHighlighter, BadSelection, UnknownExpansion}
 use Rattle.kak_world.specs.Flat.{Flat}
 use Rattle.kak_world.specs.Rows.{RowEnd, does, fails}
 use Rattle.command_set.specs.Buffers.{asks, refuses, show_row, edit_named_row, drop_row, quit_row, write_row}
 use Rattle.command_set.specs.Options.{declare_row, set_option_row, unset_option_row}
 use Rattle.command_set.specs.Registers.{register_row, echo_row, failing}
 use Rattle.command_set.specs.Selecting.{select_row}
+use Rattle.command_set.specs.Boxes.{info_row}
+use Rattle.command_set.specs.Faces.{set_face_row, unset_face_row}
+use Rattle.command_set.specs.Painting.{highlighter_row}
 use Rattle.command_set.specs.Expanding.{table_of}
 
 -- the row of an order
@@ -38,13 +44,17 @@ row_order (order.SetRegister r) who flat = register_row r.name r.values flat
 row_order (order.Select s) who flat = select_row s who flat
 row_order (order.Echo words) who flat = echo_row words who flat
 row_order (order.Fail text) who flat = fails (failing text) flat
+row_order (order.Info i) who flat = info_row i.title i.text who flat
+row_order (order.SetFace f) who flat = set_face_row f.scope f.name f.face flat
+row_order (order.UnsetFace f) who flat = unset_face_row f.scope f.name flat
+row_order (order.Highlighter h) who flat = highlighter_row h who flat
 
 -- by what a client is told why words are no order
 abbrev pub order_refusal : OrderError → EditError
-order_refusal (forms.NoSuchCommand word) = OfCommand (NoSuchCommand word)
 order_refusal forms.WrongArgumentCount = OfCommand WrongArgumentCount
 order_refusal (forms.UnknownSwitch word) = OfCommand (UnknownSwitch word)
 order_refusal forms.BadValue = OfCommand BadValue
+order_refusal (forms.NoSuchHighlighter word) = OfCommand (NoSuchHighlighter word)
 order_refusal (forms.BadSelection word) = OfCommand (BadSelection word)
 order_refusal forms.NoMemory = NoMemory
 
@@ -53,9 +63,15 @@ abbrev pub row_read_order : Result Order OrderError → ℕ → Flat → RowEnd
 row_read_order (Ok o) who flat = row_order o who flat
 row_read_order (Err e) who flat = fails (order_refusal e) flat
 
--- the row of a command's words
+-- the row of a command by the words behind the one that names it, if there is that command
+abbrev pub row_named : Option CommandName → List ℕ → List (List ℕ) → ℕ → Flat → RowEnd
+row_named None word words who flat = refuses (NoSuchCommand word) flat
+row_named (Some name) word words who flat = row_read_order (order_after name words) who flat
+
+-- the row of a command's words, of which the first names it; no words do nothing
 unfoldable pub row_words : List (List ℕ) → ℕ → Flat → RowEnd
-row_words words who flat = row_read_order (order_of words) who flat
+row_words [] who flat = does flat
+row_words (w ∷ ws) who flat = row_named (named w) w ws who flat
 
 -- the row of the words that a command stands for, or the name of an expansion that there isn't
 abbrev pub row_expanded : Result (List (List ℕ)) (List ℕ) → ℕ → Flat → RowEnd

@@ -11,12 +11,17 @@ ghost use Rattle.kak_world.specs.Saving.{number_named};
 
 use byte_texts::Utf8Text;
 use kak_text::Chars;
-use kak_world::{Ask, CommandError, EditError, Saving, World};
+use kak_world::{Ask, CommandError, EditError, Saving, Turn, World};
 use key_rows::string_of;
+use regex_ports::Pattern;
 use std::alloc::{AllocError, Global};
 
 // The number of the buffer of a name, if there is one.
-fn number_named(alloc: Global, world: &World, name: &str) -> Result<Option<u32>, AllocError>
+fn number_named<P: Pattern, T: Turn>(
+    alloc: Global,
+    world: &World<P, T>,
+    name: &str,
+) -> Result<Option<u32>, AllocError>
     ensures value { IfOk result (λ n. n ≡ number_named (chars name.now) world.now.flat) }
     ensures there { IfOk result (λ o. IfSome o (λ n. is_there n world.now.flat.buffers ≡ true)) }
 {
@@ -25,9 +30,9 @@ fn number_named(alloc: Global, world: &World, name: &str) -> Result<Option<u32>,
 }
 
 /// Shows a client the buffer of a name. An error leaves the world.
-pub(crate) fn show(
+pub(crate) fn show<P: Pattern, T: Turn>(
     alloc: Global,
-    world: &mut World,
+    world: &mut World<P, T>,
     who: u32,
     name: Utf8Text,
 ) -> Result<(), EditError>
@@ -45,9 +50,9 @@ pub(crate) fn show(
 }
 
 /// Shows a client the buffer of a name, or asks for the file of that name. An error leaves the world.
-pub(crate) fn edit(
+pub(crate) fn edit<P: Pattern, T: Turn>(
     alloc: Global,
-    world: &mut World,
+    world: &mut World<P, T>,
     who: u32,
     name: Utf8Text,
 ) -> Result<Ask, EditError>
@@ -66,7 +71,11 @@ pub(crate) fn edit(
 }
 
 // The name of a buffer of which something would be lost.
-fn unsaved_in(alloc: Global, world: &World, n: u32) -> Result<Option<Chars>, AllocError>
+fn unsaved_in<P: Pattern, T: Turn>(
+    alloc: Global,
+    world: &World<P, T>,
+    n: u32,
+) -> Result<Option<Chars>, AllocError>
     ensures { IfOk result (λ name. name ≡ unsaved_in (slice_index_or world.now.flat.buffers n None)) }
 {
     match world.buffer(n) {
@@ -78,7 +87,12 @@ fn unsaved_in(alloc: Global, world: &World, n: u32) -> Result<Option<Chars>, All
 }
 
 // Drops a buffer, unless something would be lost, or where that is forced.
-fn drop_at(alloc: Global, world: &mut World, n: u32, forced: bool) -> Result<(), EditError>
+fn drop_at<P: Pattern, T: Turn>(
+    alloc: Global,
+    world: &mut World<P, T>,
+    n: u32,
+    forced: bool,
+) -> Result<(), EditError>
     requires { is_there n world.old.flat.buffers ≡ true }
     ensures row { Answers result world.new.flat (drop_at forced n world.old.flat) }
     ensures wanting { IsErrOf result NoMemory → world.new.flat ≡ world.old.flat }
@@ -93,9 +107,9 @@ fn drop_at(alloc: Global, world: &mut World, n: u32, forced: bool) -> Result<(),
 }
 
 // Drops the buffer of a name.
-fn drop_named(
+fn drop_named<P: Pattern, T: Turn>(
     alloc: Global,
-    world: &mut World,
+    world: &mut World<P, T>,
     name: Utf8Text,
     forced: bool,
 ) -> Result<(), EditError>
@@ -110,9 +124,9 @@ fn drop_named(
 
 /// Drops the buffer of a name, or the one that a client sees. `ModifiedRemain` doesn't come where the drop is forced. An error
 /// leaves the world.
-pub(crate) fn drop_buffer(
+pub(crate) fn drop_buffer<P: Pattern, T: Turn>(
     alloc: Global,
-    world: &mut World,
+    world: &mut World<P, T>,
     who: u32,
     name: Option<Utf8Text>,
     forced: bool,
@@ -131,7 +145,11 @@ pub(crate) fn drop_buffer(
 }
 
 /// Lets a client leave. `ModifiedRemain` comes where something would be lost and each other client was granted to leave.
-pub(crate) fn quit(alloc: Global, world: &World, who: u32) -> Result<Ask, EditError>
+pub(crate) fn quit<P: Pattern, T: Turn>(
+    alloc: Global,
+    world: &World<P, T>,
+    who: u32,
+) -> Result<Ask, EditError>
     ensures row { GivesRow result world.now.flat (quit_row who world.now.flat) }
 {
     if !world.others_leave(who) {
@@ -144,9 +162,9 @@ pub(crate) fn quit(alloc: Global, world: &World, who: u32) -> Result<Ask, EditEr
 }
 
 // The name of a file, or else that of the buffer that a client sees.
-fn file_or_name(
+fn file_or_name<P: Pattern, T: Turn>(
     alloc: Global,
-    world: &World,
+    world: &World<P, T>,
     who: u32,
     file: Option<Utf8Text>,
 ) -> Result<Utf8Text, AllocError>
@@ -161,9 +179,9 @@ fn file_or_name(
 
 /// Asks for the text that a client sees to be written, to a file or to that of the buffer's name, and whether it is to
 /// leave then.
-pub(crate) fn write(
+pub(crate) fn write<P: Pattern, T: Turn>(
     alloc: Global,
-    world: &World,
+    world: &World<P, T>,
     who: u32,
     file: Option<Utf8Text>,
     quits: bool,

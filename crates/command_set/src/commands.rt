@@ -6,17 +6,20 @@ ghost use Rattle.kak_words.specs.Expanding.{expanded as words_expanded};
 ghost use Rattle.kak_world.specs.declared.ask.EditError.TheVariants.{NoMemory};
 ghost use Rattle.kak_world.specs.Flat.{acts};
 ghost use Rattle.kak_world.specs.Rows.{GivesRow, row_of};
+ghost use Rattle.command_forms.specs.Names.{named};
 ghost use Rattle.command_set.specs.Reading.{commands_told};
 ghost use Rattle.command_set.specs.Expanding.{table_of};
 ghost use Rattle.command_set.specs.Refusing.{IsUnexpanded};
-ghost use Rattle.command_set.specs.Rows.{row_order, order_refusal, row_words, row_command};
+ghost use Rattle.command_set.specs.Rows.{row_order, order_refusal, row_named, row_words, row_command};
 
 use crate::expansions::Expansions;
-use crate::{buffers, options, registers, selecting};
-use command_forms::{Order, OrderError, read_order};
+use crate::{boxes, buffers, faces, options, painting, registers, selecting};
+use byte_texts::Utf8Text;
+use command_forms::{Order, OrderError, command_named, read_order_of};
 use kak_words::{Command, WordError, expand, read_commands};
-use kak_world::{Ask, CommandError, EditError, World};
+use kak_world::{Ask, CommandError, EditError, Turn, World};
 use key_rows::string_of;
+use regex_ports::Pattern;
 use std::alloc::Global;
 
 /// The commands of a text. `Unclosed` tells the character, from 0, at which a quote or a bracket opens that isn't closed.
@@ -36,7 +39,12 @@ pub fn read(alloc: Global, text: &[char]) -> Result<Vec<Command>, EditError>
 }
 
 // Does what a command orders.
-fn run_order(alloc: Global, world: &mut World, who: u32, order: Order) -> Result<Ask, EditError>
+fn run_order<P: Pattern, T: Turn>(
+    alloc: Global,
+    world: &mut World<P, T>,
+    who: u32,
+    order: Order,
+) -> Result<Ask, EditError>
     requires { acts who world.old.flat ≡ true }
     ensures row { GivesRow result world.new.flat (row_order order who world.old.flat) }
     ensures wanting { IsErrOf result NoMemory → world.new.flat ≡ world.old.flat }
@@ -58,6 +66,10 @@ fn run_order(alloc: Global, world: &mut World, who: u32, order: Order) -> Result
         Order::Select(selection) => selecting::select(alloc, world, who, &selection)?,
         Order::Echo(words) => registers::echo(alloc, world, who, &words)?,
         Order::Fail(text) => return Err(registers::fail(alloc, text)),
+        Order::Info(texts) => boxes::show(alloc, world, who, &texts)?,
+        Order::SetFace(setting) => faces::set(alloc, world, setting)?,
+        Order::UnsetFace(face) => faces::unset(world, face)?,
+        Order::Highlighter(order) => return painting::change(alloc, world, who, order),
     }
     Ok(Ask::Nothing)
 }
@@ -67,20 +79,45 @@ fn order_refusal(error: OrderError) -> EditError
     ensures { result ≡ order_refusal error }
 {
     match error {
-        OrderError::NoSuchCommand(word) => EditError::Command(CommandError::NoSuchCommand(word)),
         OrderError::WrongArgumentCount => EditError::Command(CommandError::WrongArgumentCount),
         OrderError::UnknownSwitch(word) => EditError::Command(CommandError::UnknownSwitch(word)),
         OrderError::BadValue => EditError::Command(CommandError::BadValue),
+        OrderError::NoSuchHighlighter(word) => {
+            EditError::Command(CommandError::NoSuchHighlighter(word))
+        }
         OrderError::BadSelection(word) => EditError::Command(CommandError::BadSelection(word)),
         OrderError::NoMemory => EditError::NoMemory,
     }
 }
 
-/// Runs one command, by its words. A refusal leaves the world, and so does want of memory.
-#[tactic(auto, using(kak_world::proofs::WorldLaws::world_laws), unfolding(crate::specs::Rows::row_words))]
-pub fn command(
+// Runs the command that a word names, by the words behind it.
+fn run_named<P: Pattern, T: Turn>(
     alloc: Global,
-    world: &mut World,
+    world: &mut World<P, T>,
+    who: u32,
+    word: &str,
+    words: &[String],
+) -> Result<Ask, EditError>
+    requires { acts who world.old.flat ≡ true }
+    ensures row { GivesRow result world.new.flat (row_named (named word.now) word.now (map (λ w. string_bytes w) words.now) who world.old.flat) }
+    ensures wanting { IsErrOf result NoMemory → world.new.flat ≡ world.old.flat }
+{
+    let Some(name) = command_named(word) else {
+        let word = Utf8Text::from_str(alloc, word)?;
+        return Err(EditError::Command(CommandError::NoSuchCommand(word)));
+    };
+    match read_order_of(alloc, name, words) {
+        Ok(order) => run_order(alloc, world, who, order),
+        Err(error) => Err(order_refusal(error)),
+    }
+}
+
+/// Runs one command, by its words, of which the first names it: `NoSuchCommand` comes where it doesn't. No words do nothing. A
+/// refusal leaves the world, and so does want of memory.
+#[tactic(auto, using(kak_world::proofs::WorldLaws::world_laws), unfolding(crate::specs::Rows::row_words))]
+pub fn command<P: Pattern, T: Turn>(
+    alloc: Global,
+    world: &mut World<P, T>,
     who: u32,
     words: &[String],
 ) -> Result<Ask, EditError>
@@ -88,16 +125,16 @@ pub fn command(
     ensures row { GivesRow result world.new.flat (row_words (map (λ w. string_bytes w) words.now) who world.old.flat) }
     ensures wanting { IsErrOf result NoMemory → world.new.flat ≡ world.old.flat }
 {
-    match read_order(alloc, words) {
-        Ok(order) => run_order(alloc, world, who, order),
-        Err(error) => Err(order_refusal(error)),
+    match words {
+        [] => Ok(Ask::Nothing),
+        [word, ..] => run_named(alloc, world, who, word.as_str(), words.split_at(1).1),
     }
 }
 
 // The words that a command stands for, for a client.
-fn expanded(
+fn expanded<P: Pattern, T: Turn>(
     alloc: Global,
-    world: &World,
+    world: &World<P, T>,
     who: u32,
     command: &Command,
 ) -> Result<Vec<String>, EditError>
@@ -118,9 +155,9 @@ fn expanded(
 /// Runs one command, whose words are expanded first: `UnknownExpansion` comes where there is no such expansion. A refusal
 /// leaves the world, and so does want of memory.
 #[tactic(auto, using(kak_world::proofs::WorldLaws::world_laws), unfolding(crate::specs::Rows::row_command))]
-pub fn run_command(
+pub fn run_command<P: Pattern, T: Turn>(
     alloc: Global,
-    world: &mut World,
+    world: &mut World<P, T>,
     who: u32,
     command_read: &Command,
 ) -> Result<Ask, EditError>

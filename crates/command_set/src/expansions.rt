@@ -15,8 +15,9 @@ use byte_texts::Words;
 use command_forms::{ArgumentPlace, Columns};
 use kak_registers::register_named;
 use kak_words::Lookup;
-use kak_world::World;
+use kak_world::{Turn, World};
 use key_rows::{register_strings, string_of};
+use regex_ports::Pattern;
 use scope_options::{OptionValue, Scope};
 use selection_set::Sel;
 use selection_texts::{main_cursor, selection_desc, selections_desc};
@@ -24,8 +25,8 @@ use std::alloc::{AllocError, Global};
 
 /// The expansions of a client.
 #[derive(Drop)]
-pub(crate) struct Expansions<'a> {
-    pub(crate) world: &'a World,
+pub(crate) struct Expansions<'a, P: Pattern, T: Turn> {
+    pub(crate) world: &'a World<P, T>,
     pub(crate) who: u32,
     ghost acts: { acts who world.now.flat ≡ true },
 }
@@ -61,7 +62,7 @@ fn client_name(alloc: Global, n: u32) -> Result<Words, AllocError>
 }
 
 // The place of a client's main cursor.
-fn main_place(world: &World, who: u32, columns: Columns) -> ArgumentPlace
+fn main_place<P: Pattern, T: Turn>(world: &World<P, T>, who: u32, columns: Columns) -> ArgumentPlace
     requires { acts who world.now.flat ≡ true }
     ensures { result ≡ main_place columns who world.now.flat }
 {
@@ -69,7 +70,7 @@ fn main_place(world: &World, who: u32, columns: Columns) -> ArgumentPlace
 }
 
 // The main selection of a client.
-fn main_selection(world: &World, who: u32) -> Sel
+fn main_selection<P: Pattern, T: Turn>(world: &World<P, T>, who: u32) -> Sel
     requires { acts who world.now.flat ≡ true }
     ensures inside { IsInside (text_of who world.now.flat) result }
     ensures value { range_of (text_of who world.now.flat) result ≡ main_selection who world.now.flat }
@@ -79,7 +80,11 @@ fn main_selection(world: &World, who: u32) -> Sel
 }
 
 // The main selection of a client, as it is described.
-fn main_described(alloc: Global, world: &World, who: u32) -> Result<Words, AllocError>
+fn main_described<P: Pattern, T: Turn>(
+    alloc: Global,
+    world: &World<P, T>,
+    who: u32,
+) -> Result<Words, AllocError>
     requires { acts who world.now.flat ≡ true }
     ensures { IfOk result (λ words. words ≡ told_text (text_of who world.now.flat) (main_selection who world.now.flat) ∷ []) }
 {
@@ -88,7 +93,11 @@ fn main_described(alloc: Global, world: &World, who: u32) -> Result<Words, Alloc
 }
 
 // The text of the main selection of a client.
-fn main_text(alloc: Global, world: &World, who: u32) -> Result<Words, AllocError>
+fn main_text<P: Pattern, T: Turn>(
+    alloc: Global,
+    world: &World<P, T>,
+    who: u32,
+) -> Result<Words, AllocError>
     requires { acts who world.now.flat ≡ true }
     ensures { IfOk result (λ words. words ≡ encode_utf8_all (text_of_range (text_of who world.now.flat) (main_selection who world.now.flat)) ∷ []) }
 {
@@ -98,7 +107,7 @@ fn main_text(alloc: Global, world: &World, who: u32) -> Result<Words, AllocError
 }
 
 // Whether the text of the buffer that a client sees may differ from what was saved.
-fn is_modified(world: &World, who: u32) -> bool
+fn is_modified<P: Pattern, T: Turn>(world: &World<P, T>, who: u32) -> bool
     requires { acts who world.now.flat ≡ true }
     ensures { result ≡ is_modified (story_of who world.now.flat) }
 {
@@ -109,9 +118,9 @@ fn is_modified(world: &World, who: u32) -> bool
 }
 
 // The strings of a value.
-fn value_strings(
+fn value_strings<P: Pattern, T: Turn>(
     alloc: Global,
-    world: &World,
+    world: &World<P, T>,
     who: u32,
     value: ValueName,
 ) -> Result<Words, AllocError>
@@ -164,9 +173,9 @@ fn option_strings(alloc: Global, value: &OptionValue) -> Result<Words, AllocErro
 }
 
 // The strings of the value of a name.
-fn named_value(
+fn named_value<P: Pattern, T: Turn>(
     alloc: Global,
-    world: &World,
+    world: &World<P, T>,
     who: u32,
     name: &str,
 ) -> Result<Option<Words>, AllocError>
@@ -180,9 +189,9 @@ fn named_value(
 }
 
 // The strings of the option of a name.
-fn named_option(
+fn named_option<P: Pattern, T: Turn>(
     alloc: Global,
-    world: &World,
+    world: &World<P, T>,
     who: u32,
     name: &str,
 ) -> Result<Option<Words>, AllocError>
@@ -199,9 +208,9 @@ fn named_option(
 }
 
 // The strings of the register of a name.
-fn named_register(
+fn named_register<P: Pattern, T: Turn>(
     alloc: Global,
-    world: &World,
+    world: &World<P, T>,
     who: u32,
     name: &str,
 ) -> Result<Option<Words>, AllocError>
@@ -226,9 +235,9 @@ fn arguments(alloc: Global, name: &str) -> Option<Words>
 
 // The strings of an expansion.
 #[tactic(auto, using(kak_world::proofs::WorldLaws::world_laws), unfolding(crate::specs::Expanding::table_of))]
-fn strings_of(
+fn strings_of<P: Pattern, T: Turn>(
     alloc: Global,
-    world: &World,
+    world: &World<P, T>,
     who: u32,
     kind: &str,
     name: &str,
@@ -245,7 +254,7 @@ fn strings_of(
     }
 }
 
-impl<'a> Lookup for Expansions<'a> {
+impl<'a, P: Pattern, T: Turn> Lookup for Expansions<'a, P, T> {
     ghost table = { λ e. table_of e.who e.world.now.flat };
 
     fn look(&self, alloc: Global, kind: &str, name: &str) -> Result<Option<Words>, AllocError> {

@@ -18,8 +18,9 @@ use byte_texts::{Utf8Text, Words};
 use kak_files::FileRead;
 use kak_ports::Put;
 use kak_text::{Chars, Text};
-use kak_world::{Ask, CommandError, EditError, Saving, World, WorldError};
+use kak_world::{Ask, CommandError, EditError, Saving, Turn, World, WorldError};
 use line_buffer::Lines;
+use regex_ports::Pattern;
 use scope_options::{OptionError, OptionValue, Scope};
 use std::alloc::{AllocError, Global};
 use text_coding::{Bom, DecodeError, Eol, Loaded, decode, encode};
@@ -45,9 +46,9 @@ fn bom_word(bom: Bom) -> &'static str
 }
 
 // Sets an option in a buffer to a word, where the option takes it.
-fn set_in_buffer(
+fn set_in_buffer<P: Pattern, T: Turn>(
     alloc: Global,
-    world: &mut World,
+    world: &mut World<P, T>,
     n: u32,
     name: &str,
     word: &str,
@@ -65,9 +66,9 @@ fn set_in_buffer(
 }
 
 // Sets the form that a file had in the buffer of a number.
-fn set_format(
+fn set_format<P: Pattern, T: Turn>(
     alloc: Global,
-    world: &mut World,
+    world: &mut World<P, T>,
     n: u32,
     eol: Eol,
     bom: Bom,
@@ -81,7 +82,12 @@ fn set_format(
 }
 
 // Opens a buffer for a file, where one more can be opened.
-fn open(alloc: Global, world: &mut World, name: &str, lines: Lines) -> Result<u32, AllocError>
+fn open<P: Pattern, T: Turn>(
+    alloc: Global,
+    world: &mut World<P, T>,
+    name: &str,
+    lines: Lines,
+) -> Result<u32, AllocError>
     requires { has_all_buffers world.old.flat ≡ false }
     ensures number { IfOk result (λ n. n ≡ first_gap world.old.flat.buffers) }
     ensures ok { OnOk result (world.new.flat ≡ buffer_opened (chars name.now) true lines world.old.flat) }
@@ -96,9 +102,9 @@ fn open(alloc: Global, world: &mut World, name: &str, lines: Lines) -> Result<u3
 }
 
 // Opens a file's text as a buffer, in the form that it had, and shows that to a client.
-fn load(
+fn load<P: Pattern, T: Turn>(
     alloc: Global,
-    world: &mut World,
+    world: &mut World<P, T>,
     who: u32,
     name: &str,
     loaded: Loaded,
@@ -118,7 +124,12 @@ fn load(
 }
 
 // Opens an empty buffer for a file that isn't there, and shows that to a client.
-fn open_empty(alloc: Global, world: &mut World, who: u32, name: &str) -> Result<Ask, EditError>
+fn open_empty<P: Pattern, T: Turn>(
+    alloc: Global,
+    world: &mut World<P, T>,
+    who: u32,
+    name: &str,
+) -> Result<Ask, EditError>
     requires { acts who world.old.flat ≡ true }
     ensures row { GivesRow result world.new.flat (empty_row name.now who world.old.flat) }
     ensures err { OnErr result (IsPartOfEmpty name.now world.old.flat world.new.flat) }
@@ -144,9 +155,9 @@ fn coding_refusal(error: DecodeError) -> EditError
 }
 
 // Opens the text of a file's bytes.
-fn open_bytes(
+fn open_bytes<P: Pattern, T: Turn>(
     alloc: Global,
-    world: &mut World,
+    world: &mut World<P, T>,
     who: u32,
     name: &str,
     bytes: &[u8],
@@ -165,9 +176,9 @@ fn open_bytes(
 /// read failed, `NotUtf8` and `TextFull` where the bytes are no text, and `TooManyBuffers` where no more can be opened;
 /// they leave the world. After want of memory the buffer may be opened, and shown to nobody.
 #[tactic(auto, unfolding(crate::specs::Files::row_read))]
-pub fn open_read(
+pub fn open_read<P: Pattern, T: Turn>(
     alloc: Global,
-    world: &mut World,
+    world: &mut World<P, T>,
     who: u32,
     name: Utf8Text,
     read: &FileRead,
@@ -195,7 +206,7 @@ fn is_text(value: &OptionValue, text: &str) -> bool
 }
 
 // Whether an option is seen to be a text from a buffer outward.
-fn is_seen_as(world: &World, n: u32, name: &str, text: &str) -> bool
+fn is_seen_as<P: Pattern, T: Turn>(world: &World<P, T>, n: u32, name: &str, text: &str) -> bool
     ensures { result ≡ is_seen_as text.now (seen_from (InBuffer n) name.now (options_of world.now.flat)) }
 {
     match world.options().seen(Scope::Buffer(n), name) {
@@ -205,7 +216,7 @@ fn is_seen_as(world: &World, n: u32, name: &str, text: &str) -> bool
 }
 
 // How the lines of a buffer's text end where it is written.
-fn eol_of(world: &World, n: u32) -> Eol
+fn eol_of<P: Pattern, T: Turn>(world: &World<P, T>, n: u32) -> Eol
     ensures { result ≡ eol_of n world.now.flat }
 {
     if is_seen_as(world, n, "eolformat", "crlf") {
@@ -215,7 +226,7 @@ fn eol_of(world: &World, n: u32) -> Eol
 }
 
 // Whether a mark of the byte order stands first where a buffer's text is written.
-fn bom_of(world: &World, n: u32) -> Bom
+fn bom_of<P: Pattern, T: Turn>(world: &World<P, T>, n: u32) -> Bom
     ensures { result ≡ bom_of n world.now.flat }
 {
     if is_seen_as(world, n, "BOM", "utf8") {
@@ -226,7 +237,11 @@ fn bom_of(world: &World, n: u32) -> Bom
 
 /// The bytes that are to be written to a file, in the form that the buffer's options say.
 #[tactic(auto, unfolding(crate::specs::Files::saved_bytes))]
-pub fn bytes_saved(alloc: Global, world: &World, saving: &Saving) -> Result<Vec<u8>, AllocError>
+pub fn bytes_saved<P: Pattern, T: Turn>(
+    alloc: Global,
+    world: &World<P, T>,
+    saving: &Saving,
+) -> Result<Vec<u8>, AllocError>
     ensures { IfOk result (λ bytes. bytes.items ≡ saved_bytes saving.now world.now.flat) }
 {
     let n = saving.buffer;
@@ -237,7 +252,11 @@ pub fn bytes_saved(alloc: Global, world: &World, saving: &Saving) -> Result<Vec<
 }
 
 // Whether a file has the name of the buffer whose text was written to it.
-fn is_own(alloc: Global, world: &World, saving: &Saving) -> Result<bool, AllocError>
+fn is_own<P: Pattern, T: Turn>(
+    alloc: Global,
+    world: &World<P, T>,
+    saving: &Saving,
+) -> Result<bool, AllocError>
     ensures { IfOk result (λ is. is ≡ is_named (chars saving.now.file) (slice_index_or world.now.flat.buffers saving.now.buffer None)) }
 {
     let name = Chars::from_str(alloc, saving.file.as_str())?;
@@ -248,7 +267,11 @@ fn is_own(alloc: Global, world: &World, saving: &Saving) -> Result<bool, AllocEr
 }
 
 // Marks a buffer as saved whose text was written to the file of its own name.
-fn mark_if_own(alloc: Global, world: &mut World, saving: &Saving) -> Result<(), AllocError>
+fn mark_if_own<P: Pattern, T: Turn>(
+    alloc: Global,
+    world: &mut World<P, T>,
+    saving: &Saving,
+) -> Result<(), AllocError>
     ensures ok { OnOk result (world.new.flat ≡ marked_if_own saving.now world.old.flat) }
     ensures err { OnErr result (world.new.flat ≡ world.old.flat) }
 {
@@ -262,9 +285,9 @@ fn mark_if_own(alloc: Global, world: &mut World, saving: &Saving) -> Result<(), 
 /// may be to leave then. `FileFault` comes where the write failed, and leaves the world; `ModifiedRemain` as where a
 /// client leaves, when the text counts as saved already. After want of memory it may count so, too.
 #[tactic(auto, unfolding(crate::specs::Files::row_saved))]
-pub fn note_saved(
+pub fn note_saved<P: Pattern, T: Turn>(
     alloc: Global,
-    world: &mut World,
+    world: &mut World<P, T>,
     who: u32,
     saving: Saving,
     put: Put,

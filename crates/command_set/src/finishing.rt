@@ -6,10 +6,11 @@ ghost use Rattle.selection_set.specs.Held.{IsHeld, selected};
 ghost use Rattle.kak_world.specs.declared.ask.EditError.TheVariants.{NoMemory};
 ghost use Rattle.kak_world.specs.Flat.{acts, text_of, with_sels};
 ghost use Rattle.kak_world.specs.Rows.{GivesRow, does};
-ghost use Rattle.command_set.specs.Finishing.{source_of, list_used, next_use, further_asked, pattern_used, row_finish};
+ghost use Rattle.command_set.specs.Finishing.{source_of, list_used, next_use, further_asked, pattern_used, made_row, row_finish};
 ghost use Rattle.command_set.specs.Refusing.{refusal_of, IsListOf};
 
-use kak_world::{Ask, EditError, Use, World};
+use crate::painting;
+use kak_world::{Ask, EditError, Turn, Use, Wanted, World};
 use key_rows::ask_for_last;
 use regex_ports::{Made, Pattern};
 use regex_select::{
@@ -30,9 +31,9 @@ fn refusal_of(error: SelectError) -> EditError
 }
 
 // The list that a use of a pattern leaves to a client.
-fn list_used<P: Pattern>(
+fn list_used<P: Pattern, T: Turn>(
     alloc: Global,
-    world: &World,
+    world: &World<P, T>,
     who: u32,
     wanted: Use,
     pattern: &P,
@@ -89,9 +90,9 @@ fn next_use(wanted: Use) -> Option<Use>
 }
 
 // Takes a list for a client, and asks for the further use that comes behind it, for which a unit is taken.
-fn take_list(
+fn take_list<P: Pattern, T: Turn>(
     alloc: Global,
-    world: &mut World,
+    world: &mut World<P, T>,
     who: u32,
     sels: Sels,
     next: Option<Use>,
@@ -118,9 +119,9 @@ fn take_list(
 }
 
 // Makes use of a pattern.
-fn make_use<P: Pattern>(
+fn make_use<P: Pattern, T: Turn>(
     alloc: Global,
-    world: &mut World,
+    world: &mut World<P, T>,
     who: u32,
     wanted: Use,
     pattern: &P,
@@ -135,16 +136,34 @@ fn make_use<P: Pattern>(
     }
 }
 
-/// Makes use of a pattern that was asked for, or tells that it was refused: `BadPattern`. `NothingSelected` comes where nothing
-/// would be selected, `TooManySelections` where there would be more selections than there may be; both leave the world, and so
-/// does want of memory. A use that is to be made more often takes a unit for each further time, and asks for the pattern again;
-/// `BudgetSpent` comes where none is left.
-#[tactic(auto, unfolding(crate::specs::Finishing::row_finish))]
-pub fn finish<P: Pattern>(
+// Makes of a pattern what it was asked for.
+fn make<P: Pattern, T: Turn>(
     alloc: Global,
-    world: &mut World,
+    world: &mut World<P, T>,
     who: u32,
-    wanted: Use,
+    wanted: Wanted,
+    pattern: P,
+) -> Result<Ask, EditError>
+    requires { acts who world.old.flat ≡ true }
+    ensures row { GivesRow result world.new.flat (made_row wanted (P.source pattern) who world.old.flat) }
+    ensures wanting { IsErrOf result NoMemory → world.new.flat ≡ world.old.flat }
+{
+    match wanted {
+        Wanted::Selects(wanted) => make_use(alloc, world, who, wanted, &pattern),
+        Wanted::Paints(new) => painting::add_made(alloc, world, new, pattern),
+    }
+}
+
+/// Makes of a pattern what it was asked for, or tells that it was refused: `BadPattern`. A use of its matches is refused by
+/// `NothingSelected` where nothing would be selected, and by `TooManySelections` where there would be more selections than there
+/// may be; one that is to be made more often takes a unit for each further time, and asks for the pattern again; `BudgetSpent`
+/// comes where none is left. Each other refusal leaves the world, and so does want of memory.
+#[tactic(auto, unfolding(crate::specs::Finishing::row_finish))]
+pub fn finish<P: Pattern, T: Turn>(
+    alloc: Global,
+    world: &mut World<P, T>,
+    who: u32,
+    wanted: Wanted,
     made: Made<P>,
 ) -> Result<Ask, EditError>
     requires { acts who world.old.flat ≡ true }
@@ -152,7 +171,7 @@ pub fn finish<P: Pattern>(
     ensures wanting { IsErrOf result NoMemory → world.new.flat ≡ world.old.flat }
 {
     match made {
-        Made::Built(pattern) => make_use(alloc, world, who, wanted, &pattern),
+        Made::Built(pattern) => make(alloc, world, who, wanted, pattern),
         Made::Refused => Err(EditError::BadPattern),
     }
 }

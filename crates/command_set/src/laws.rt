@@ -1,6 +1,7 @@
 //! Laws of the commands, and worked examples of the definitions: each is the contract of a function that does nothing.
 
 ghost use Rattle.command_set.specs.Examples.{Examples};
+ghost use Rattle.command_set.specs.PaintingExamples.{PaintingExamples};
 ghost use Rattle.command_set.specs.Laws.{CommandsAreTame, FilesAreTame, FinishFalls, FinishKeepsClients};
 
 /// No command takes units, or lets a client come or go.
@@ -13,12 +14,12 @@ pub fn files_are_tame()
     ensures { FilesAreTame }
 {}
 
-/// A use of a pattern takes a unit where it asks for more.
+/// What is made of a pattern takes a unit where it asks for more.
 pub fn finish_falls()
     ensures { FinishFalls }
 {}
 
-/// No use of a pattern makes a client come or go.
+/// Nothing that is made of a pattern makes a client come or go.
 pub fn finish_keeps_clients()
     ensures { FinishKeepsClients }
 {}
@@ -26,4 +27,9 @@ pub fn finish_keeps_clients()
 /// Worked examples of the commands.
 pub fn worked_examples()
     ensures { Examples }
+{}
+
+/// Faces and highlighters, at given words and worlds. The function does nothing; its clause is the list of them.
+pub fn painting_examples()
+    ensures { PaintingExamples }
 {}

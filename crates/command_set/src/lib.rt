@@ -1,13 +1,17 @@
-//! The commands: one row for each; and what is made of the patterns that keys ask for.
+//! The commands: one row for each; and what is made of the patterns that keys and commands ask for.
 #![tactic(auto)]
 
+mod boxes;
 mod buffers;
 pub mod commands;
 mod expansions;
+mod faces;
 pub mod files;
 pub mod finishing;
 pub mod laws;
 mod options;
+mod painters;
+mod painting;
 mod registers;
 mod selecting;
 mod value_names;

@@ -9,12 +9,17 @@ ghost use Rattle.command_set.specs.Options.{scope_named, is_declared, refusal_by
 
 use byte_texts::Utf8Text;
 use command_forms::{Declaration, OptionName, SettingOrder};
-use kak_world::{CommandError, EditError, World};
+use kak_world::{CommandError, EditError, Turn, World};
+use regex_ports::Pattern;
 use scope_options::{OptionError, Scope};
 use std::alloc::Global;
 
-// The scope that a word names for a client.
-fn scope_named(word: &str, world: &World, who: u32) -> Option<Scope>
+/// The scope that a word names for a client.
+pub(crate) fn scope_named<P: Pattern, T: Turn>(
+    word: &str,
+    world: &World<P, T>,
+    who: u32,
+) -> Option<Scope>
     requires { acts who world.now.flat ≡ true }
     ensures { result ≡ scope_named word.now who world.now.flat }
 {
@@ -27,7 +32,7 @@ fn scope_named(word: &str, world: &World, who: u32) -> Option<Scope>
 }
 
 // Whether there is an option of a name.
-fn is_declared(world: &World, name: &str) -> bool
+fn is_declared<P: Pattern, T: Turn>(world: &World<P, T>, name: &str) -> bool
     ensures { result ≡ is_declared name.now world.now.flat }
 {
     world.options().seen(Scope::Global, name).is_some()
@@ -59,9 +64,9 @@ fn unscoped(alloc: Global, name: Utf8Text) -> OptionName
 }
 
 /// Declares an option. `OptionExists`, `BadValue` and want of memory leave the world.
-pub(crate) fn declare(
+pub(crate) fn declare<P: Pattern, T: Turn>(
     alloc: Global,
-    world: &mut World,
+    world: &mut World<P, T>,
     declaration: Declaration,
 ) -> Result<(), EditError>
     ensures row { Answers result world.new.flat (declare_row declaration.kind declaration.name declaration.values world.old.flat) }
@@ -75,9 +80,9 @@ pub(crate) fn declare(
 }
 
 /// Sets an option at a scope. `NoSuchOption`, `NoSuchScope`, `BadValue` and want of memory leave the world.
-pub(crate) fn set(
+pub(crate) fn set<P: Pattern, T: Turn>(
     alloc: Global,
-    world: &mut World,
+    world: &mut World<P, T>,
     who: u32,
     setting: SettingOrder,
 ) -> Result<(), EditError>
@@ -103,7 +108,11 @@ pub(crate) fn set(
 }
 
 /// Takes away what an option is set to at a scope. `NoSuchOption` and `NoSuchScope` leave the world.
-pub(crate) fn unset(world: &mut World, who: u32, option: OptionName) -> Result<(), EditError>
+pub(crate) fn unset<P: Pattern, T: Turn>(
+    world: &mut World<P, T>,
+    who: u32,
+    option: OptionName,
+) -> Result<(), EditError>
     requires { acts who world.old.flat ≡ true }
     ensures row { Answers result world.new.flat (unset_option_row option.scope option.name who world.old.flat) }
     ensures wanting { IsErrOf result NoMemory → world.new.flat ≡ world.old.flat }

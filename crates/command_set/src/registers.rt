@@ -12,14 +12,15 @@ use byte_texts::{Utf8Text, Words};
 use command_forms::RegisterValues;
 use kak_registers::register_named;
 use kak_text::Chars;
-use kak_world::{CommandError, EditError, StatusText, World};
+use kak_world::{CommandError, EditError, StatusText, Turn, World};
 use key_rows::joined_text;
+use regex_ports::Pattern;
 use std::alloc::Global;
 
 /// Sets a register. `NoSuchRegister`, `ReadOnlyRegister`, `RegisterFull` and want of memory leave the world.
-pub(crate) fn set(
+pub(crate) fn set<P: Pattern, T: Turn>(
     alloc: Global,
-    world: &mut World,
+    world: &mut World<P, T>,
     register: RegisterValues,
 ) -> Result<(), EditError>
     ensures row { Answers result world.new.flat (register_row register.name register.values world.old.flat) }
@@ -33,7 +34,7 @@ pub(crate) fn set(
 }
 
 // Says a text to a client.
-fn say(world: &mut World, who: u32, text: Chars)
+fn say<P: Pattern, T: Turn>(world: &mut World<P, T>, who: u32, text: Chars)
     requires { acts who world.old.flat ≡ true }
     ensures { world.new.flat ≡ with_own who (λ o. record o { status = Said text }) world.old.flat }
 {
@@ -41,9 +42,9 @@ fn say(world: &mut World, who: u32, text: Chars)
 }
 
 /// Says words to a client, with a space between each two. Want of memory leaves the world.
-pub(crate) fn echo(
+pub(crate) fn echo<P: Pattern, T: Turn>(
     alloc: Global,
-    world: &mut World,
+    world: &mut World<P, T>,
     who: u32,
     words: &Words,
 ) -> Result<(), EditError>

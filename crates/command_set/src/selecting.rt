@@ -8,15 +8,16 @@ ghost use Rattle.kak_world.specs.Rows.{Answers};
 ghost use Rattle.command_set.specs.Selecting.{described_selected, select_row};
 
 use command_forms::{Columns, Described, Selection};
-use kak_world::{EditError, World};
+use kak_world::{EditError, Turn, World};
+use regex_ports::Pattern;
 use selection_set::SelsError;
 use selection_texts::list_meant;
 use std::alloc::Global;
 
 // Selects what is described, of which there is something.
-fn select_described(
+fn select_described<P: Pattern, T: Turn>(
     alloc: Global,
-    world: &mut World,
+    world: &mut World<P, T>,
     who: u32,
     columns: Columns,
     described: &[Described],
@@ -37,9 +38,9 @@ fn select_described(
 }
 
 /// Selects what is described. `TooManySelections` and want of memory leave the world.
-pub(crate) fn select(
+pub(crate) fn select<P: Pattern, T: Turn>(
     alloc: Global,
-    world: &mut World,
+    world: &mut World<P, T>,
     who: u32,
     selection: &Selection,
 ) -> Result<(), EditError>

@@ -5,4 +5,4 @@ use Rattle.command_forms.proofs.switches.take_switches.Given as goal
 
 abbrev pub invariant-loop-i : goal.invariant-loop-i
 invariant-loop-i l =
-    then_as (behind_switches l.given.items) (taken l.name l.waiting (map (λ w. string_bytes w) (drop l.i l.words))) ≡ taken l.name None (map (λ w. string_bytes w) l.words)
+    then_as (behind_switches l.given.items) (taken l.owner l.waiting (map (λ w. string_bytes w) (drop l.i l.words))) ≡ taken l.owner None (map (λ w. string_bytes w) l.words)

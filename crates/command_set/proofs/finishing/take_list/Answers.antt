@@ -6,7 +6,7 @@ use Rattle.command_set.proofs.UseLemmas.{unit-asked}
 use Rattle.command_set.proofs.finishing.take_list.Goals as goal
 
 pub returns-else-not-take_unit-clause-row : goal.returns-else-not-take_unit-clause-row
-returns-else-not-take_unit-clause-row c =
+returns-else-not-take_unit-clause-row g c =
     let who = c.args.who in
     let flat = c.args.world.now.flat in
     let sels = selected (text_of who flat) c.args.sels in
