@@ -8,7 +8,7 @@ use Rattle.list_shelf.specs.declared.holder.Holder.TheVariants.{Of}
 use Rattle.kak_world.specs.declared.own.Mode.TheVariants.{Normal, Insert}
 use Rattle.kak_world.specs.declared.own.Own.{Own}
 use Rattle.list_shelf.specs.Shelves.{Held}
-use Rattle.kak_world.specs.Flat.{Flat, first_rest, first_own, fresh_list, newcomer, only_at, mode_of, text_of, sels_of, story_of}
+use Rattle.kak_world.specs.Flat.{Flat, first_rest, first_scoped, first_own, fresh_list, newcomer, only_at, mode_of, text_of, sels_of, story_of}
 use Rattle.insert_prompt.specs.Rows.{insert_base, insert_control}
 
 -- a list of a client
@@ -21,6 +21,7 @@ two_clients text own first second = record {
   buffers = Some (record { name = codes "*scratch*"; is_file = false; story = opened text; lists = list_for 0 first ∷ list_for 1 second ∷ [] }) ∷ [];
   clients = record (newcomer 0 0 0) { own = own } ∷ newcomer 1 1 0 ∷ [];
   rest = first_rest;
+  scoped = first_scoped;
 }
 
 -- client 0 in insert mode on a text, with these selections, and client 1 on the character at an offset

@@ -10,6 +10,7 @@ use Rattle.kak_world.specs.declared.ask.EditError.TheVariants.{NoSuchRegister}
 use Rattle.kak_world.specs.declared.own.Mode.TheVariants.{Normal, Prompt}
 use Rattle.directions.specs.declared.direction.Direction.TheVariants.{Forward}
 use Rattle.kak_world.specs.declared.purpose.Use.{Use}
+use Rattle.kak_world.specs.declared.purpose.Wanted.TheVariants.{Selects}
 use Rattle.kak_world.specs.declared.purpose.Use.TheVariants.{Select, Split, Keep, Search}
 use Rattle.kak_world.specs.declared.purpose.Purpose.TheVariants.{Pattern}
 use Rattle.kak_world.specs.Flat.{Flat, first_own, only_at, mode_of, pending_of, prompt_of, registers_of}
@@ -29,7 +30,7 @@ seeking wanted before behind =
 
 -- that a pattern is asked for, and a use of it
 abbrev pub asking : List ℕ → Use → Row
-asking pattern wanted = Asks (Make (record { pattern = pattern; then = wanted }))
+asking pattern wanted = Asks (Make (record { pattern = pattern; then = Selects wanted }))
 
 -- where register `/` (47) holds strings
 abbrev pub looking : List (List ℕ) → Flat → Flat

@@ -12,14 +12,20 @@ ghost use Rattle.insert_prompt.specs.Wanting.{is_part_of_typing, is_part_of_eras
 
 use directions::Direction;
 use edit_ops::{Erase, Put, before_cursors, erase};
-use kak_world::{Ask, EditError, Mode, World};
+use kak_world::{Ask, EditError, Mode, Turn, World};
 use key_names::{Base, Key};
 use key_rows::{Each, Shape, change_each, register_named, register_puts};
 use motion_keys::{Motion, Place, Reach};
+use regex_ports::Pattern;
 use std::alloc::Global;
 
 // Puts a character in before each cursor.
-fn put_in(alloc: Global, world: &mut World, who: u32, c: char) -> Result<Ask, EditError>
+fn put_in<P: Pattern, T: Turn>(
+    alloc: Global,
+    world: &mut World<P, T>,
+    who: u32,
+    c: char,
+) -> Result<Ask, EditError>
     requires { acts who world.old.flat ≡ true }
     ensures row { GivesRow result world.new.flat (typed (c ∷ []) who world.old.flat) }
     ensures wanting { IsErrOf result NoMemory → is_part_of_typing c who world.old.flat world.new.flat }
@@ -32,7 +38,12 @@ fn put_in(alloc: Global, world: &mut World, who: u32, c: char) -> Result<Ask, Ed
 }
 
 // Erases a character before each cursor, or at it.
-fn erase_at(alloc: Global, world: &mut World, who: u32, what: Erase) -> Result<Ask, EditError>
+fn erase_at<P: Pattern, T: Turn>(
+    alloc: Global,
+    world: &mut World<P, T>,
+    who: u32,
+    what: Erase,
+) -> Result<Ask, EditError>
     requires { acts who world.old.flat ≡ true }
     ensures row { GivesRow result world.new.flat (erased_row what who world.old.flat) }
     ensures wanting { IsErrOf result NoMemory → is_part_of_erasing what who world.old.flat world.new.flat }
@@ -43,7 +54,12 @@ fn erase_at(alloc: Global, world: &mut World, who: u32, what: Erase) -> Result<A
 }
 
 // Moves each selection.
-fn step(alloc: Global, world: &mut World, who: u32, motion: Motion) -> Result<Ask, EditError>
+fn step<P: Pattern, T: Turn>(
+    alloc: Global,
+    world: &mut World<P, T>,
+    who: u32,
+    motion: Motion,
+) -> Result<Ask, EditError>
     requires { acts who world.old.flat ≡ true }
     ensures row { GivesRow result world.new.flat (does (each_moved motion Reach.Select who world.old.flat)) }
     ensures wanting { IsErrOf result NoMemory → world.new.flat ≡ world.old.flat }
@@ -52,7 +68,12 @@ fn step(alloc: Global, world: &mut World, who: u32, motion: Motion) -> Result<As
 }
 
 // Does something to each selection.
-fn change(alloc: Global, world: &mut World, who: u32, change: Each) -> Result<Ask, EditError>
+fn change<P: Pattern, T: Turn>(
+    alloc: Global,
+    world: &mut World<P, T>,
+    who: u32,
+    change: Each,
+) -> Result<Ask, EditError>
     requires { acts who world.old.flat ≡ true }
     ensures row { GivesRow result world.new.flat (does (each_changed change who world.old.flat)) }
     ensures wanting { IsErrOf result NoMemory → world.new.flat ≡ world.old.flat }
@@ -62,7 +83,11 @@ fn change(alloc: Global, world: &mut World, who: u32, change: Each) -> Result<As
 }
 
 // Leaves insert mode; where it was entered behind selections, the cursors go back.
-fn leave(alloc: Global, world: &mut World, who: u32) -> Result<Ask, EditError>
+fn leave<P: Pattern, T: Turn>(
+    alloc: Global,
+    world: &mut World<P, T>,
+    who: u32,
+) -> Result<Ask, EditError>
     requires { acts who world.old.flat ≡ true }
     ensures row { GivesRow result world.new.flat (does (leave_insert who world.old.flat)) }
     ensures wanting { IsErrOf result NoMemory → world.new.flat ≡ world.old.flat }
@@ -77,7 +102,12 @@ fn leave(alloc: Global, world: &mut World, who: u32) -> Result<Ask, EditError>
 }
 
 // Puts the n-th string of a register in before the n-th cursor.
-fn put_register(alloc: Global, world: &mut World, who: u32, name: char) -> Result<Ask, EditError>
+fn put_register<P: Pattern, T: Turn>(
+    alloc: Global,
+    world: &mut World<P, T>,
+    who: u32,
+    name: char,
+) -> Result<Ask, EditError>
     requires { acts who world.old.flat ≡ true }
     ensures row { GivesRow result world.new.flat (put_register name who world.old.flat) }
     ensures wanting { IsErrOf result NoMemory → is_part_of_putting (Some name) who world.old.flat world.new.flat }
@@ -88,7 +118,7 @@ fn put_register(alloc: Global, world: &mut World, who: u32, name: char) -> Resul
 }
 
 // Lets a key wait for the next one, or none.
-pub(crate) fn set_pending(world: &mut World, who: u32, key: Option<Key>)
+pub(crate) fn set_pending<P: Pattern, T: Turn>(world: &mut World<P, T>, who: u32, key: Option<Key>)
     requires { acts who world.old.flat ≡ true }
     ensures { world.new.flat ≡ awaiting key who world.old.flat }
 {
@@ -96,7 +126,7 @@ pub(crate) fn set_pending(world: &mut World, who: u32, key: Option<Key>)
 }
 
 // Runs a key with control alone.
-fn run_control(world: &mut World, who: u32, key: Key)
+fn run_control<P: Pattern, T: Turn>(world: &mut World<P, T>, who: u32, key: Key)
     requires { acts who world.old.flat ≡ true }
     ensures { does world.new.flat ≡ insert_control key.base key who world.old.flat }
 {
@@ -108,7 +138,12 @@ fn run_control(world: &mut World, who: u32, key: Key)
 }
 
 // Runs a key without modifiers.
-fn run_plain(alloc: Global, world: &mut World, who: u32, base: Base) -> Result<Ask, EditError>
+fn run_plain<P: Pattern, T: Turn>(
+    alloc: Global,
+    world: &mut World<P, T>,
+    who: u32,
+    base: Base,
+) -> Result<Ask, EditError>
     requires { acts who world.old.flat ≡ true }
     ensures row { GivesRow result world.new.flat (insert_base base who world.old.flat) }
     ensures wanting { IsErrOf result NoMemory → IsPartOfBase base who world.old.flat world.new.flat }
@@ -131,7 +166,12 @@ fn run_plain(alloc: Global, world: &mut World, who: u32, base: Base) -> Result<A
 }
 
 // Runs a key that no other key waits for.
-fn run_first(alloc: Global, world: &mut World, who: u32, key: Key) -> Result<Ask, EditError>
+fn run_first<P: Pattern, T: Turn>(
+    alloc: Global,
+    world: &mut World<P, T>,
+    who: u32,
+    key: Key,
+) -> Result<Ask, EditError>
     requires { acts who world.old.flat ≡ true }
     ensures row { GivesRow result world.new.flat (insert_first key who world.old.flat) }
     ensures wanting { IsErrOf result NoMemory → IsPartOfBase key.base who world.old.flat world.new.flat }
@@ -147,7 +187,12 @@ fn run_first(alloc: Global, world: &mut World, who: u32, key: Key) -> Result<Ask
 }
 
 // Runs a key for which `<c-r>` waited: it names a register, or does nothing.
-fn run_named(alloc: Global, world: &mut World, who: u32, key: Key) -> Result<Ask, EditError>
+fn run_named<P: Pattern, T: Turn>(
+    alloc: Global,
+    world: &mut World<P, T>,
+    who: u32,
+    key: Key,
+) -> Result<Ask, EditError>
     requires { acts who world.old.flat ≡ true }
     ensures row { GivesRow result world.new.flat (put_named (register_named key) who (awaiting None who world.old.flat)) }
     ensures wanting { IsErrOf result NoMemory → is_part_of_putting (register_named key) who (awaiting None who world.old.flat) world.new.flat }
@@ -162,7 +207,12 @@ fn run_named(alloc: Global, world: &mut World, who: u32, key: Key) -> Result<Ask
 /// Runs one key of insert mode. `UndoFull` and `TextFull` come exactly where the undo tree has no place for an edit, or else the
 /// text no room, and `NoSuchRegister` where a key names no register; they leave the text, the selections and the registers.
 #[tactic(auto, using(kak_world::proofs::WorldLaws::world_laws), unfolding(crate::specs::Rows::row_insert))]
-pub fn insert_key(alloc: Global, world: &mut World, who: u32, key: Key) -> Result<Ask, EditError>
+pub fn insert_key<P: Pattern, T: Turn>(
+    alloc: Global,
+    world: &mut World<P, T>,
+    who: u32,
+    key: Key,
+) -> Result<Ask, EditError>
     requires { acts who world.old.flat ≡ true }
     ensures row { GivesRow result world.new.flat (row_insert key who world.old.flat) }
     ensures wanting { IsErrOf result NoMemory → IsPartOfInsert (pending_of who world.old.flat) key who world.old.flat world.new.flat }

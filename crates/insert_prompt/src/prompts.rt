@@ -14,13 +14,14 @@ use crate::inserts::set_pending;
 use byte_texts::Words;
 use edit_line::EditLine;
 use kak_text::Chars;
-use kak_world::{Ask, EditError, Mode, PatternUse, Purpose, Use, World};
+use kak_world::{Ask, EditError, Mode, PatternUse, Purpose, Turn, Use, Wanted, World};
 use key_names::{Base, Key};
 use key_rows::{ask_for_last, register_named, register_text, string_of};
+use regex_ports::Pattern;
 use std::alloc::{AllocError, Global};
 
 // Leaves the prompt, and gives its line.
-fn leave(alloc: Global, world: &mut World, who: u32) -> EditLine
+fn leave<P: Pattern, T: Turn>(alloc: Global, world: &mut World<P, T>, who: u32) -> EditLine
     requires { acts who world.old.flat ≡ true }
     ensures typed { result ≡ prompt_of who world.old.flat }
     ensures left { world.new.flat ≡ leave_prompt who world.old.flat }
@@ -31,7 +32,7 @@ fn leave(alloc: Global, world: &mut World, who: u32) -> EditLine
 }
 
 // Leaves the prompt, since a register can't hold what was typed; want of memory leaves the world.
-fn refuse(alloc: Global, world: &mut World, who: u32, error: &EditError)
+fn refuse<P: Pattern, T: Turn>(alloc: Global, world: &mut World<P, T>, who: u32, error: &EditError)
     requires { acts who world.old.flat ≡ true }
     ensures left { IfSome (row_of error.now) (λ row. world.new.flat ≡ leave_prompt who world.old.flat) }
     ensures wanting { error.now ≡ NoMemory → world.new.flat ≡ world.old.flat }
@@ -45,7 +46,12 @@ fn refuse(alloc: Global, world: &mut World, who: u32, error: &EditError)
 }
 
 // Has a register hold what was typed, and leaves the prompt; where the register can't, the prompt is left too.
-fn keep_typed(alloc: Global, world: &mut World, who: u32, name: char) -> Result<Chars, EditError>
+fn keep_typed<P: Pattern, T: Turn>(
+    alloc: Global,
+    world: &mut World<P, T>,
+    who: u32,
+    name: char,
+) -> Result<Chars, EditError>
     requires { acts who world.old.flat ≡ true }
     ensures row { Answers result world.new.flat (typed_kept name who world.old.flat) }
     ensures typed { IfOk result (λ typed. typed ≡ whole (prompt_of who world.old.flat)) }
@@ -66,7 +72,11 @@ fn keep_typed(alloc: Global, world: &mut World, who: u32, name: char) -> Result<
 }
 
 // Asks for what was typed to be run as commands.
-fn accept_commands(alloc: Global, world: &mut World, who: u32) -> Result<Ask, EditError>
+fn accept_commands<P: Pattern, T: Turn>(
+    alloc: Global,
+    world: &mut World<P, T>,
+    who: u32,
+) -> Result<Ask, EditError>
     requires { acts who world.old.flat ≡ true }
     ensures row { GivesRow result world.new.flat (commands_accepted who world.old.flat) }
     ensures wanting { IsErrOf result NoMemory → world.new.flat ≡ world.old.flat }
@@ -76,7 +86,12 @@ fn accept_commands(alloc: Global, world: &mut World, who: u32) -> Result<Ask, Ed
 }
 
 // Asks for what was typed as a pattern, or for the one that was looked for last where nothing was.
-fn accept_pattern(alloc: Global, world: &mut World, who: u32, wanted: Use) -> Result<Ask, EditError>
+fn accept_pattern<P: Pattern, T: Turn>(
+    alloc: Global,
+    world: &mut World<P, T>,
+    who: u32,
+    wanted: Use,
+) -> Result<Ask, EditError>
     requires { acts who world.old.flat ≡ true }
     ensures row { GivesRow result world.new.flat (pattern_typed (whole (prompt_of who world.old.flat)) wanted who world.old.flat) }
     ensures wanting { IsErrOf result NoMemory → world.new.flat ≡ world.old.flat }
@@ -89,12 +104,16 @@ fn accept_pattern(alloc: Global, world: &mut World, who: u32, wanted: Use) -> Re
     let pattern = keep_typed(alloc, world, who, '/')?;
     Ok(Ask::Make(PatternUse {
         pattern,
-        then: wanted,
+        then: Wanted::Selects(wanted),
     }))
 }
 
 // Accepts the prompt, as what it is for.
-fn accept(alloc: Global, world: &mut World, who: u32) -> Result<Ask, EditError>
+fn accept<P: Pattern, T: Turn>(
+    alloc: Global,
+    world: &mut World<P, T>,
+    who: u32,
+) -> Result<Ask, EditError>
     requires { acts who world.old.flat ≡ true }
     ensures row { GivesRow result world.new.flat (accepted who world.old.flat) }
     ensures wanting { IsErrOf result NoMemory → world.new.flat ≡ world.old.flat }
@@ -107,7 +126,11 @@ fn accept(alloc: Global, world: &mut World, who: u32) -> Result<Ask, EditError>
 }
 
 // Puts characters in before the cursor of the prompt. An `Err` leaves the world.
-fn put(world: &mut World, who: u32, chars: &[char]) -> Result<(), AllocError>
+fn put<P: Pattern, T: Turn>(
+    world: &mut World<P, T>,
+    who: u32,
+    chars: &[char],
+) -> Result<(), AllocError>
     requires { acts who world.old.flat ≡ true }
     ensures ok { OnOk result (world.new.flat ≡ prompt_edited (put_before_cursor chars.now) who world.old.flat) }
     ensures err { OnErr result (world.new.flat ≡ world.old.flat) }
@@ -133,7 +156,7 @@ fn edit(line: &mut EditLine, base: Base)
 }
 
 // The same, in the prompt of a client.
-fn edit_prompt(world: &mut World, who: u32, base: Base)
+fn edit_prompt<P: Pattern, T: Turn>(world: &mut World<P, T>, who: u32, base: Base)
     requires { acts who world.old.flat ≡ true }
     ensures { world.new.flat ≡ prompt_edited (line_edited base) who world.old.flat }
 {
@@ -142,7 +165,12 @@ fn edit_prompt(world: &mut World, who: u32, base: Base)
 }
 
 // Runs a key without modifiers.
-fn run_plain(alloc: Global, world: &mut World, who: u32, base: Base) -> Result<Ask, EditError>
+fn run_plain<P: Pattern, T: Turn>(
+    alloc: Global,
+    world: &mut World<P, T>,
+    who: u32,
+    base: Base,
+) -> Result<Ask, EditError>
     requires { acts who world.old.flat ≡ true }
     ensures row { GivesRow result world.new.flat (prompt_base base who world.old.flat) }
     ensures wanting { IsErrOf result NoMemory → world.new.flat ≡ world.old.flat }
@@ -165,7 +193,7 @@ fn run_plain(alloc: Global, world: &mut World, who: u32, base: Base) -> Result<A
 }
 
 // Runs a key with control alone.
-fn run_control(world: &mut World, who: u32, key: Key)
+fn run_control<P: Pattern, T: Turn>(world: &mut World<P, T>, who: u32, key: Key)
     requires { acts who world.old.flat ≡ true }
     ensures { does world.new.flat ≡ prompt_control key.base key who world.old.flat }
 {
@@ -176,7 +204,12 @@ fn run_control(world: &mut World, who: u32, key: Key)
 }
 
 // Runs a key that no other key waits for.
-fn run_first(alloc: Global, world: &mut World, who: u32, key: Key) -> Result<Ask, EditError>
+fn run_first<P: Pattern, T: Turn>(
+    alloc: Global,
+    world: &mut World<P, T>,
+    who: u32,
+    key: Key,
+) -> Result<Ask, EditError>
     requires { acts who world.old.flat ≡ true }
     ensures row { GivesRow result world.new.flat (prompt_first key who world.old.flat) }
     ensures wanting { IsErrOf result NoMemory → world.new.flat ≡ world.old.flat }
@@ -192,7 +225,12 @@ fn run_first(alloc: Global, world: &mut World, who: u32, key: Key) -> Result<Ask
 }
 
 // Puts the strings of a register in before the cursor of the prompt, joined by spaces; no key waits then.
-fn put_register(alloc: Global, world: &mut World, who: u32, name: char) -> Result<Ask, EditError>
+fn put_register<P: Pattern, T: Turn>(
+    alloc: Global,
+    world: &mut World<P, T>,
+    who: u32,
+    name: char,
+) -> Result<Ask, EditError>
     requires { acts who world.old.flat ≡ true }
     ensures row { GivesRow result world.new.flat (prompt_register name who (awaiting None who world.old.flat)) }
     ensures wanting { IsErrOf result NoMemory → world.new.flat ≡ world.old.flat }
@@ -211,7 +249,12 @@ fn put_register(alloc: Global, world: &mut World, who: u32, name: char) -> Resul
 }
 
 // Runs a key for which `<c-r>` waited: it names a register, or does nothing.
-fn run_named(alloc: Global, world: &mut World, who: u32, key: Key) -> Result<Ask, EditError>
+fn run_named<P: Pattern, T: Turn>(
+    alloc: Global,
+    world: &mut World<P, T>,
+    who: u32,
+    key: Key,
+) -> Result<Ask, EditError>
     requires { acts who world.old.flat ≡ true }
     ensures row { GivesRow result world.new.flat (prompt_named (register_named key) who (awaiting None who world.old.flat)) }
     ensures wanting { IsErrOf result NoMemory → world.new.flat ≡ world.old.flat }
@@ -230,7 +273,12 @@ fn run_named(alloc: Global, world: &mut World, who: u32, key: Key) -> Result<Ask
 /// the world. It costs the characters of the prompt from the cursor on, and of a register those of its strings; `<ret>` costs all
 /// that was typed.
 #[tactic(auto, using(kak_world::proofs::WorldLaws::world_laws), unfolding(crate::specs::Rows::row_prompt))]
-pub fn prompt_key(alloc: Global, world: &mut World, who: u32, key: Key) -> Result<Ask, EditError>
+pub fn prompt_key<P: Pattern, T: Turn>(
+    alloc: Global,
+    world: &mut World<P, T>,
+    who: u32,
+    key: Key,
+) -> Result<Ask, EditError>
     requires { acts who world.old.flat ≡ true }
     ensures row { GivesRow result world.new.flat (row_prompt key who world.old.flat) }
     ensures wanting { IsErrOf result NoMemory → world.new.flat ≡ world.old.flat }

@@ -21,11 +21,11 @@ use Rattle.edit_ops.specs.declared.kinds.Indent.{Indent}
 use Rattle.edit_ops.specs.Indenting.{indents}
 use Rattle.edit_ops.specs.Leaving.{edited_text, list_left_by}
 use Rattle.edit_ops.specs.Left.{IsOfEdit, IsLeftByEdit}
-use Rattle.kak_world.specs.Flat.{Flat, is_joined, text_of, tabstop_of, indentwidth_of, sels_of, shown_of, with_sels}
+use Rattle.kak_world.specs.Flat.{Flat, is_joined, acts, text_of, tabstop_of, indentwidth_of, sels_of, shown_of, with_sels}
 use Rattle.kak_world.specs.Rows.{does}
 use Rattle.kak_world.specs.Changing.{buffer_edited, changed_in, splice_changes_of, edited_by, IsAfterSomeChanges}
 use Rattle.kak_world.specs.Editing.{edit_row}
-use Rattle.kak_world.proofs.WorldLaws.{text_edited, joined_edited}
+use Rattle.kak_world.proofs.WorldLaws.{text_edited, acts_edited}
 use Rattle.key_rows.specs.Sequence.{then_row}
 use Rattle.key_rows.specs.Edits.{leaving_row}
 
@@ -55,8 +55,8 @@ is-edit text lines last ss shifts given l p o s a t g e = record {
 pub text-behind : (who : ℕ) (flat mid : Flat) (ss : List Splice) → is_joined who flat ≡ true → mid ≡ edited_by ss who flat → text_of who mid ≡ edited_text (text_of who flat) ss
 text-behind who flat mid ss j e = ap (text_of who) e ∙ text_edited ss who flat j
 
-pub joined-behind : (who : ℕ) (flat mid : Flat) (ss : List Splice) → is_joined who flat ≡ true → mid ≡ edited_by ss who flat → is_joined who mid ≡ true
-joined-behind who flat mid ss j e = ap (is_joined who) e ∙ joined_edited who ss who flat ∙ j
+pub acts-behind : (who : ℕ) (flat mid : Flat) (ss : List Splice) → acts who flat ≡ true → mid ≡ edited_by ss who flat → acts who mid ≡ true
+acts-behind who flat mid ss a e = ap (acts who) e ∙ acts_edited who ss who flat ∙ a
 
 -- the list that is left is the client's
 pub held-behind : (who : ℕ) (flat mid : Flat) (ss : List CodeSplice) (main : ℕ) (s : Listed) → text_of who mid ≡ edited_text (text_of who flat) (flat_splices (text_of who flat) ss) → IsLeftByEdit (text_of who flat) ss main s → IsHeld (text_of who mid) s

@@ -10,6 +10,7 @@ use Rattle.edit_ops.specs.Reading.{text_of_range}
 use Rattle.kak_registers.specs.Contents.{strings_of}
 use Rattle.kak_world.specs.declared.ask.Ask.TheVariants.{Make}
 use Rattle.kak_world.specs.declared.purpose.Use.{Use}
+use Rattle.kak_world.specs.declared.purpose.Wanted.TheVariants.{Selects}
 use Rattle.kak_world.specs.Flat.{Flat, text_of, sels_of, registers_of}
 use Rattle.kak_world.specs.Registers.{set_row}
 use Rattle.kak_world.specs.Rows.{RowEnd, Asks}
@@ -26,7 +27,7 @@ last_pattern flat = chars (last_string (strings_of 47 (registers_of flat)))
 
 -- the pattern of a text is asked for, and a use of it
 abbrev pub asks_for : List ℕ → Use → Flat → RowEnd
-asks_for pattern wanted flat = record { world = flat; row = Asks (Make (record { pattern = pattern; then = wanted })) }
+asks_for pattern wanted flat = record { world = flat; row = Asks (Make (record { pattern = pattern; then = Selects wanted })) }
 
 -- the pattern that was looked for last is asked for
 abbrev pub asks_for_last : Use → Flat → RowEnd

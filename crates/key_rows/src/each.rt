@@ -13,9 +13,10 @@ ghost use Rattle.motion_keys.specs.Words.{EndsAre};
 ghost use Rattle.key_rows.specs.Each.{object_ends, object_range, each_range, each_changed};
 
 use crate::shapes::{Shape, reshape};
-use kak_world::World;
+use kak_world::{Turn, World};
 use line_buffer::Lines;
 use motion_keys::{Motion, Place, Reach, moved};
+use regex_ports::Pattern;
 use selection_set::{Pair, Sel, Sels};
 use smallvec::SmallVec;
 use std::alloc::{AllocError, Global};
@@ -145,9 +146,9 @@ fn changed_sels(
 
 /// Does something to each selection of a client by itself, and settles the list. Takes no memory for at most four
 /// selections.
-pub fn change_each(
+pub fn change_each<P: Pattern, T: Turn>(
     alloc: Global,
-    world: &mut World,
+    world: &mut World<P, T>,
     who: u32,
     change: Each,
 ) -> Result<(), AllocError>

@@ -15,7 +15,8 @@ use crate::reading::{is_stored, keep, register_puts, used};
 use buffer_store::Splice;
 use directions::Direction;
 use edit_ops::{AlignError, Erase, Indent, Put};
-use kak_world::{EditError, World};
+use kak_world::{EditError, Turn, World};
+use regex_ports::Pattern;
 use std::alloc::Global;
 
 /// What is done once to the texts of the selections.
@@ -40,7 +41,11 @@ pub enum Edit {
 }
 
 /// Erases at each selection of a client. `UndoFull` and `TextFull` leave the world.
-pub fn erase(alloc: Global, world: &mut World, who: u32) -> Result<(), EditError>
+pub fn erase<P: Pattern, T: Turn>(
+    alloc: Global,
+    world: &mut World<P, T>,
+    who: u32,
+) -> Result<(), EditError>
     requires { acts who world.old.flat ≡ true }
     ensures row { Answers result world.new.flat (erase_row who world.old.flat) }
     ensures wanting { IsErrOf result NoMemory → IsPartOfEdit Edit.Erase None who world.old.flat world.new.flat }
@@ -50,9 +55,9 @@ pub fn erase(alloc: Global, world: &mut World, who: u32) -> Result<(), EditError
 }
 
 /// Opens a line below or above each selection of a client. `UndoFull` and `TextFull` leave the world.
-pub(crate) fn open(
+pub(crate) fn open<P: Pattern, T: Turn>(
     alloc: Global,
-    world: &mut World,
+    world: &mut World<P, T>,
     who: u32,
     direction: Direction,
 ) -> Result<(), EditError>
@@ -65,7 +70,12 @@ pub(crate) fn open(
 }
 
 // Lets the texts of a client's selections go round.
-fn rotate(alloc: Global, world: &mut World, who: u32, direction: Direction) -> Result<(), EditError>
+fn rotate<P: Pattern, T: Turn>(
+    alloc: Global,
+    world: &mut World<P, T>,
+    who: u32,
+    direction: Direction,
+) -> Result<(), EditError>
     requires { acts who world.old.flat ≡ true }
     ensures row { Answers result world.new.flat (rotate_row direction who world.old.flat) }
     ensures wanting { IsErrOf result NoMemory → IsPartOfEdit (Edit.Rotate direction) None who world.old.flat world.new.flat }
@@ -75,7 +85,12 @@ fn rotate(alloc: Global, world: &mut World, who: u32, direction: Direction) -> R
 }
 
 /// Puts a character in the place of each one in the selections of a client. `UndoFull` and `TextFull` leave the world.
-pub fn fill(alloc: Global, world: &mut World, who: u32, c: char) -> Result<(), EditError>
+pub fn fill<P: Pattern, T: Turn>(
+    alloc: Global,
+    world: &mut World<P, T>,
+    who: u32,
+    c: char,
+) -> Result<(), EditError>
     requires { acts who world.old.flat ≡ true }
     ensures row { Answers result world.new.flat (fill_row c who world.old.flat) }
     ensures wanting { IsErrOf result NoMemory → IsPartOfFill c who world.old.flat world.new.flat }
@@ -85,7 +100,12 @@ pub fn fill(alloc: Global, world: &mut World, who: u32, c: char) -> Result<(), E
 }
 
 // Indents the lines that a client's selections touch, or less so.
-fn indent(alloc: Global, world: &mut World, who: u32, how: Indent) -> Result<(), EditError>
+fn indent<P: Pattern, T: Turn>(
+    alloc: Global,
+    world: &mut World<P, T>,
+    who: u32,
+    how: Indent,
+) -> Result<(), EditError>
     requires { acts who world.old.flat ≡ true }
     ensures row { Answers result world.new.flat (indent_row how who world.old.flat) }
     ensures wanting { IsErrOf result NoMemory → IsPartOfEdit (Edit.Indent how) None who world.old.flat world.new.flat }
@@ -103,7 +123,11 @@ fn indent(alloc: Global, world: &mut World, who: u32, how: Indent) -> Result<(),
 }
 
 // Joins the lines that a client's selections touch.
-fn join(alloc: Global, world: &mut World, who: u32) -> Result<(), EditError>
+fn join<P: Pattern, T: Turn>(
+    alloc: Global,
+    world: &mut World<P, T>,
+    who: u32,
+) -> Result<(), EditError>
     requires { acts who world.old.flat ≡ true }
     ensures row { Answers result world.new.flat (join_row who world.old.flat) }
     ensures wanting { IsErrOf result NoMemory → IsPartOfEdit Edit.Join None who world.old.flat world.new.flat }
@@ -114,7 +138,11 @@ fn join(alloc: Global, world: &mut World, who: u32) -> Result<(), EditError>
 }
 
 // The spaces that bring a client's cursors to one display column.
-fn alignment(alloc: Global, world: &World, who: u32) -> Result<Vec<Splice>, EditError>
+fn alignment<P: Pattern, T: Turn>(
+    alloc: Global,
+    world: &World<P, T>,
+    who: u32,
+) -> Result<Vec<Splice>, EditError>
     requires { acts who world.now.flat ≡ true }
     ensures aligns { IfOk result (λ splices. AreAlignments who world.now.flat splices.items) }
     ensures refused { IfErr result (λ error. IsUnaligned error who world.now.flat) }
@@ -132,7 +160,11 @@ fn alignment(alloc: Global, world: &World, who: u32) -> Result<Vec<Splice>, Edit
 }
 
 // Brings a client's cursors to one display column.
-fn align(alloc: Global, world: &mut World, who: u32) -> Result<(), EditError>
+fn align<P: Pattern, T: Turn>(
+    alloc: Global,
+    world: &mut World<P, T>,
+    who: u32,
+) -> Result<(), EditError>
     requires { acts who world.old.flat ≡ true }
     ensures row { Answers result world.new.flat (align_row who world.old.flat) }
     ensures wanting { IsErrOf result NoMemory → IsPartOfEdit Edit.Align None who world.old.flat world.new.flat }
@@ -144,9 +176,9 @@ fn align(alloc: Global, world: &mut World, who: u32) -> Result<(), EditError>
 
 /// Has a register keep the texts of a client's selections, and erases them. Where the register can't be set nothing is erased;
 /// where the erasure is refused the register is set.
-pub fn cut(
+pub fn cut<P: Pattern, T: Turn>(
     alloc: Global,
-    world: &mut World,
+    world: &mut World<P, T>,
     who: u32,
     register: Option<char>,
 ) -> Result<(), EditError>
@@ -160,9 +192,9 @@ pub fn cut(
 
 /// Puts the n-th string of a register at the n-th selection of a client. `NoSuchRegister` comes where there is no such
 /// register; it, `UndoFull` and `TextFull` leave the world.
-pub fn put(
+pub fn put<P: Pattern, T: Turn>(
     alloc: Global,
-    world: &mut World,
+    world: &mut World<P, T>,
     who: u32,
     register: Option<char>,
     how: Put,
@@ -177,9 +209,9 @@ pub fn put(
 
 /// Does something once to the texts of a client's selections. An error leaves the world, but that a cut may be refused when its
 /// register is set already, and that memory may run out half way.
-pub fn edit_texts(
+pub fn edit_texts<P: Pattern, T: Turn>(
     alloc: Global,
-    world: &mut World,
+    world: &mut World<P, T>,
     who: u32,
     edit: Edit,
     register: Option<char>,

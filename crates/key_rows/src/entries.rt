@@ -17,8 +17,9 @@ use crate::shapes::Shape;
 use buffer_store::Splice;
 use directions::Direction;
 use kak_text::Chars;
-use kak_world::{EditError, Mode, World};
+use kak_world::{EditError, Mode, Turn, World};
 use line_buffer::Lines;
+use regex_ports::Pattern;
 use selection_set::Sel;
 use std::alloc::{AllocError, Global};
 
@@ -70,7 +71,11 @@ fn newline_at_end(alloc: Global, lines: &Lines) -> Result<Splice, AllocError>
 }
 
 // Puts a newline in at the end of the text, where a client's selection reaches its last character.
-fn make_room(alloc: Global, world: &mut World, who: u32) -> Result<(), EditError>
+fn make_room<P: Pattern, T: Turn>(
+    alloc: Global,
+    world: &mut World<P, T>,
+    who: u32,
+) -> Result<(), EditError>
     requires { acts who world.old.flat ≡ true }
     ensures row { Answers result world.new.flat (room_row who world.old.flat) }
     ensures made { OnOk result (IsPartOfEntry InsertEntry.Behind None who world.old.flat world.new.flat) }
@@ -86,9 +91,9 @@ fn make_room(alloc: Global, world: &mut World, who: u32) -> Result<(), EditError
 }
 
 // Takes a client's selections to where insert mode is entered.
-fn place(
+fn place<P: Pattern, T: Turn>(
     alloc: Global,
-    world: &mut World,
+    world: &mut World<P, T>,
     who: u32,
     entry: InsertEntry,
     register: Option<char>,
@@ -127,9 +132,9 @@ fn appends(entry: InsertEntry) -> bool
 
 /// Enters insert mode. It is refused as the edits are that go before it, and then the mode stays. Where no edit goes before,
 /// it takes no memory for at most four selections.
-pub fn enter_insert(
+pub fn enter_insert<P: Pattern, T: Turn>(
     alloc: Global,
-    world: &mut World,
+    world: &mut World<P, T>,
     who: u32,
     entry: InsertEntry,
     register: Option<char>,

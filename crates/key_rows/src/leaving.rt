@@ -11,16 +11,17 @@ ghost use Rattle.key_rows.specs.Edits.{leaving_row};
 
 use buffer_store::Splice;
 use edit_ops::left_list;
-use kak_world::{EditError, World};
+use kak_world::{EditError, Turn, World};
+use regex_ports::Pattern;
 use std::alloc::Global;
 
 /// Makes a client's replacements in the text that it sees, one for each of its selections: its list is then what was put in
 /// for them. `UndoFull` and `TextFull` leave the world; after want of memory it is as it is behind some of the single changes,
 /// from the first on, with all lists moved along.
 #[tactic(auto, using(kak_world::proofs::WorldLaws::world_laws), unfolding(crate::specs::Edits::leaving_row))]
-pub fn edit_leaving(
+pub fn edit_leaving<P: Pattern, T: Turn>(
     alloc: Global,
-    world: &mut World,
+    world: &mut World<P, T>,
     who: u32,
     splices: &[Splice],
 ) -> Result<(), EditError>

@@ -14,8 +14,9 @@ use crate::reading::string_of;
 use byte_texts::Words;
 use edit_ops::text_of;
 use kak_text::{Chars, Class, Coord, class};
-use kak_world::{Ask, EditError, PatternUse, Use, World};
+use kak_world::{Ask, EditError, PatternUse, Turn, Use, Wanted, World};
 use line_buffer::Lines;
+use regex_ports::Pattern;
 use selection_set::Sel;
 use std::alloc::{AllocError, Global};
 
@@ -39,7 +40,10 @@ fn last_string(alloc: Global, strings: &Words) -> Result<Chars, AllocError>
 }
 
 // The text of the pattern that was looked for last.
-fn last_pattern(alloc: Global, world: &World) -> Result<Chars, AllocError>
+fn last_pattern<P: Pattern, T: Turn>(
+    alloc: Global,
+    world: &World<P, T>,
+) -> Result<Chars, AllocError>
     ensures { IfOk result (λ pattern. pattern ≡ last_pattern world.now.flat) }
 {
     match world.registers().get('/') {
@@ -49,13 +53,17 @@ fn last_pattern(alloc: Global, world: &World) -> Result<Chars, AllocError>
 }
 
 /// Asks for the pattern that was looked for last, and for a use of it. An `Err` says that memory ran out.
-pub fn ask_for_last(alloc: Global, world: &World, wanted: Use) -> Result<Ask, EditError>
+pub fn ask_for_last<P: Pattern, T: Turn>(
+    alloc: Global,
+    world: &World<P, T>,
+    wanted: Use,
+) -> Result<Ask, EditError>
     ensures row { GivesRow result world.now.flat (asks_for_last wanted world.now.flat) }
     ensures memory { IfErr result (λ error. error ≡ NoMemory) }
 {
     Ok(Ask::Make(PatternUse {
         pattern: last_pattern(alloc, world)?,
-        then: wanted,
+        then: Wanted::Selects(wanted),
     }))
 }
 
@@ -173,9 +181,9 @@ fn pattern_of(alloc: Global, lines: &Lines, sel: Sel, bounds: Bounds) -> Result<
 
 /// Has the text of the main selection be the pattern that was looked for last. `RegisterFull` comes where it has more characters
 /// than a register may hold; an error leaves the world.
-pub fn remember_main(
+pub fn remember_main<P: Pattern, T: Turn>(
     alloc: Global,
-    world: &mut World,
+    world: &mut World<P, T>,
     who: u32,
     bounds: Bounds,
 ) -> Result<(), EditError>

@@ -18,8 +18,9 @@ use byte_texts::Words;
 use compact_chars::CharsRef;
 use edit_ops::{Put, PutError, put, strings};
 use kak_text::Chars;
-use kak_world::{EditError, World};
+use kak_world::{EditError, Turn, World};
 use line_buffer::Lines;
+use regex_ports::Pattern;
 use std::alloc::{AllocError, Global};
 
 /// The register that a key uses: the one that was chosen for it, or `"`.
@@ -31,9 +32,9 @@ pub(crate) fn used(chosen: Option<char>) -> char
 
 /// Sets a register, or `"` where none was chosen, to the texts of a client's selections. It is refused where the register can't
 /// be set, by the name for that; an error leaves the world.
-pub fn keep(
+pub fn keep<P: Pattern, T: Turn>(
     alloc: Global,
-    world: &mut World,
+    world: &mut World<P, T>,
     who: u32,
     register: Option<char>,
 ) -> Result<(), EditError>
@@ -69,9 +70,9 @@ fn numbers(alloc: Global, count: usize) -> Result<Words, AllocError>
 
 // The strings of a register that is only read; none where there is no such one.
 #[tactic(auto, using(kak_world::proofs::WorldLaws::world_laws), unfolding(crate::specs::Reading::strings_read))]
-fn read_only(
+fn read_only<P: Pattern, T: Turn>(
     alloc: Global,
-    world: &World,
+    world: &World<P, T>,
     who: u32,
     name: char,
 ) -> Result<Option<Words>, AllocError>
@@ -99,9 +100,9 @@ pub(crate) fn is_stored(lines: &Lines)
 }
 
 // The replacements that put strings at the selections of a client.
-fn strings_put(
+fn strings_put<P: Pattern, T: Turn>(
     alloc: Global,
-    world: &World,
+    world: &World<P, T>,
     who: u32,
     strings: &Words,
     how: Put,
@@ -125,9 +126,9 @@ fn strings_put(
 /// The replacements that put the strings of a register at the selections of a client. `NoSuchRegister` comes where there is no
 /// such register, and where they would put in more than a text may have, `UndoFull` or `TextFull`, by which an edit that is too
 /// long is refused.
-pub fn register_puts(
+pub fn register_puts<P: Pattern, T: Turn>(
     alloc: Global,
-    world: &World,
+    world: &World<P, T>,
     who: u32,
     name: char,
     how: Put,
@@ -162,9 +163,9 @@ pub fn joined_text(alloc: Global, strings: &Words) -> Result<Chars, AllocError>
 }
 
 /// The strings that a register gives a client, or None where there is no such register. It costs the characters of these.
-pub fn register_strings(
+pub fn register_strings<P: Pattern, T: Turn>(
     alloc: Global,
-    world: &World,
+    world: &World<P, T>,
     who: u32,
     name: char,
 ) -> Result<Option<Words>, AllocError>
@@ -179,9 +180,9 @@ pub fn register_strings(
 
 /// What a register gives a client as one text, its strings joined by spaces, or None where there is no such register. It costs
 /// the characters of these strings.
-pub fn register_text(
+pub fn register_text<P: Pattern, T: Turn>(
     alloc: Global,
-    world: &World,
+    world: &World<P, T>,
     who: u32,
     name: char,
 ) -> Result<Option<Chars>, AllocError>

@@ -9,7 +9,7 @@ use Rattle.kak_world.specs.declared.ask.EditError.TheVariants.{NothingSelected, 
 use Rattle.kak_world.specs.declared.own.Mode.{Mode}
 use Rattle.kak_world.specs.declared.own.Mode.TheVariants.{Insert, Prompt}
 use Rattle.list_shelf.specs.declared.holder.Holder.TheVariants.{Of}
-use Rattle.kak_world.specs.Flat.{Flat, between_steps, first_rest, fresh_list, newcomer, text_of, sels_of, mode_of, count_of}
+use Rattle.kak_world.specs.Flat.{Flat, between_steps, first_rest, first_scoped, fresh_list, newcomer, text_of, sels_of, mode_of, count_of}
 use Rattle.kak_world.specs.Changing.{edited_by, commits}
 use Rattle.kak_world.specs.Rows.{Row, Fails, GivesUp, error_text}
 use Rattle.normal_keys.specs.Rows.{row_normal}
@@ -42,6 +42,7 @@ client_on text sels units = record {
   buffers = Some (record { name = codes "n"; is_file = true; story = opened text; lists = record (fresh_list (Of 0)) { sels = sels } ∷ [] }) ∷ [];
   clients = newcomer 0 0 0 ∷ [];
   rest = record first_rest { step = record between_steps { units = units } };
+  scoped = first_scoped;
 }
 
 -- the client's list after keys, from one selection or from a list

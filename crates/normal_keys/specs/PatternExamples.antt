@@ -8,6 +8,7 @@ use Rattle.kak_world.specs.declared.own.Mode.TheVariants.{Prompt}
 use Rattle.kak_world.specs.declared.ask.Ask.TheVariants.{Make}
 use Rattle.directions.specs.declared.direction.Direction.TheVariants.{Forward, Backward}
 use Rattle.kak_world.specs.declared.purpose.Use.{Use}
+use Rattle.kak_world.specs.declared.purpose.Wanted.TheVariants.{Selects}
 use Rattle.kak_world.specs.declared.purpose.Use.TheVariants.{Select, Split, Keep, Drop, Search, Reach, Step, Add}
 use Rattle.kak_world.specs.declared.purpose.Purpose.{Purpose}
 use Rattle.kak_world.specs.declared.purpose.Purpose.TheVariants.{Pattern}
@@ -27,7 +28,7 @@ opened_by k = purpose_of 0 (after_keys (k ∷ []) (client_on (codes "ab\n") (one
 
 -- that a pattern is asked for, and a use of it
 abbrev pub asking : List ℕ → Use → Row
-asking pattern wanted = Asks (Make (record { pattern = pattern; then = wanted }))
+asking pattern wanted = Asks (Make (record { pattern = pattern; then = Selects wanted }))
 
 -- what register `/` holds behind keys
 abbrev pub looked_for : List Key → List ℕ → Range → List (List ℕ)

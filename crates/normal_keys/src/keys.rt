@@ -15,16 +15,22 @@ use crate::lists::change_list;
 use crate::prefixes::{Prefix, set_prefix, take_prefix, wait, with_digit};
 use crate::runs::run_often;
 use edit_line::EditLine;
-use kak_world::{Ask, EditError, Mode, Purpose, Use, World};
+use kak_world::{Ask, EditError, Mode, Purpose, Turn, Use, World};
 use key_names::Key;
 use key_rows::{
     Each, ask_for_last, change_each, edit_texts, enter_insert, fill, register_named, remember_main,
 };
 use motion_keys::{CharSearch, Motion, Place, Reach};
+use regex_ports::Pattern;
 use std::alloc::Global;
 
 // Does something to each selection once.
-fn change(alloc: Global, world: &mut World, who: u32, change: Each) -> Result<Ask, EditError>
+fn change<P: Pattern, T: Turn>(
+    alloc: Global,
+    world: &mut World<P, T>,
+    who: u32,
+    change: Each,
+) -> Result<Ask, EditError>
     requires { acts who world.old.flat ≡ true }
     ensures row { GivesRow result world.new.flat (does (each_changed change who world.old.flat)) }
     ensures wanting { IsErrOf result EditError.NoMemory → world.new.flat ≡ world.old.flat }
@@ -35,7 +41,12 @@ fn change(alloc: Global, world: &mut World, who: u32, change: Each) -> Result<As
 }
 
 // Opens an empty prompt.
-fn begin_prompt(alloc: Global, world: &mut World, who: u32, purpose: Purpose)
+fn begin_prompt<P: Pattern, T: Turn>(
+    alloc: Global,
+    world: &mut World<P, T>,
+    who: u32,
+    purpose: Purpose,
+)
     requires { acts who world.old.flat ≡ true }
     ensures { world.new.flat ≡ open_prompt purpose who world.old.flat }
 {
@@ -46,9 +57,9 @@ fn begin_prompt(alloc: Global, world: &mut World, who: u32, purpose: Purpose)
 }
 
 // Goes to the line that a count says, or waits for the name of a place.
-fn go(
+fn go<P: Pattern, T: Turn>(
     alloc: Global,
-    world: &mut World,
+    world: &mut World<P, T>,
     who: u32,
     count: u32,
     key: Key,
@@ -68,9 +79,9 @@ fn go(
 }
 
 // Does what a key does, by its action, with what stands before it.
-fn act(
+fn act<P: Pattern, T: Turn>(
     alloc: Global,
-    world: &mut World,
+    world: &mut World<P, T>,
     who: u32,
     prefix: Prefix,
     key: Key,
@@ -126,7 +137,12 @@ fn act(
 }
 
 // Chooses a register for the next key, and leaves the count to it; a key that names none chooses none.
-fn choose_register(world: &mut World, who: u32, count: u32, name: Option<char>)
+fn choose_register<P: Pattern, T: Turn>(
+    world: &mut World<P, T>,
+    who: u32,
+    count: u32,
+    name: Option<char>,
+)
     requires { acts who world.old.flat ≡ true }
     ensures { does world.new.flat ≡ chosen_register count who name world.old.flat }
 {
@@ -136,9 +152,9 @@ fn choose_register(world: &mut World, who: u32, count: u32, name: Option<char>)
 }
 
 // Goes to a character, as often as the count says; without one nothing is done.
-fn seek(
+fn seek<P: Pattern, T: Turn>(
     alloc: Global,
-    world: &mut World,
+    world: &mut World<P, T>,
     who: u32,
     count: u32,
     search: CharSearch,
@@ -164,9 +180,9 @@ fn seek(
 }
 
 // Does what a key does for which another one waited, by the action of that one; one that doesn't fit does nothing.
-fn answer(
+fn answer<P: Pattern, T: Turn>(
     alloc: Global,
-    world: &mut World,
+    world: &mut World<P, T>,
     who: u32,
     count: u32,
     waited: Action,
@@ -204,9 +220,9 @@ fn answer(
 }
 
 // A key, by the one that waits for it, if one does.
-fn run_pending(
+fn run_pending<P: Pattern, T: Turn>(
     alloc: Global,
-    world: &mut World,
+    world: &mut World<P, T>,
     who: u32,
     prefix: Prefix,
     pending: Option<Key>,
@@ -227,7 +243,12 @@ fn run_pending(
 /// it, and takes what stood before the key away; its text is what the user is told. `BudgetSpent` comes where a further run was
 /// due and no unit was left. For at most four selections, only a key that can change the text or add selections takes memory.
 #[tactic(auto, unfolding(crate::specs::Rows::row_normal), using(kak_world::proofs::WorldLaws::world_laws))]
-pub fn normal_key(alloc: Global, world: &mut World, who: u32, key: Key) -> Result<Ask, EditError>
+pub fn normal_key<P: Pattern, T: Turn>(
+    alloc: Global,
+    world: &mut World<P, T>,
+    who: u32,
+    key: Key,
+) -> Result<Ask, EditError>
     requires { acts who world.old.flat ≡ true }
     ensures row { GivesRow result world.new.flat (row_normal key who world.old.flat) }
     ensures wanting { IsErrOf result EditError.NoMemory → IsPartOfNormal key who world.old.flat world.new.flat }

@@ -7,17 +7,18 @@ ghost use Rattle.kak_world.specs.Rows.{GivesRow};
 ghost use Rattle.list_keys.specs.Changes.{change_adds};
 ghost use Rattle.normal_keys.specs.Listing.{list_changed};
 
-use kak_world::{Ask, EditError, World};
+use kak_world::{Ask, EditError, Turn, World};
 use list_keys::{ListChange, changed};
+use regex_ports::Pattern;
 use selection_set::SelsError;
 use std::alloc::Global;
 
 /// Changes a client's list. `NothingSelected` comes where no selection would be left, `TooManySelections` where there
 /// would be more than a list may have; they leave the world. For at most four selections, only a change that can add
 /// some takes memory.
-pub(crate) fn change_list(
+pub(crate) fn change_list<P: Pattern, T: Turn>(
     alloc: Global,
-    world: &mut World,
+    world: &mut World<P, T>,
     who: u32,
     change: ListChange,
 ) -> Result<Ask, EditError>

@@ -5,8 +5,9 @@ ghost use Rattle.std.specs.Prelude.{◌≡◌, true};
 ghost use Rattle.kak_world.specs.Flat.{acts, pending_of};
 ghost use Rattle.normal_keys.specs.Rows.{with_digit, prefix_of, client_cleared, prefixed, waiting};
 
-use kak_world::World;
+use kak_world::{Turn, World};
 use key_names::Key;
+use regex_ports::Pattern;
 
 /// The greatest count.
 const MAX_COUNT: u32 = 999_999;
@@ -29,7 +30,10 @@ pub(crate) fn with_digit(count: u32, digit: u32) -> u32
 }
 
 /// Takes what stands before a key of a client, and the key that waits, if one does.
-pub(crate) fn take_prefix(world: &mut World, who: u32) -> (Prefix, Option<Key>)
+pub(crate) fn take_prefix<P: Pattern, T: Turn>(
+    world: &mut World<P, T>,
+    who: u32,
+) -> (Prefix, Option<Key>)
     requires { acts who world.old.flat ≡ true }
     ensures clears { world.new.flat ≡ client_cleared who world.old.flat }
     ensures prefix { result.0 ≡ prefix_of who world.old.flat }
@@ -48,7 +52,12 @@ pub(crate) fn take_prefix(world: &mut World, who: u32) -> (Prefix, Option<Key>)
 }
 
 /// Gives a client a count, and a register or none.
-pub(crate) fn set_prefix(world: &mut World, who: u32, count: u32, register: Option<char>)
+pub(crate) fn set_prefix<P: Pattern, T: Turn>(
+    world: &mut World<P, T>,
+    who: u32,
+    count: u32,
+    register: Option<char>,
+)
     requires { acts who world.old.flat ≡ true }
     ensures { world.new.flat ≡ prefixed count register who world.old.flat }
 {
@@ -58,7 +67,7 @@ pub(crate) fn set_prefix(world: &mut World, who: u32, count: u32, register: Opti
 }
 
 /// Lets a key wait for the next one, with a count.
-pub(crate) fn wait(world: &mut World, who: u32, key: Key, count: u32)
+pub(crate) fn wait<P: Pattern, T: Turn>(world: &mut World<P, T>, who: u32, key: Key, count: u32)
     requires { acts who world.old.flat ≡ true }
     ensures { world.new.flat ≡ waiting key count who world.old.flat }
 {

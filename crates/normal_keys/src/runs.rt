@@ -13,14 +13,15 @@ ghost use Rattle.normal_keys.specs.Wanting.{is_part_of_once, ArePartOfKey};
 use crate::actions::Repeated;
 use crate::prefixes::Prefix;
 use directions::Direction;
-use kak_world::{Ask, EditError, World};
+use kak_world::{Ask, EditError, Turn, World};
 use key_rows::{Each, change_each, put};
 use list_keys::main_beside;
+use regex_ports::Pattern;
 use std::alloc::Global;
 use undo_model::Travel;
 
 // Another selection becomes the main one.
-fn turn_main(world: &mut World, who: u32, direction: Direction)
+fn turn_main<P: Pattern, T: Turn>(world: &mut World<P, T>, who: u32, direction: Direction)
     requires { acts who world.old.flat ≡ true }
     ensures { world.new.flat ≡ main_moved direction who world.old.flat }
 {
@@ -29,9 +30,9 @@ fn turn_main(world: &mut World, who: u32, direction: Direction)
 }
 
 // Goes to the node of the undo tree with the next lower or the next higher number.
-fn go_to_node(
+fn go_to_node<P: Pattern, T: Turn>(
     alloc: Global,
-    world: &mut World,
+    world: &mut World<P, T>,
     who: u32,
     direction: Direction,
 ) -> Result<(), EditError>
@@ -53,9 +54,9 @@ fn go_to_node(
 }
 
 // Runs a key once.
-fn run_once(
+fn run_once<P: Pattern, T: Turn>(
     alloc: Global,
-    world: &mut World,
+    world: &mut World<P, T>,
     who: u32,
     register: Option<char>,
     what: Repeated,
@@ -83,9 +84,9 @@ fn run_once(
 /// Runs a key of a client as often as a count says, and once without one, up to the first run that fails. Each further run
 /// takes a unit. `BudgetSpent` comes where none is left for the next one. What can't change the text or add selections takes no
 /// memory for at most four.
-pub(crate) fn run_often(
+pub(crate) fn run_often<P: Pattern, T: Turn>(
     alloc: Global,
-    world: &mut World,
+    world: &mut World<P, T>,
     who: u32,
     prefix: Prefix,
     what: Repeated,

@@ -12,18 +12,18 @@ use Rattle.insert_prompt.proofs.TypedLemmas.{typed-flat, typed-row}
 use Rattle.insert_prompt.proofs.inserts.put_in.Goals as goal
 
 pub edit-requires-clause-splices : goal.edit-requires-clause-splices
-edit-requires-clause-splices c =
+edit-requires-clause-splices g c =
     let list = c.sels.result.now in
     subst (AreSplicesOf (text_of c.args.who c.args.world.now.flat)) (sym (c.as_slice-2.ensures.value ∙ c.in_ok-splices.ensures ∙ ap (map (splice_before (c.args.c ∷ []))) c.as_slice.ensures.value))
     (typing-places (text_of c.args.who c.args.world.now.flat) (c.args.c ∷ []) list c.sels.ensures.held)
 
 pub returns-in-Ok-clause-row : goal.returns-in-Ok-clause-row
-returns-in-Ok-clause-row c =
+returns-in-Ok-clause-row g c =
     let given = c.as_slice-2.ensures.value ∙ c.in_ok-splices.ensures ∙ ap (map (splice_before (c.args.c ∷ []))) c.as_slice.ensures.value in
     sym (typed-row (c.args.c ∷ []) c.args.who c.args.world.now.flat c.sels.result.now _ c.sels.ensures.sels given) ∙ c.in-Ok.ensures.row
 
 pub returns : goal.returns
-returns c =
+returns g c =
     let given = c.as_slice-2.ensures.value ∙ c.in_ok-splices.ensures ∙ ap (map (splice_before (c.args.c ∷ []))) c.as_slice.ensures.value in
     let P : RowEnd → Type 0 = λ end. IfSome (row_of c.in-Err.error) (λ row. end ≡ record { world = c.edit.new.self.flat; row = row }) in
     record {

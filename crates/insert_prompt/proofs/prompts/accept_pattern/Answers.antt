@@ -7,7 +7,7 @@ use Rattle.insert_prompt.proofs.AcceptLemmas.{nothing-typed}
 use Rattle.insert_prompt.proofs.prompts.accept_pattern.Goals as goal
 
 pub returns-then-is_empty-clause-row : goal.returns-then-is_empty-clause-row
-returns-then-is_empty-clause-row c =
+returns-then-is_empty-clause-row g c =
     let who = c.args.who in
     let flat = c.args.world.now.flat in
     let typed : c.whole.result.now ≡ whole (prompt_of who flat) = c.whole.ensures ∙ ap (λ (o : Own). whole o.prompt) c.own.ensures in

@@ -10,24 +10,24 @@ use Rattle.insert_prompt.proofs.AcceptLemmas.{typed_strings, kept-set, kept-refu
 use Rattle.insert_prompt.proofs.prompts.keep_typed.Goals as goal
 
 pub returns-in-Ok-clause-row : goal.returns-in-Ok-clause-row
-returns-in-Ok-clause-row c =
+returns-in-Ok-clause-row g c =
     let who = c.args.who in
     let flat = c.args.world.now.flat in
     let given : c.push.new.self ≡ typed_strings who flat = c.in_ok-push.ensures.ok ∙ ap₂ (λ (xs : List (List ℕ)) (w : List ℕ). xs ++ w ∷ []) c.new-strings.ensures (c.in_ok-string_of.ensures ∙ ap encode_utf8_all (c.whole.ensures ∙ ap (λ (o : Own). whole o.prompt) c.own.ensures)) in
     sym (kept-set c.args.name who flat c.set_register.new.self.flat c.leave-typed.new.world.flat (ap (λ s. set_row c.args.name s flat) (sym given) ∙ c.in-Ok.ensures.row) c.leave-typed.ensures.left)
 
 pub returns-in-Ok-clause-typed : goal.returns-in-Ok-clause-typed
-returns-in-Ok-clause-typed c =
+returns-in-Ok-clause-typed g c =
     let who = c.args.who in
     let flat = c.args.world.now.flat in
     let same : own_of who c.set_register.new.self.flat ≡ own_of who flat = ap (own_of who) c.in-Ok.ensures.sets ∙ own_rest who _ flat in
     c.of_vec.ensures ∙ c.into_vec.ensures ∙ ap whole c.leave-typed.ensures.typed ∙ ap (λ (o : Own). whole o.prompt) same
 
 pub refuse-requires : goal.refuse-requires
-refuse-requires c = refused-acts c.in-Err.error c.args.name c.push.new.self c.args.who c.args.world.now.flat c.set_register.new.self.flat c.in-Err.ensures.row (λ e. c.in-Err.ensures.wanting (ap Err e)) ∙ c.requires
+refuse-requires g c = refused-acts c.in-Err.error c.args.name c.push.new.self c.args.who c.args.world.now.flat c.set_register.new.self.flat c.in-Err.ensures.row (λ e. c.in-Err.ensures.wanting (ap Err e)) ∙ c.requires
 
 pub returns-in-Err-clause-row : goal.returns-in-Err-clause-row
-returns-in-Err-clause-row c =
+returns-in-Err-clause-row g c =
     let who = c.args.who in
     let flat = c.args.world.now.flat in
     let given : c.push.new.self ≡ typed_strings who flat = c.in_ok-push.ensures.ok ∙ ap₂ (λ (xs : List (List ℕ)) (w : List ℕ). xs ++ w ∷ []) c.new-strings.ensures (c.in_ok-string_of.ensures ∙ ap encode_utf8_all (c.whole.ensures ∙ ap (λ (o : Own). whole o.prompt) c.own.ensures)) in

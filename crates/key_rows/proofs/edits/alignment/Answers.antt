@@ -9,7 +9,7 @@ use Rattle.key_rows.proofs.RegisterLemmas.{crowded-aligns, long-fails, align-fai
 use Rattle.key_rows.proofs.edits.alignment.Goals as goal
 
 pub returns-in-Err-TooLong-clause-refused : goal.returns-in-Err-TooLong-clause-refused
-returns-in-Err-TooLong-clause-refused c =
+returns-in-Err-TooLong-clause-refused g c =
     let flat = c.args.world.now.flat in
     let apart : shares_line (text_of c.args.who flat) (sels_of c.args.who flat).list ≡ false =
     ap (λ (x : Selected). shares_line (text_of c.args.who flat) x.list) c.sels.ensures.sels

@@ -5,4 +5,4 @@ use Rattle.key_rows.proofs.WantingLemmas.{behind-ready}
 use Rattle.key_rows.proofs.edits.cut.Goals as goal
 
 pub returns-clause-wanting : goal.returns-clause-wanting
-returns-clause-wanting c = λ h. behind-ready (λ w. erasures Selection (sels_of c.args.who w).list) c.args.who c.args.world.now.flat _ c.keep.new.world.flat c.erase.new.world.flat c.in_ok-keep.ensures.sets (c.erase.ensures.wanting h)
+returns-clause-wanting g c = λ h. behind-ready (λ w. erasures Selection (sels_of c.args.who w).list) c.args.who c.args.world.now.flat _ c.keep.new.world.flat c.erase.new.world.flat c.in_ok-keep.ensures.sets (c.erase.ensures.wanting h)

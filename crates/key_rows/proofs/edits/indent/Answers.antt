@@ -10,7 +10,7 @@ use Rattle.key_rows.proofs.WantingLemmas.{some-made}
 use Rattle.key_rows.proofs.edits.indent.Goals as goal
 
 pub returns-in_err-edit : goal.returns-in_err-edit
-returns-in_err-edit c =
+returns-in_err-edit g c =
     let p = err_from_is_err_and c.from_residual-in_err-edit.result c.from_residual-in_err-edit.ensures.1 in
     let made = indents-are c.args.how c.indentwidth.result c.tabstop.result.columns c.args.who c.args.world.now.flat c.lines.result.now c.sels.result.now c.in_ok-splices.splices.items c.as_slice.result.now c.as_slice.ensures.value c.lines.ensures c.sels.ensures.sels c.indentwidth.ensures.value c.tabstop.ensures.value c.in_ok-splices.ensures.indents in
     record {
@@ -19,6 +19,6 @@ returns-in_err-edit c =
     }
 
 pub returns-clause-row : goal.returns-clause-row
-returns-clause-row c =
+returns-clause-row g c =
     let made = indents-are c.args.how c.indentwidth.result c.tabstop.result.columns c.args.who c.args.world.now.flat c.lines.result.now c.sels.result.now c.in_ok-splices.splices.items c.as_slice.result.now c.as_slice.ensures.value c.lines.ensures c.sels.ensures.sels c.indentwidth.ensures.value c.tabstop.ensures.value c.in_ok-splices.ensures.indents in
     sym (ap (λ xs. edit_row xs c.args.who c.args.world.now.flat) made) ∙ c.in_ok-edit.ensures.row

@@ -13,7 +13,7 @@ use Rattle.key_rows.proofs.WantingLemmas.{some-made}
 use Rattle.key_rows.proofs.entries.make_room.Goals as goal
 
 pub returns-clause-made : goal.returns-clause-made
-returns-clause-made c =
+returns-clause-made g c =
     let flat = c.args.world.now.flat in
     let text : List ℕ = text_of c.args.who flat in
     let newline : List Splice = put_in_at (length text) (10 ∷ []) ∷ [] in

@@ -11,13 +11,13 @@ use Rattle.key_rows.specs.Patterns.{pattern_of}
 use Rattle.key_rows.proofs.patterns.remember_main.Goals as goal
 
 pub pattern_of-requires : goal.pattern_of-requires
-pattern_of-requires c =
+pattern_of-requires g c =
     let is : IsMain c.lines.result.now c.sels-sels.result.now c.at-main.result =
     main-sel c.lines.result.now c.sels-sels.result.now c.main.result c.at-main.result c.main.ensures.value c.at-main.ensures (subst (λ t. IsHeld t c.sels-sels.result.now) (sym c.lines.ensures) c.sels-sels.ensures.held) in
     is.inside
 
 pub returns-clause-row : goal.returns-clause-row
-returns-clause-row c =
+returns-clause-row g c =
     let who = c.args.who in
     let flat = c.args.world.now.flat in
     let is : IsMain c.lines.result.now c.sels-sels.result.now c.at-main.result =

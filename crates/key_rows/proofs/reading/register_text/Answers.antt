@@ -7,6 +7,6 @@ use Rattle.key_rows.proofs.RegisterLemmas.{read-settable}
 use Rattle.key_rows.proofs.reading.register_text.Goals as goal
 
 pub returns-in-Some : goal.returns-in-Some
-returns-in-Some c =
+returns-in-Some g c =
     let read = read-settable c.args.name c.args.who c.args.world.now.flat (λ e. false≢true (sym (c.in-Some.ensures.none.1 e))) ∙ ap Some (ap (strings_of c.args.name) (sym c.registers.ensures) ∙ sym c.in-Some.ensures.some) in
     ap Some c.in_ok-joined_text.ensures ∙ ap (option_map joined_text) (sym read)

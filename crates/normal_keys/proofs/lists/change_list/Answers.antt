@@ -11,7 +11,7 @@ use Rattle.normal_keys.proofs.FewLemmas.{unadding-few}
 use Rattle.normal_keys.proofs.lists.change_list.Goals as goal
 
 pub returns-in-Err-NoMemory-clause-few : goal.returns-in-Err-NoMemory-clause-few
-returns-in-Err-NoMemory-clause-few c = λ h k.
+returns-in-Err-NoMemory-clause-few g c = λ h k.
     elim (test_cases (change_adds c.args.change)) [
       | inl e ↦ e
       | inr e ↦ absurd (false≢true (c.in-Err-NoMemory.ensures.few

@@ -10,7 +10,7 @@ use Rattle.normal_keys.proofs.FewLemmas.{run-few, run-stays, unit-few, unit-stay
 use Rattle.normal_keys.proofs.runs.run_often.Goals as goal
 
 pub loop-init : goal.loop-init
-loop-init c = record {
+loop-init g c = record {
   left = run-first (once c.args.what c.args.prefix.register c.args.who) c.args.world.now.flat _ c.args.prefix.count c.in_ok-run_once.ensures.row;
   reached = sym (ap (λ (e : RowEnd). e.world) c.in_ok-run_once.ensures.row);
   stays = run-stays c.args.what c.args.prefix.register c.args.who c.args.world.now.flat _ c.requires c.in_ok-run_once.ensures.row;
@@ -18,14 +18,14 @@ loop-init c = record {
 }
 
 pub returns-then-not-take_unit-clause-row : goal.returns-then-not-take_unit-clause-row
-returns-then-not-take_unit-clause-row c =
+returns-then-not-take_unit-clause-row g c =
     run-spent (once c.args.what c.args.prefix.register c.args.who) c.loop.world.flat c.take_unit.new.self.flat c.loop.counter c.args.prefix.count _ c.loop-test.true (c.if-not-take_unit.ensures.none refl).0 (c.if-not-take_unit.ensures.none refl).1 c.loop.invariant.left
 
 pub run_once-requires-in-loop : goal.run_once-requires-in-loop
-run_once-requires-in-loop c = unit-stays c.args.who c.loop.world.flat c.take_unit.new.self.flat (c.if-not-take_unit.ensures.taken refl).1 c.loop.invariant.stays
+run_once-requires-in-loop g c = unit-stays c.args.who c.loop.world.flat c.take_unit.new.self.flat (c.if-not-take_unit.ensures.taken refl).1 c.loop.invariant.stays
 
 pub loop-preserved : goal.loop-preserved
-loop-preserved c = record {
+loop-preserved g c = record {
   left =
       run-more (once c.args.what c.args.prefix.register c.args.who) c.loop.world.flat c.take_unit.new.self.flat c.run_once-in-loop.new.world.flat c.loop.counter c.args.prefix.count _ c.loop-test.true
       (c.if-not-take_unit.ensures.taken refl).0 (c.if-not-take_unit.ensures.taken refl).1 c.in_ok-run_once-2.ensures.row c.loop.invariant.left;
@@ -38,14 +38,14 @@ loop-preserved c = record {
 }
 
 pub returns-in_err-run_once-2-clause-row : goal.returns-in_err-run_once-2-clause-row
-returns-in_err-run_once-2-clause-row c =
+returns-in_err-run_once-2-clause-row g c =
     let p = err_from_is_err_and c.from_residual-in_err-run_once-2.result c.from_residual-in_err-run_once-2.ensures.1 in
     rw (p.1, p.2)
     (more-fails (once c.args.what c.args.prefix.register c.args.who) c.in_err-run_once-2.field-0.0 c.loop.world.flat c.take_unit.new.self.flat c.run_once-in-loop.new.world.flat c.loop.counter c.args.prefix.count _ c.loop-test.true
     (c.if-not-take_unit.ensures.taken refl).0 (c.if-not-take_unit.ensures.taken refl).1 c.loop.invariant.left c.in_err-run_once-2.ensures.row)
 
 pub returns-in_err-run_once-2-clause-wanting : goal.returns-in_err-run_once-2-clause-wanting
-returns-in_err-run_once-2-clause-wanting c =
+returns-in_err-run_once-2-clause-wanting g c =
     let p = err_from_is_err_and c.from_residual-in_err-run_once-2.result c.from_residual-in_err-run_once-2.ensures.1 in
     let begins : c.take_unit.new.self.flat ≡ before_run c.loop.counter (once c.args.what c.args.prefix.register c.args.who) c.args.world.now.flat =
     next-begins (once c.args.what c.args.prefix.register c.args.who) c.args.world.now.flat c.loop.world.flat c.take_unit.new.self.flat c.loop.counter (omega (arith, c.loop.auto.counter)) (c.if-not-take_unit.ensures.taken refl).0 (c.if-not-take_unit.ensures.taken refl).1 c.loop.invariant.reached in
