@@ -10,7 +10,7 @@ use Rattle.kak_world.specs.declared.ask.Ask.{Ask}
 use Rattle.kak_world.specs.declared.ask.Ask.TheVariants.{Nothing, Commands, Make, Read, Write, Leave}
 use Rattle.kak_world.specs.declared.ask.EditError.{EditError}
 use Rattle.kak_world.specs.declared.ask.Saving.{Saving}
-use Rattle.kak_world.specs.declared.purpose.Use.{Use}
+use Rattle.kak_world.specs.declared.purpose.Wanted.{Wanted}
 use Rattle.kak_world.specs.Flat.{Flat, units_of, with_units}
 use Rattle.kak_world.specs.Rows.{Row, Asks, Fails, GivesUp, RowEnd}
 use Rattle.command_set.specs.Reading.{commands_told}
@@ -30,7 +30,7 @@ pub record IsCarried (who : ℕ) (R : Flat → Flat → Type 0) : Type 0 where
   pub unit : (left : ℕ) (flat : Flat) → units_of flat ≡ suc left → R flat (with_units left flat)
   pub leave : (flat : Flat) → R flat (granted who flat)
   pub commands : (command : Command) (flat : Flat) → R flat (row_command command who flat).world
-  pub finishes : (wanted : Use) (made : Option (List ℕ)) (flat : Flat) → R flat (row_finish wanted made who flat).world
+  pub finishes : (wanted : Wanted) (made : Option (List ℕ)) (flat : Flat) → R flat (row_finish wanted made who flat).world
   pub reads : (name : List ℕ) (read : FileRead) (flat : Flat) → R flat (row_read name read who flat).world
   pub saves : (saving : Saving) (put : Put) (flat : Flat) → R flat (row_saved saving put who flat).world
 

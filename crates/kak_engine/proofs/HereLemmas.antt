@@ -36,7 +36,7 @@ whos-go who flat = whos-left who flat.clients
 whos-after : (who : ℕ) (event : Event) (answers : List Answered) (flat : Flat) → whos_of (after_event who event answers flat).clients ≡ here_after who (kind_of event) (whos_of flat.clients)
 whos-after who Join answers flat = whos-come who flat
 whos-after who (Struck key) answers flat = (keeps_key who key answers flat).whos
-whos-after who (Resize rows columns) answers flat = (keeps_resize who rows columns flat).whos
+whos-after who (Resize size) answers flat = (keeps_resize who size flat).whos
 whos-after who (Refresh asked) answers flat = (keeps_refresh who flat).whos
 whos-after who Leave answers flat = whos-go who flat
 

@@ -1,8 +1,8 @@
 -- No key makes a client come or go, and what a row asks for takes no unit back.
-use Rattle.std.proofs.Common.{◌≡◌, ℕ, suc, ◌≤◌, ◌<◌, ◌+◌, ◌*◌, Bool, true, false, List, refl, ap, ◌∙◌, arith}
+use Rattle.std.proofs.Common.{◌≡◌, ℕ, suc, ◌≤◌, ◌<◌, ◌+◌, ◌*◌, Bool, true, false, List, None, refl, ap, ◌∙◌, arith}
 use Rattle.std.specs.Prelude.{if◌then◌else◌}
 use Rattle.key_names.specs.declared.key.Key.{Key}
-use Rattle.window_view.specs.Sizes.{sized}
+use Rattle.window_view.specs.Sizes.{Dimensions}
 use Rattle.kak_world.specs.declared.own.Mode.{Mode}
 use Rattle.kak_world.specs.declared.own.Mode.TheVariants.{Normal, Insert, Prompt}
 use Rattle.kak_world.specs.declared.own.StatusText.TheVariants.{Quiet, Refused}
@@ -22,6 +22,7 @@ use Rattle.session_events.specs.declared.event.Answered.{Answered}
 use Rattle.kak_engine.specs.declared.engine.TheConstants.{MAX_UNITS}
 use Rattle.kak_engine.specs.Course.{RunsKey}
 use Rattle.kak_engine.specs.Doing.{DoingEnd, Fine, Failed, GivenUp, Outcome, DoingPlace, beginning, run_task, Do, row_in, row_key, top, strike}
+use Rattle.draw_model.specs.Boxes.{with_drawn, box_for}
 use Rattle.kak_engine.specs.Steps.{told, begun, first_moment, ends_group, group_ended, key_ended, struck, after_key, shown_to, noted_drawn, resized}
 use Rattle.kak_engine.specs.Laws.{KeepsPresence}
 use Rattle.kak_engine.proofs.CarryingLaws.{IsCarried, Keeps, keeps-unit, keeps-row, carried-do}
@@ -123,9 +124,9 @@ keeps-told who (GivenUp text) flat = keeps_own who (λ o. record o { status = Re
 
 keeps-begun : (who : ℕ) (flat : Flat) → KeepsPresence flat (begun who flat)
 keeps-begun who flat =
-    let quiet : Flat = with_own who (λ o. record o { status = Quiet }) flat in
+    let quiet : Flat = with_own who (λ o. record o { status = Quiet; info = None }) flat in
     let ready : Flat = with_units MAX_UNITS quiet in
-    present-behind flat ready (begun who flat) (clients-present flat ready (keeps_after flat quiet ready (keeps_own who (λ o. record o { status = Quiet }) flat) (keeps_units MAX_UNITS quiet))) (present-turn who ready)
+    present-behind flat ready (begun who flat) (clients-present flat ready (keeps_after flat quiet ready (keeps_own who (λ o. record o { status = Quiet; info = None }) flat) (keeps_units MAX_UNITS quiet))) (present-turn who ready)
 
 keeps-group : (mode : Mode) (who : ℕ) (flat : Flat) → KeepsClients flat (ends_group mode who flat)
 keeps-group Insert who flat = keeps_same flat
@@ -154,17 +155,17 @@ keeps_key who key answers flat =
     (present-behind (begun who flat) o.moment.world (key_ended who o) (joined-present (begun who flat) o.moment.world (keeps_strike who top key (first_moment who flat answers))) (keeps-ended who o)))
 
 -- a resize
-pub keeps_resize : (who rows columns : ℕ) (flat : Flat) → KeepsPresence flat (resized who rows columns flat)
-keeps_resize who rows columns flat = clients-present flat _ (keeps_own who (λ o. record o { size = sized rows columns }) flat)
+pub keeps_resize : (who : ℕ) (size : Dimensions) (flat : Flat) → KeepsPresence flat (resized who size flat)
+keeps_resize who size flat = clients-present flat _ (keeps_own who (λ o. record o { size = size }) flat)
 
 -- a refresh
 pub keeps_refresh : (who : ℕ) (flat : Flat) → KeepsPresence flat (noted_drawn who (shown_to who flat))
 keeps_refresh who flat =
     let turned : Flat = takes_turn who flat in
     let followed : Flat = after_following who turned in
-    let noted : Flat = with_own who (λ o. record o { drawn = true }) followed in
+    let noted : Flat = with_drawn who followed in
     present-behind flat noted (step_ended noted)
-    (present-behind flat turned noted (present-turn who flat) (clients-present turned noted (keeps_after turned followed noted (keeps_corner who _ turned) (keeps_own who (λ o. record o { drawn = true }) followed))))
+    (present-behind flat turned noted (present-turn who flat) (clients-present turned noted (keeps_after turned followed noted (keeps_corner who _ turned) (keeps_own who (λ o. record o { drawn = true; sent = box_for who followed }) followed))))
     (present-ended noted)
 
 pub joined_key : (k who : ℕ) (key : Key) (answers : List Answered) (flat : Flat) → is_joined k flat ≡ true → is_joined k (after_key who key answers flat) ≡ true

@@ -119,7 +119,7 @@ left-join who event old new o is stays = left-before who event old new o (subst 
 pub left-coming : (who : ℕ) (event : Event) (old : Flat) (o : Outside) → is_join event ≡ true → IsStepLeft who event old old o o
 left-coming who Join old o comes = left-before who Join old old o refl
 left-coming who (Struck key) old o comes = absurd (let no : false ≡ true = comes in cc)
-left-coming who (Resize rows columns) old o comes = absurd (let no : false ≡ true = comes in cc)
+left-coming who (Resize size) old o comes = absurd (let no : false ≡ true = comes in cc)
 left-coming who (Refresh asked) old o comes = absurd (let no : false ≡ true = comes in cc)
 left-coming who Leave old o comes = absurd (let no : false ≡ true = comes in cc)
 

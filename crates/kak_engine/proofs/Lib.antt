@@ -20,3 +20,4 @@ pub mod StageLemmas
 pub mod Walks
 pub mod TurnLemmas
 pub mod SizeLemmas
+pub mod StoredLemmas

@@ -67,7 +67,7 @@ joined-same k old new f e = by (is_joined k old) (is_joined k new) refl refl
 pub here-after : (k who : ℕ) (event : Event) (answers : List Answered) (flat : Flat) → is_among k (after_event who event answers flat).clients ≡ there_after (kind_of event) (who == k) (is_among k flat.clients)
 here-after k who Join answers flat = here_come k who flat ∙ come (is_among k flat.clients) (who == k)
 here-after k who (Struck key) answers flat = here-same k flat _ (keeps_key who key answers flat)
-here-after k who (Resize rows columns) answers flat = here-same k flat _ (keeps_resize who rows columns flat)
+here-after k who (Resize size) answers flat = here-same k flat _ (keeps_resize who size flat)
 here-after k who (Refresh asked) answers flat = here-same k flat _ (keeps_refresh who flat)
 here-after k who Leave answers flat = by (who == k) refl
   where
@@ -84,7 +84,7 @@ joined-after k who Join answers flat same came = by (who == k) refl
     by true e = subst (λ n. is_joined n (joined_by who flat) ≡ true) (eqb-true who k e) (came refl)
     by false e = joined_others_come k who flat e
 joined-after k who (Struck key) answers flat same came = joined-same k flat _ (keeps_key who key answers flat) same
-joined-after k who (Resize rows columns) answers flat same came = joined-same k flat _ (keeps_resize who rows columns flat) same
+joined-after k who (Resize size) answers flat same came = joined-same k flat _ (keeps_resize who size flat) same
 joined-after k who (Refresh asked) answers flat same came = joined-same k flat _ (keeps_refresh who flat) same
 joined-after k who Leave answers flat same came = by (who == k) refl
   where
@@ -96,7 +96,7 @@ joined-after k who Leave answers flat same came = by (who == k) refl
 pub few-after : (who : ℕ) (event : Event) (answers : List Answered) (flat : Flat) → CanRun (kind_of event) who flat → length flat.clients ≤ MAX_CLIENTS → length (after_event who event answers flat).clients ≤ MAX_CLIENTS
 few-after who Join answers flat can few = omega (arith, count_come who flat, can.few)
 few-after who (Struck key) answers flat can few = omega (arith, count-same flat _ (keeps_key who key answers flat), few)
-few-after who (Resize rows columns) answers flat can few = omega (arith, count-same flat _ (keeps_resize who rows columns flat), few)
+few-after who (Resize size) answers flat can few = omega (arith, count-same flat _ (keeps_resize who size flat), few)
 few-after who (Refresh asked) answers flat can few = omega (arith, count-same flat _ (keeps_refresh who flat), few)
 few-after who Leave answers flat can few = omega (arith, count_goes who flat (here_joined who flat can), few)
 
@@ -116,6 +116,6 @@ others_stay who k event answers flat other = record {
     stays : (e : Event) → is_joined k flat ≡ true → is_joined k (after_event who e answers flat) ≡ true
     stays Join j = joined_others_come k who flat (ne_eqb who k other) ∙ j
     stays (Struck key) j = (keeps_key who key answers flat).joined k j
-    stays (Resize rows columns) j = (keeps_resize who rows columns flat).joined k j
+    stays (Resize size) j = (keeps_resize who size flat).joined k j
     stays (Refresh asked) j = (keeps_refresh who flat).joined k j
     stays Leave j = joined_others_go k who flat (ne_eqb who k other) ∙ j

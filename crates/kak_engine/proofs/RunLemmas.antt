@@ -122,7 +122,7 @@ left-stands before now history new mark limit shelf who Leave s r goes n k =
     stands-more before now history new mark limit o o who Leave [] s r (λ j. let no : false ≡ true = j in cc) n refl (honest-none o) k
 left-stands before now history new mark limit shelf who Join s r goes n k = cc
 left-stands before now history new mark limit shelf who (Struck key) s r goes n k = cc
-left-stands before now history new mark limit shelf who (Resize rows columns) s r goes n k = cc
+left-stands before now history new mark limit shelf who (Resize size) s r goes n k = cc
 left-stands before now history new mark limit shelf who (Refresh asked) s r goes n k = cc
 
 -- who leaves has joined

@@ -38,14 +38,14 @@ given-meaning = record { undrawn = undrawn; stays = stays }
     undrawn : (before : List Entry) (who : ℕ) (event : Event) (answers : List Answered) → is_drawing event ≡ false → (given_by before (entry_with who event answers)).drawing ≡ None
     undrawn before who Join answers d = refl
     undrawn before who (Struck key) answers d = refl
-    undrawn before who (Resize rows columns) answers d = refl
+    undrawn before who (Resize size) answers d = refl
     undrawn before who (Refresh asked) answers d = cc
     undrawn before who Leave answers d = refl
 
     stays : (before : List Entry) (who : ℕ) (event : Event) (answers : List Answered) → may_let_go (kind_of event) ≡ false → (given_by before (entry_with who event answers)).leaving ≡ false
     stays before who Join answers s = refl
     stays before who (Struck key) answers s = cc
-    stays before who (Resize rows columns) answers s = cc
+    stays before who (Resize size) answers s = cc
     stays before who (Refresh asked) answers s = refl
     stays before who Leave answers s = refl
 

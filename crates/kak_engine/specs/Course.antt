@@ -6,7 +6,7 @@ use Rattle.kak_words.specs.declared.parts.Command.{Command}
 use Rattle.kak_files.specs.declared.files.FileRead.{FileRead}
 use Rattle.kak_ports.specs.declared.sink.Put.{Put}
 use Rattle.kak_world.specs.declared.ask.Saving.{Saving}
-use Rattle.kak_world.specs.declared.purpose.Use.{Use}
+use Rattle.kak_world.specs.declared.purpose.Wanted.{Wanted}
 use Rattle.kak_world.specs.Flat.{Flat}
 use Rattle.kak_engine.specs.Asking.{Asked}
 
@@ -17,7 +17,7 @@ pub data Task : Type 0 where
   -- a command is run
   RunsCommand : Command → Task
   -- a use is made of the pattern of a text, or it is told that the pattern was refused
-  UsesPattern : Use → Option (List ℕ) → Task
+  UsesPattern : Wanted → Option (List ℕ) → Task
   -- it is gone on with a file that was to be read, and with one that was to be written
   ShowsFile : List ℕ → FileRead → Task
   NotesFile : Saving → Put → Task

@@ -6,6 +6,7 @@ use Rattle.kak_ports.specs.declared.sink.Put.TheVariants as put
 use Rattle.kak_world.specs.declared.ask.Ask.TheVariants.{Nothing, Make, Read as ToRead, Write}
 use Rattle.kak_world.specs.declared.ask.Saving.{Saving}
 use Rattle.kak_world.specs.declared.purpose.PatternUse.{PatternUse}
+use Rattle.window_view.specs.Sizes.{sized}
 use Rattle.kak_world.specs.Flat.{Flat, view_of}
 use Rattle.kak_world.specs.Examples.{two_joined}
 use Rattle.kak_world.specs.Rows.{Asks}
@@ -56,8 +57,8 @@ pub record Examples : Type 0 where
 
 -- of two clients, 7 and 9, the first has windows of another size
 pub record SizeExamples : Type 0 where
-  pub rows_and_columns : view_of 7 (after_event 7 (Resize 10 40) [] two_joined) ≡ record { top = 0; left = 0; rows = 10; columns = 40 }
-  pub least_and_most : view_of 7 (after_event 7 (Resize 0 5000) [] two_joined) ≡ record { top = 0; left = 0; rows = 1; columns = 1000 }
-  pub last_counts : view_of 7 (after_event 7 (Resize 2 3) [] (after_event 7 (Resize 10 40) [] two_joined)) ≡ record { top = 0; left = 0; rows = 2; columns = 3 }
-  pub other_stays : view_of 9 (after_event 7 (Resize 10 40) [] two_joined) ≡ record { top = 0; left = 0; rows = 24; columns = 80 }
-  pub gives_nothing : output_of 7 (Resize 10 40) [] two_joined ≡ no_output
+  pub rows_and_columns : view_of 7 (after_event 7 (Resize (sized 10 40)) [] two_joined) ≡ record { top = 0; left = 0; rows = 10; columns = 40 }
+  pub least_and_most : view_of 7 (after_event 7 (Resize (sized 0 5000)) [] two_joined) ≡ record { top = 0; left = 0; rows = 1; columns = 1000 }
+  pub last_counts : view_of 7 (after_event 7 (Resize (sized 2 3)) [] (after_event 7 (Resize (sized 10 40)) [] two_joined)) ≡ record { top = 0; left = 0; rows = 2; columns = 3 }
+  pub other_stays : view_of 9 (after_event 7 (Resize (sized 10 40)) [] two_joined) ≡ record { top = 0; left = 0; rows = 24; columns = 80 }
+  pub gives_nothing : output_of 7 (Resize (sized 10 40)) [] two_joined ≡ no_output

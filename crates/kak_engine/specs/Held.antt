@@ -14,18 +14,27 @@ use Rattle.session_events.specs.Entries.{entry_with, is_join, is_leave, has_join
 use Rattle.session_events.specs.Legal.{Away, presence_from, is_here, IsLegal}
 use Rattle.kak_files.specs.Files.{Shelf}
 use Rattle.kak_world.specs.declared.world.TheConstants.{MAX_CLIENTS}
+use Rattle.kak_world.specs.Seen.{Kept}
+use Rattle.kak_world.specs.Stored.{Stored, first_stored}
 use Rattle.kak_world.specs.Flat.{Flat, opening, is_here as is_among, is_joined}
 use Rattle.kak_engine.specs.Steps.{run, output_of, asked_by, exchanges, is_session_full, AreAskedFor, AllAsked, IsStepCutShort, IsStepLeft}
 use Rattle.kak_engine.specs.Honesty.{Outside, IsHonest, IsKept}
 
+-- a world that is put back, as it is seen; where there is none, one before anything happened, of which nothing is stored
+abbrev pub resting : Option Kept → Kept
+resting (Some world) = world
+resting None = record { flat = opening; stored = [] }
+
 -- an engine: its history, the number of entries that stood when it broke, if it did, how many it may have, its outside, and
--- the world inside it, of which the buffers' texts are
+-- the world inside it, of which the buffers' texts are, and how the selection lists on these are stored
 pub record HeldEngine : Type 0 where
   pub history : List Entry
   pub mark : Option ℕ
   pub limit : ℕ
   pub outside : Outside
   pub inside : Flat
+  -- the selection lists on each buffer, as they are stored
+  pub stored : List (Option Stored)
 
 -- An engine that isn't broken has the world that its history leads to, in which those clients are, and have joined, that
 -- have come and not gone, and no more than there may be. What was exchanged with its files in its history is what led to
@@ -92,7 +101,7 @@ pub record TakesEvent (who : ℕ) (event : Event) (old new : HeldEngine) (output
 
 -- an engine to which nothing happened
 abbrev pub new_engine : Outside → ℕ → HeldEngine
-new_engine outside limit = record { history = []; mark = None; limit = limit; outside = outside; inside = opening }
+new_engine outside limit = record { history = []; mark = None; limit = limit; outside = outside; inside = opening; stored = first_stored }
 
 -- an event of a client was begun, and memory was wanting: the world inside is left by it
 abbrev pub LeavesInside : ℕ → Event → HeldEngine → HeldEngine → Type 0

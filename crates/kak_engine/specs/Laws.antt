@@ -2,7 +2,7 @@
 use Rattle.std.specs.Prelude.{◌≡◌, ◌≢◌, ℕ, ◌<◌, true, List}
 use Rattle.key_names.specs.declared.key.Key.{Key}
 use Rattle.kak_world.specs.Keeping.{whos_of}
-use Rattle.window_view.specs.Sizes.{sized, view_at, corner_of}
+use Rattle.window_view.specs.Sizes.{Dimensions, view_at, corner_of}
 use Rattle.kak_world.specs.Flat.{Flat, between_steps, is_here, is_joined, own_of, view_of}
 use Rattle.kak_world.specs.Rows.{Row}
 use Rattle.session_events.specs.declared.event.Event.{Event}
@@ -38,11 +38,11 @@ OtherClientsStay = (who k : ℕ) (event : Event) (answers : List Answered) (flat
 abbrev pub StepsEnd : Type 0
 StepsEnd = (history : List Entry) → (run history).rest.step ≡ between_steps
 
--- The windows of a client that has joined have so many rows and columns, each brought into 1 to 1,000, and stand where they
--- stood; nothing else is changed, its own or another one's, no text and no list.
-pub record ChangesSize (who rows columns : ℕ) (old new : Flat) : Type 0 where
-  pub own : is_joined who old ≡ true → own_of who new ≡ record (own_of who old) { size = sized rows columns }
-  pub window : is_joined who old ≡ true → view_of who new ≡ view_at (corner_of (view_of who old)) (sized rows columns)
+-- The windows of a client that has joined have so many rows and columns, and stand where they stood; nothing else is changed,
+-- its own or another one's, no text and no list.
+pub record ChangesSize (who : ℕ) (size : Dimensions) (old new : Flat) : Type 0 where
+  pub own : is_joined who old ≡ true → own_of who new ≡ record (own_of who old) { size = size }
+  pub window : is_joined who old ≡ true → view_of who new ≡ view_at (corner_of (view_of who old)) size
   pub others : (k : ℕ) → k ≢ who → own_of k new ≡ own_of k old
   pub other_windows : (k : ℕ) → k ≢ who → view_of k new ≡ view_of k old
   pub buffers : new.buffers ≡ old.buffers
@@ -50,4 +50,4 @@ pub record ChangesSize (who rows columns : ℕ) (old new : Flat) : Type 0 where
 
 -- so does a resize
 abbrev pub ResizesChangeSizes : Type 0
-ResizesChangeSizes = (who rows columns : ℕ) (answers : List Answered) (flat : Flat) → ChangesSize who rows columns flat (after_event who (Resize rows columns) answers flat)
+ResizesChangeSizes = (who : ℕ) (size : Dimensions) (answers : List Answered) (flat : Flat) → ChangesSize who size flat (after_event who (Resize size) answers flat)

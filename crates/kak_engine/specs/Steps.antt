@@ -1,5 +1,5 @@
 -- The steps of a session: what each entry of its history does to the world, and what it gives its client.
-use Rattle.std.specs.Prelude.{◌≡◌, ◌⊎◌, ℕ, Bool, true, false, not, ◌&&◌, nat_le, if◌then◌else◌, List, [], ◌∷◌, ◌++◌, length, Some, ⊤}
+use Rattle.std.specs.Prelude.{◌≡◌, ◌⊎◌, ℕ, Bool, true, false, not, ◌&&◌, nat_le, if◌then◌else◌, List, [], ◌∷◌, ◌++◌, length, Some, None, ⊤}
 use Rattle.kak_files.specs.Exchanges.{Exchange}
 use Rattle.session_turns.specs.Growth.{Begins}
 use Rattle.key_names.specs.declared.key.Key.{Key}
@@ -9,7 +9,8 @@ use Rattle.kak_world.specs.declared.own.StatusText.TheVariants.{Quiet, Refused}
 use Rattle.kak_world.specs.declared.world.TheConstants.{MAX_CLIENTS}
 use Rattle.kak_world.specs.Flat.{Flat, opening, joined_by, left_by_client, mode_of, is_client_leaving, with_own, with_units, takes_turn, step_ended}
 use Rattle.kak_world.specs.Changing.{commits}
-use Rattle.window_view.specs.Sizes.{sized}
+use Rattle.window_view.specs.Sizes.{Dimensions}
+use Rattle.draw_model.specs.Boxes.{with_drawn}
 use Rattle.draw_model.specs.Drawings.{drawing_of, after_following}
 use Rattle.kak_engine.specs.declared.engine.TheConstants.{MAX_UNITS}
 use Rattle.session_events.specs.declared.event.Event.{Event}
@@ -36,9 +37,9 @@ told who Fine flat = flat
 told who (Failed text) flat = refused who text flat
 told who (GivenUp text) flat = refused who text flat
 
--- the world when a key begins: its client has no status, the step has all of its units, and it is the client's turn
+-- the world when a key begins: its client has no status and no box, the step has all of its units, and it is the client's turn
 abbrev pub begun : ℕ → Flat → Flat
-begun who flat = takes_turn who (with_units MAX_UNITS (with_own who (λ o. record o { status = Quiet }) flat))
+begun who flat = takes_turn who (with_units MAX_UNITS (with_own who (λ o. record o { status = Quiet; info = None }) flat))
 
 -- the moment when a key begins
 abbrev pub first_moment : ℕ → Flat → List Answered → Moment
@@ -86,17 +87,17 @@ shown_to who flat = after_following who (takes_turn who flat)
 
 -- a client was drawn, and the step is over
 abbrev pub noted_drawn : ℕ → Flat → Flat
-noted_drawn who flat = step_ended (with_own who (λ o. record o { drawn = true }) flat)
+noted_drawn who flat = step_ended (with_drawn who flat)
 
--- the world in which a client's windows have so many rows and columns, each brought into 1 to 1,000; where they stand stays
-abbrev pub resized : ℕ → ℕ → ℕ → Flat → Flat
-resized who rows columns flat = with_own who (λ o. record o { size = sized rows columns }) flat
+-- the world in which a client's windows have so many rows and columns; where they stand stays
+abbrev pub resized : ℕ → Dimensions → Flat → Flat
+resized who size flat = with_own who (λ o. record o { size = size }) flat
 
 -- the world after an event of a client
 abbrev pub after_event : ℕ → Event → List Answered → Flat → Flat
 after_event who Join answers flat = joined_by who flat
 after_event who (Struck key) answers flat = after_key who key answers flat
-after_event who (Resize rows columns) answers flat = resized who rows columns flat
+after_event who (Resize size) answers flat = resized who size flat
 after_event who (Refresh asked) answers flat = noted_drawn who (shown_to who flat)
 after_event who Leave answers flat = left_by_client who flat
 
@@ -108,7 +109,7 @@ may_leave_by who key answers flat = is_client_leaving who (after_key who key ans
 abbrev pub output_of : ℕ → Event → List Answered → Flat → Output
 output_of who Join answers flat = no_output
 output_of who (Struck key) answers flat = record no_output { leaving = may_leave_by who key answers flat }
-output_of who (Resize rows columns) answers flat = no_output
+output_of who (Resize size) answers flat = no_output
 output_of who (Refresh asked) answers flat = record no_output { drawing = Some (drawing_of who (shown_to who flat)) }
 output_of who Leave answers flat = no_output
 

@@ -11,7 +11,7 @@ use crate::outside::Outside;
 use command_set::bytes_saved;
 use kak_files::FileRead;
 use kak_ports::Put;
-use kak_world::{Saving, World};
+use kak_world::{Saving, Turn, World};
 use key_rows::string_of;
 use regex_ports::{Made, Pattern};
 use session_events::Answered;
@@ -64,9 +64,9 @@ pub(crate) fn make<O: Outside>(
 }
 
 // Has a buffer's text written to its file.
-pub(crate) fn write<O: Outside>(
+pub(crate) fn write<O: Outside, T: Turn>(
     alloc: Global,
-    world: &World,
+    world: &World<O::P, T>,
     outside: &mut O,
     saving: &Saving,
 ) -> Result<Put, AllocError>

@@ -18,9 +18,10 @@ use command_set::{finish, note_saved, open_read, read, run_command};
 use insert_prompt::{insert_key, prompt_key};
 use kak_text::Chars;
 use kak_words::Command;
-use kak_world::{Ask, EditError, Mode, PatternUse, Saving, World};
+use kak_world::{Ask, EditError, Mode, PatternUse, Saving, Turn, World};
 use key_names::Key;
 use normal_keys::normal_key;
+use regex_ports::Pattern;
 use session_events::Answers;
 use std::alloc::{AllocError, Global};
 
@@ -36,7 +37,12 @@ pub enum Ending {
 }
 
 // The row of a key, by the mode of its client.
-fn run_row(alloc: Global, world: &mut World, who: u32, key: Key) -> Result<Ask, EditError>
+fn run_row<P: Pattern, T: Turn>(
+    alloc: Global,
+    world: &mut World<P, T>,
+    who: u32,
+    key: Key,
+) -> Result<Ask, EditError>
     requires { acts who world.old.flat ≡ true }
     ensures row { GivesRow result world.new.flat (row_key key who world.old.flat) }
     ensures wanting { IsErrOf result NoMemory → IsPartOfTask (RunsKey key) who world.old.flat world.new.flat }
@@ -61,7 +67,7 @@ fn ending_of(alloc: Global, error: EditError) -> Result<Ending, AllocError>
 }
 
 // Grants a client to leave.
-fn grant_leave(world: &mut World, who: u32)
+fn grant_leave<P: Pattern, T: Turn>(world: &mut World<P, T>, who: u32)
     requires { acts who world.old.flat ≡ true }
     ensures { world.new.flat ≡ granted who world.old.flat }
 {
@@ -70,9 +76,9 @@ fn grant_leave(world: &mut World, who: u32)
 
 // Does what a row asks for, or ends with its error.
 #[cycle(nested)]
-fn go_on<O: Outside>(
+fn go_on<O: Outside, T: Turn>(
     alloc: Global,
-    world: &mut World,
+    world: &mut World<O::P, T>,
     outside: &mut O,
     answers: &mut Answers,
     who: u32,
@@ -89,9 +95,9 @@ fn go_on<O: Outside>(
 
 // Does what an ask says.
 #[cycle(nested)]
-fn do_ask<O: Outside>(
+fn do_ask<O: Outside, T: Turn>(
     alloc: Global,
-    world: &mut World,
+    world: &mut World<O::P, T>,
     outside: &mut O,
     answers: &mut Answers,
     who: u32,
@@ -115,9 +121,9 @@ fn do_ask<O: Outside>(
 
 // Has a pattern made, and goes on with the use of it that is wanted.
 #[cycle(nested)]
-fn make_and_use<O: Outside>(
+fn make_and_use<O: Outside, T: Turn>(
     alloc: Global,
-    world: &mut World,
+    world: &mut World<O::P, T>,
     outside: &mut O,
     answers: &mut Answers,
     who: u32,
@@ -134,9 +140,9 @@ fn make_and_use<O: Outside>(
 
 // Has a file read, and shows it. What was read is shown first and kept then, so that its bytes aren't copied.
 #[cycle(nested)]
-fn read_and_show<O: Outside>(
+fn read_and_show<O: Outside, T: Turn>(
     alloc: Global,
-    world: &mut World,
+    world: &mut World<O::P, T>,
     outside: &mut O,
     answers: &mut Answers,
     who: u32,
@@ -153,9 +159,9 @@ fn read_and_show<O: Outside>(
 
 // Has a buffer written to a file, and goes on with whether it was.
 #[cycle(nested)]
-fn write_and_note<O: Outside>(
+fn write_and_note<O: Outside, T: Turn>(
     alloc: Global,
-    world: &mut World,
+    world: &mut World<O::P, T>,
     outside: &mut O,
     answers: &mut Answers,
     who: u32,
@@ -172,9 +178,9 @@ fn write_and_note<O: Outside>(
 
 // Runs one command.
 #[cycle(nested)]
-fn run_one<O: Outside>(
+fn run_one<O: Outside, T: Turn>(
     alloc: Global,
-    world: &mut World,
+    world: &mut World<O::P, T>,
     outside: &mut O,
     answers: &mut Answers,
     who: u32,
@@ -192,9 +198,9 @@ fn run_one<O: Outside>(
 
 // Runs commands, up to the first that doesn't end well.
 #[cycle(nested)]
-fn run_each<O: Outside>(
+fn run_each<O: Outside, T: Turn>(
     alloc: Global,
-    world: &mut World,
+    world: &mut World<O::P, T>,
     outside: &mut O,
     answers: &mut Answers,
     who: u32,
@@ -215,9 +221,9 @@ fn run_each<O: Outside>(
 
 // Runs a text as commands.
 #[cycle(nested)]
-fn run_text<O: Outside>(
+fn run_text<O: Outside, T: Turn>(
     alloc: Global,
-    world: &mut World,
+    world: &mut World<O::P, T>,
     outside: &mut O,
     answers: &mut Answers,
     who: u32,
@@ -234,9 +240,9 @@ fn run_text<O: Outside>(
 
 /// Runs a key of a client whose turn it is, and stays. What the outside answers is added to the answers. An `Err` comes only for
 /// want of memory; the world may then have been changed in part.
-pub fn strike<O: Outside>(
+pub fn strike<O: Outside, T: Turn>(
     alloc: Global,
-    world: &mut World,
+    world: &mut World<O::P, T>,
     outside: &mut O,
     answers: &mut Answers,
     who: u32,

@@ -7,6 +7,7 @@ ghost use Rattle.std.specs.BTreeSet.{contains};
 ghost use Rattle.text_model.specs.Texts.{line_count};
 ghost use Rattle.kak_world.specs.Flat.{is_here, is_joined, acts, is_client_leaving, text_of, sels_of};
 ghost use Rattle.kak_world.specs.Settled.{AllListsSettled};
+ghost use Rattle.kak_world.specs.Stored.{IsStepOf, LeavesOthersOf};
 ghost use Rattle.kak_world.specs.declared.world.TheConstants.{MAX_CLIENTS};
 ghost use Rattle.kak_engine.specs.Steps.{after_key, may_leave_by, after_event, output_of, asked_by, exchanges, run, begun, told, refused, group_ended, shown_to, noted_drawn, resized, AreAskedFor, AllAsked, IsStepLeft};
 ghost use Rattle.kak_engine.specs.Seen.{end_seen};
@@ -21,10 +22,13 @@ ghost use Rattle.draw_model.specs.Drawings.{drawing_of};
 use crate::doing::{Ending, strike};
 use crate::joined::{is_known, note_coming};
 use crate::outside::Outside;
+use crate::resting::{RestingWorld, leave_in_step, run_in_step};
+use draw_model::note_drawn;
 use drawings::Drawing;
 use kak_text::Chars;
-use kak_world::{EditError, MAX_CLIENTS, Mode, StatusText, World};
+use kak_world::{AnyTurn, EditError, MAX_CLIENTS, Mode, StatusText, Turn, World};
 use key_names::Key;
+use regex_ports::Pattern;
 use session_events::{Answers, Entry, Event, Output, StepFault, is_join, is_leave};
 use std::alloc::{AllocError, Global};
 use std::collections::BTreeSet;
@@ -42,9 +46,9 @@ pub struct NoEngine<O> {
 
 /// The engine. Contracts see its history, its mark, its limit, what its outside is seen as, and the world inside it, which
 /// follows from the history where the engine isn't broken.
-#[derive(Drop, Debug)]
+#[derive(Drop)]
 pub struct Engine<O: Outside> {
-    world: World,
+    world: RestingWorld<O::P>,
     outside: O,
     history: Vec<Entry>,
     joined: BTreeSet<u32>,
@@ -59,13 +63,13 @@ impl<O: Outside> Model for Engine<O> {
 
     ghost Value = { HeldEngine };
 
-    ghost view = { λ e. record { history = e.history.items; mark = e.mark; limit = e.limit; outside = O.seen e.outside; inside = e.world.flat } };
+    ghost view = { λ e. record { history = e.history.items; mark = e.mark; limit = e.limit; outside = O.seen e.outside; inside = e.world.flat; stored = e.world.stored } };
 
     ghost invariant = { λ e. EngineStands e.world.flat e.history.items e.mark e.limit (O.seen e.outside).shelf × KeepsPlaces e.mark e.world.flat (vec_len e.history) (vec_capacity e.history) × KnowsJoined e.mark e.joined e.history.items };
 }
 
 // Tells a client why its key was refused.
-fn refuse(world: &mut World, who: u32, text: Chars)
+fn refuse<P: Pattern, T: Turn>(world: &mut World<P, T>, who: u32, text: Chars)
     requires { acts who world.old.flat ≡ true }
     ensures { world.new.flat ≡ refused who text world.old.flat }
 {
@@ -73,7 +77,12 @@ fn refuse(world: &mut World, who: u32, text: Chars)
 }
 
 // Tells a client what went wrong with its key, if anything did.
-fn tell(alloc: Global, world: &mut World, who: u32, ending: Ending) -> Result<(), AllocError>
+fn tell<P: Pattern, T: Turn>(
+    alloc: Global,
+    world: &mut World<P, T>,
+    who: u32,
+    ending: Ending,
+) -> Result<(), AllocError>
     requires { acts who world.old.flat ≡ true }
     ensures tells { OnOk result (world.new.flat ≡ told who (end_seen ending) world.old.flat) }
     ensures err { OnErr result (world.new.flat ≡ world.old.flat) }
@@ -90,7 +99,7 @@ fn tell(alloc: Global, world: &mut World, who: u32, ending: Ending) -> Result<()
 }
 
 // Ends what is pending of a client whose key ends: outside insert mode it is committed.
-fn end_group(world: &mut World, who: u32)
+fn end_group<P: Pattern, T: Turn>(world: &mut World<P, T>, who: u32)
     requires { acts who world.old.flat ≡ true }
     ensures { world.new.flat ≡ group_ended who world.old.flat }
 {
@@ -103,25 +112,29 @@ fn end_group(world: &mut World, who: u32)
 }
 
 // Begins a key of a client, whose turn it is then.
-fn begin(world: &mut World, who: u32)
-    requires { is_joined who world.old.flat ≡ true }
+fn begin<P: Pattern, T: Turn>(world: &mut World<P, T>, who: u32)
+    requires own { IsStepOf who T.began }
+    requires joined { is_joined who world.old.flat ≡ true }
     ensures begins { world.new.flat ≡ begun who world.old.flat }
     ensures acts { acts who world.new.flat ≡ true }
 {
-    world.own_mut(who).status = StatusText::Quiet;
+    let own = world.own_mut(who);
+    own.status = StatusText::Quiet;
+    own.info = None;
     world.set_units(MAX_UNITS);
     world.enter(who);
 }
 
 // Runs a key of a client that wasn't granted to leave.
-fn run_struck<O: Outside>(
+fn run_struck<O: Outside, T: Turn>(
     alloc: Global,
-    world: &mut World,
+    world: &mut World<O::P, T>,
     outside: &mut O,
     answers: &mut Answers,
     who: u32,
     key: Key,
 ) -> Result<(), AllocError>
+    requires own { IsStepOf who T.began }
     requires joined { is_joined who world.old.flat ≡ true }
     requires stays { is_client_leaving who world.old.flat ≡ false }
     requires fresh { answers.old ≡ [] }
@@ -139,14 +152,15 @@ fn run_struck<O: Outside>(
 }
 
 // Runs a key of a client, and tells whether it was granted to leave by it. Once it was, its keys do nothing.
-fn run_key<O: Outside>(
+fn run_key<O: Outside, T: Turn>(
     alloc: Global,
-    world: &mut World,
+    world: &mut World<O::P, T>,
     outside: &mut O,
     answers: &mut Answers,
     who: u32,
     key: Key,
 ) -> Result<bool, AllocError>
+    requires own { IsStepOf who T.began }
     requires joined { is_joined who world.old.flat ≡ true }
     requires fresh { answers.old ≡ [] }
     ensures leads { OnOk result (world.new.flat ≡ after_key who key answers.new world.old.flat) }
@@ -164,37 +178,43 @@ fn run_key<O: Outside>(
     Ok(own.leaving)
 }
 
-// Gives a client's windows so many rows and columns, each brought into 1 to 1,000. Takes no memory.
-fn resize(world: &mut World, who: u32, rows: u16, columns: u16)
+// Gives a client's windows a size. Takes no memory.
+fn resize<P: Pattern, T: Turn>(world: &mut World<P, T>, who: u32, size: Size)
     requires { is_joined who world.old.flat ≡ true }
-    ensures { world.new.flat ≡ resized who rows columns world.old.flat }
+    ensures { world.new.flat ≡ resized who size world.old.flat }
 {
-    world.own_mut(who).size = Size::new_within(rows, columns);
+    world.own_mut(who).size = size;
 }
 
 // Lets a client's window follow its cursor, and gives what it is shown. It is its turn meanwhile.
-fn redraw(alloc: Global, world: &mut World, who: u32) -> Result<Drawing, AllocError>
-    requires { is_joined who world.old.flat ≡ true }
+fn redraw<P: Pattern, T: Turn>(
+    alloc: Global,
+    world: &mut World<P, T>,
+    who: u32,
+) -> Result<Drawing, AllocError>
+    requires own { IsStepOf who T.began }
+    requires joined { is_joined who world.old.flat ≡ true }
     ensures draws { IfOk result (λ d. d ≡ drawing_of who (shown_to who world.old.flat)) }
     ensures follows { OnOk result (world.new.flat ≡ noted_drawn who (shown_to who world.old.flat)) }
     ensures err { OnErr result (world.new.flat ≡ shown_to who world.old.flat) }
 {
     world.enter(who);
     let drawing = draw_model::redraw(alloc, world, who)?;
-    world.own_mut(who).drawn = true;
+    note_drawn(alloc, world, who)?;
     world.end_step();
     Ok(drawing)
 }
 
 // Runs an event that is not refused. What the outside answers is added to the answers. A client that comes has joined then.
-fn run_event<O: Outside>(
+fn run_event<O: Outside, T: Turn>(
     alloc: Global,
-    world: &mut World,
+    world: &mut World<O::P, T>,
     outside: &mut O,
     answers: &mut Answers,
     who: u32,
     event: &Event,
 ) -> Result<Output, AllocError>
+    requires own { IsStepOf who T.began }
     requires runs { CanRun (kind_of event.now) who world.old.flat }
     requires fresh { answers.old ≡ [] }
     ensures gives { IfOk result (λ output. output ≡ output_of who event.now answers.new world.old.flat) }
@@ -213,8 +233,8 @@ fn run_event<O: Outside>(
             drawing: None,
             leaving: run_key(alloc, world, outside, answers, who, *key)?,
         }),
-        Event::Resize(rows, columns) => {
-            resize(world, who, *rows, *columns);
+        Event::Resize(size) => {
+            resize(world, who, *size);
             Ok(Output::nothing())
         }
         Event::Refresh(_) => Ok(Output {
@@ -229,8 +249,8 @@ fn run_event<O: Outside>(
 }
 
 // Why an event of a client is refused by an engine that isn't broken, if it is.
-fn refusal_by(
-    world: &World,
+fn refusal_by<P: Pattern, T: Turn>(
+    world: &World<P, T>,
     joined: &BTreeSet<u32>,
     history: &[Entry],
     limit: u64,
@@ -259,7 +279,13 @@ fn refusal_by(
 }
 
 // Lets a client go, and adds the entry, for which a place was kept.
-fn keep_leaving(alloc: Global, world: &mut World, history: &mut Vec<Entry>, who: u32) -> Output
+pub(crate) fn keep_leaving<P: Pattern, T: Turn>(
+    alloc: Global,
+    world: &mut World<P, T>,
+    history: &mut Vec<Entry>,
+    who: u32,
+) -> Output
+    requires own { IsStepOf who T.began }
     requires joined { is_joined who world.old.flat ≡ true }
     requires places { vec_len history.old + length world.old.flat.clients ≤ vec_capacity history.old }
     ensures gives { result ≡ output_of who Leave [] world.old.flat }
@@ -277,15 +303,16 @@ fn keep_leaving(alloc: Global, world: &mut World, history: &mut Vec<Entry>, who:
 }
 
 // Runs an event that is not refused. Places are kept for its entry, and for the going of each client that is here then.
-fn run_with_places<O: Outside>(
+pub(crate) fn run_with_places<O: Outside, T: Turn>(
     alloc: Global,
-    world: &mut World,
+    world: &mut World<O::P, T>,
     outside: &mut O,
     answers: &mut Answers,
     history: &mut Vec<Entry>,
     who: u32,
     event: &Event,
 ) -> Result<Output, AllocError>
+    requires own { IsStepOf who T.began }
     requires runs { CanRun (kind_of event.now) who world.old.flat }
     requires fresh { answers.old ≡ [] }
     requires few { length world.old.flat.clients ≤ MAX_CLIENTS }
@@ -311,9 +338,9 @@ impl<O: Outside> Engine<O> {
         ensures new { IfOk result (λ e. e ≡ new_engine (O.seen outside) limit) }
         ensures none { IfErr result (λ none. none.outside ≡ outside) }
     {
-        match World::new(alloc) {
+        match World::<O::P, AnyTurn>::new(alloc) {
             Ok(world) => Ok(Engine {
-                world,
+                world: RestingWorld::new(world),
                 outside,
                 history: Vec::new(alloc),
                 joined: BTreeSet::new(alloc),
@@ -369,7 +396,7 @@ impl<O: Outside> Engine<O> {
         ensures lists { self.now.mark ≡ None → AllListsSettled (run self.now.history) }
         ensures few { self.now.mark ≡ None → length (run self.now.history).clients ≤ MAX_CLIENTS }
     {
-        self.world.lists_are_held();
+        self.world.get().lists_are_held();
     }
 
     /// A law: where the engine isn't broken, the world inside it is the run of its history.
@@ -392,7 +419,7 @@ impl<O: Outside> Engine<O> {
         requires here { is_in (presence_from who Away self.now.history) ≡ true }
         ensures { result ≡ length (text_of who (run self.now.history)) }
     {
-        self.world.lines(who).len() as u64
+        self.world.get().lines(who).len() as u64
     }
 
     /// How many lines the text has that a client sees. The engine isn't broken, and the client is here.
@@ -401,7 +428,7 @@ impl<O: Outside> Engine<O> {
         requires here { is_in (presence_from who Away self.now.history) ≡ true }
         ensures { result ≡ line_count (text_of who (run self.now.history)) }
     {
-        self.world.lines(who).line_count() as u64
+        self.world.get().lines(who).line_count() as u64
     }
 
     /// How many selections a client has on the text that it sees. The engine isn't broken, and the client is here. An error is
@@ -411,7 +438,7 @@ impl<O: Outside> Engine<O> {
         requires here { is_in (presence_from who Away self.now.history) ≡ true }
         ensures { IfOk result (λ count. count ≡ length (sels_of who (run self.now.history)).list) }
     {
-        Ok(self.world.sel_count(alloc, who)? as u64)
+        Ok(self.world.get().sel_count(alloc, who)? as u64)
     }
 
     // Why an event of a client is refused, if it is.
@@ -423,7 +450,7 @@ impl<O: Outside> Engine<O> {
             return Some(StepFault::Broken(at));
         }
         refusal_by(
-            &self.world,
+            self.world.get(),
             &self.joined,
             self.history.as_slice(),
             self.limit,
@@ -443,18 +470,19 @@ impl<O: Outside> Engine<O> {
         ensures left { OnErr result (LeavesInside who event.now self.old self.new) }
         ensures breaks { OnErr result (self.new.mark ≡ marked_by self.old.mark (length self.old.history)) }
         ensures leaves { is_leave event.now ≡ true → IsOk result }
+        ensures others { LeavesOthersOf who self.old.stored self.new.stored }
         ensures limit { self.new.limit ≡ self.old.limit }
         ensures legal { IsLegal self.new.limit self.new.history }
     {
         if is_leave(event) {
-            return Ok(keep_leaving(alloc, &mut self.world, &mut self.history, who));
+            return Ok(leave_in_step(alloc, &mut self.world, &mut self.history, who));
         }
         let Ok(()) = note_coming(&mut self.joined, who, event) else {
             self.mark = Some(self.history.len() as u64);
             return Err(AllocError);
         };
         let mut answers = Answers::new(alloc);
-        let ran = run_with_places(
+        let ran = run_in_step(
             alloc,
             &mut self.world,
             &mut self.outside,
@@ -494,6 +522,7 @@ impl<O: Outside> Engine<O> {
         ensures cut { event_refusal self.old who event.now ≡ None → OnErr result (CutsEvent who event.now self.old self.new) }
         ensures left { event_refusal self.old who event.now ≡ None → OnErr result (LeavesInside who event.now self.old self.new) }
         ensures stays { IfSome (event_refusal self.old who event.now) (λ fault. self.new.inside ≡ self.old.inside) }
+        ensures others { LeavesOthersOf who self.old.stored self.new.stored }
         ensures mark { self.new.mark ≡ marked_after result self.old }
         ensures limit { self.new.limit ≡ self.old.limit }
         ensures legal { IsLegal self.new.limit self.new.history }

@@ -20,7 +20,7 @@ pub fn others_stay()
     ensures { OtherClientsStay }
 {}
 
-/// A resize gives the windows of its client so many rows and columns, each brought into 1 to 1,000, and changes nothing else.
+/// A resize gives the windows of its client so many rows and columns, and changes nothing else.
 pub fn resizes_change_sizes()
     ensures { ResizesChangeSizes }
 {}

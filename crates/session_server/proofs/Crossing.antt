@@ -15,11 +15,17 @@ use Rattle.atomic_table.proofs.Rights.{right_send}
 use Rattle.atomic_table.proofs.Sent.{seat_keyless, owns_keyless, shares_keyless}
 use Rattle.buffer_store.specs.contracts.buffer.Buffer as Store
 use Rattle.list_shelf.specs.contracts.shelf.Shelf as Shelf
+use Rattle.kak_engine.specs.contracts.resting.RestingWorld as RestingWorld
 use Rattle.kak_engine.specs.contracts.trace.Trace as Trace
+use Rattle.kak_text.specs.contracts.chars.Chars as Chars
 use Rattle.kak_world.specs.contracts.buffer.WorldBuffer as Buffer
+use Rattle.kak_world.specs.contracts.own.Own as Own
 use Rattle.kak_world.specs.contracts.clients.Clients as Clients
 use Rattle.kak_world.specs.contracts.world.World as World
+use Rattle.kak_world.specs.declared.turn.Turn as turns
+use Rattle.regex_ports.specs.declared.pattern.Pattern as patterns
 use Rattle.session_events.specs.contracts.event.Entry as Entry
+use Rattle.session_server.proofs.PatternsCrossing.{face_send, patterns_cross}
 
 pub seat_send : (S V : RattleType) → IsSend S → IsSend (Seat.the_row S V)
 seat_send S V s = record { owned = λ d vs. ((λ vss. (tt, ((λ uss. (tt, tt)), tt))), seat_keyless S s V.coded.code d.table_id d.id d.me); leaving = λ k f vs. tt }
@@ -47,11 +53,22 @@ shelf_send = search (sendable, std_crosses) depth 60 fits 20000
 buffer_send : IsSend Buffer.the_row
 buffer_send = search (sendable, std_crosses, store_send, shelf_send) depth 60 fits 20000
 
-clients_send : IsSend Clients.the_row
-clients_send = search (sendable, std_crosses) depth 60 fits 20000
+chars_send : IsSend Chars.the_row
+chars_send = search (sendable, std_crosses) depth 60 fits 20000
 
-pub world_send : IsSend World.the_row
-world_send = search (sendable, std_crosses, buffer_send, clients_send) depth 60 fits 20000
+own_send : IsSend (Own.the_field).row
+own_send = search (chars_send, face_send, sendable, std_crosses) depth 60 fits 20000
+
+clients_send : IsSend Clients.the_row
+clients_send = search (own_send, sendable, std_crosses) depth 60 fits 20000
+
+-- whatever its patterns are, where they may, and in whatever step it is
+module _ (P T : RattleType) (s : IsSend P) (g : patterns.Ghosts P.Denot) (t : turns.Ghosts T.Denot) where
+  pub world_send : IsSend (World.the_row P T g t)
+  world_send = search (sendable, std_crosses, buffer_send, clients_send, patterns_cross) depth 60 fits 20000
+
+pub resting_send : (P : RattleType) → IsSend P → (g : patterns.Ghosts P.Denot) → IsSend (RestingWorld.the_row P g)
+resting_send P s g = search (sendable, std_crosses, world_send) depth 60 fits 20000
 
 pub entry_send : IsSend Entry.the_row
 entry_send = search (sendable, std_crosses) depth 60 fits 20000
@@ -60,5 +77,5 @@ entry_send = search (sendable, std_crosses) depth 60 fits 20000
 pub trace_send : IsSend Trace.the_row
 trace_send = owning_send Trace.the_type tt (λ d. tt) (λ k x w. tt)
 
--- for the search at a spawner whose threads run such jobs, at a depth of 60 with 20,000 fits
-pub ruleset crosses = (sendable, std_crosses, seat_send, shared_send, shared_sync, lease_send, lease_sync, world_send, entry_send, trace_send)
+-- the parts of what crosses with a job
+pub ruleset crosses = (sendable, std_crosses, patterns_cross, seat_send, shared_send, shared_sync, lease_send, lease_sync, world_send, resting_send, entry_send, trace_send)

@@ -1,4 +1,6 @@
 pub mod RowLemmas
 pub mod GoneLemmas
 pub mod SessionLemmas
+pub mod PatternsCrossing
 pub mod Crossing
+pub mod JobCrossing

@@ -14,18 +14,19 @@ use engine_desk::SharedEngine;
 use jobs::{Spawner, Started};
 use kak_engine::Outside;
 use line_gates::Gate;
+use regex_ports::RegexPattern;
 use session_desk::Pass;
 use std::sync::Wait;
 
 /// Why no further link is received, and the pass of a link that had come and isn't served.
 #[derive(Drop)]
-pub(crate) struct Stopped<O: Outside + Drop> {
+pub(crate) struct Stopped<O: Outside<P = RegexPattern> + Drop> {
     pub why: ServerStatus,
     pub back: Option<Pass<SharedEngine<O>>>,
 }
 
 // No further link is received, and all that were let in are served.
-fn stopped_by<O: Outside + Drop>(why: ServerStatus) -> Stopped<O>
+fn stopped_by<O: Outside<P = RegexPattern> + Drop>(why: ServerStatus) -> Stopped<O>
     ensures why { result.why ≡ why }
     ensures back { result.back ≡ None }
 {
@@ -33,7 +34,7 @@ fn stopped_by<O: Outside + Drop>(why: ServerStatus) -> Stopped<O>
 }
 
 // Starts the serving of a link. An `Err` has the pass of one that isn't served.
-fn start<L: Link, O: Outside + Drop, G: Gate, P: Spawner<LinkJob<L, O, G>>>(
+fn start<L: Link, O: Outside<P = RegexPattern> + Drop, G: Gate, P: Spawner<LinkJob<L, O, G>>>(
     spawner: &mut P,
     job: LinkJob<L, O, G>,
 ) -> Result<(), Stopped<O>>
@@ -62,7 +63,7 @@ fn start<L: Link, O: Outside + Drop, G: Gate, P: Spawner<LinkJob<L, O, G>>>(
 pub(crate) fn accept_all<
     R: Wait,
     A: Acceptor,
-    O: Outside + Drop,
+    O: Outside<P = RegexPattern> + Drop,
     G: Gate + Clone,
     P: Spawner<LinkJob<A::Link, O, G>>,
 >(rt: &R, host: &mut Host<O, G>, acceptor: &mut A, spawner: &mut P) -> Stopped<O>

@@ -8,11 +8,12 @@ ghost use Rattle.session_server.specs.Hosting.{noted, serving_end, passes_back, 
 use engine_desk::SharedEngine;
 use kak_engine::Outside;
 use link_lines::Ended;
+use regex_ports::RegexPattern;
 use session_desk::{Desk, Keeper, Pass};
 use std::alloc::{AllocError, Global};
 
 /// Gives the passes of links that were served back to the keeper. What is left are the ends of the links, in the same order.
-pub(crate) fn take_back<O: Outside + Drop, S: Drop>(
+pub(crate) fn take_back<O: Outside<P = RegexPattern> + Drop, S: Drop>(
     alloc: Global,
     desk: &Desk<SharedEngine<O>>,
     keeper: &mut Keeper<SharedEngine<O>>,
@@ -36,7 +37,7 @@ pub(crate) fn take_back<O: Outside + Drop, S: Drop>(
 }
 
 /// Gives the pass of a link that isn't served back to the keeper, if there is one.
-pub(crate) fn take_rest<O: Outside + Drop>(
+pub(crate) fn take_rest<O: Outside<P = RegexPattern> + Drop>(
     desk: &Desk<SharedEngine<O>>,
     keeper: &mut Keeper<SharedEngine<O>>,
     back: Option<Pass<SharedEngine<O>>>,

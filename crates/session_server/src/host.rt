@@ -14,6 +14,7 @@ use client_links::Link;
 use engine_desk::SharedEngine;
 use kak_engine::Outside;
 use line_gates::Gate;
+use regex_ports::RegexPattern;
 use session_desk::{Desk, Keeper};
 use std::alloc::{AllocError, Global};
 use std::marker::Model;
@@ -24,7 +25,7 @@ pub const MAX_LINKS: u32 = 1_000_000;
 
 /// Who lets the clients of a session in. Contracts see the desk, its keeper, and the file that the next client opens.
 #[derive(Drop)]
-pub(crate) struct Host<O: Outside + Drop, G: Gate> {
+pub(crate) struct Host<O: Outside<P = RegexPattern> + Drop, G: Gate> {
     alloc: Global,
     desk: Arc<Desk<SharedEngine<O>>, Global>,
     keeper: Keeper<SharedEngine<O>>,
@@ -34,7 +35,7 @@ pub(crate) struct Host<O: Outside + Drop, G: Gate> {
     admitted: u32,
 }
 
-impl<O: Outside + Drop, G: Gate> Model for Host<O, G> {
+impl<O: Outside<P = RegexPattern> + Drop, G: Gate> Model for Host<O, G> {
     ghost use Rattle.std.specs.Arc.{arc_value};
     ghost use Rattle.std.specs.Prelude.{option_map, string_bytes};
     ghost use Rattle.session_server.specs.Hosting.{HostView, IsHosting};
@@ -46,7 +47,7 @@ impl<O: Outside + Drop, G: Gate> Model for Host<O, G> {
     ghost invariant = { λ h. IsHosting (arc_value h.desk) h.keeper h.admitted };
 }
 
-impl<O: Outside + Drop, G: Gate> Host<O, G> {
+impl<O: Outside<P = RegexPattern> + Drop, G: Gate> Host<O, G> {
     /// A host of a session in which nothing has happened, to which nobody was let in yet. Its first client opens the file,
     /// if one is named.
     pub fn new(

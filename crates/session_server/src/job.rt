@@ -7,13 +7,14 @@ use jobs::Job;
 use kak_engine::Outside;
 use line_gates::Gate;
 use link_lines::Ended;
+use regex_ports::RegexPattern;
 use session_desk::{Desk, Pass};
 use std::alloc::Global;
 use std::sync::{Arc, Wait};
 
 /// A link that has just come, to be served under a pass that has no entry yet, and to be closed then.
 #[derive(Drop)]
-pub struct LinkJob<L: Link, O: Outside + Drop, G: Gate> {
+pub struct LinkJob<L: Link, O: Outside<P = RegexPattern> + Drop, G: Gate> {
     pub alloc: Global,
     pub desk: Arc<Desk<SharedEngine<O>>, Global>,
     pub pass: Pass<SharedEngine<O>>,
@@ -23,7 +24,7 @@ pub struct LinkJob<L: Link, O: Outside + Drop, G: Gate> {
     pub gate: G,
 }
 
-impl<L: Link, O: Outside + Drop, G: Gate> Job for LinkJob<L, O, G> {
+impl<L: Link, O: Outside<P = RegexPattern> + Drop, G: Gate> Job for LinkJob<L, O, G> {
     ghost use Rattle.std.specs.Arc.{arc_value};
     ghost use Rattle.std.specs.Prelude.{option_map, string_bytes};
     ghost use Rattle.session_server.specs.Rows.{IsLinkReady, ServesLink};

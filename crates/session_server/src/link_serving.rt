@@ -20,6 +20,7 @@ use key_names::Key;
 use line_gates::Gate;
 use link_lines::{Ended, serve_over};
 use program_words::edit_keys;
+use regex_ports::RegexPattern;
 use session_desk::{Desk, Pass};
 use std::alloc::{AllocError, Global};
 use std::sync::Wait;
@@ -39,7 +40,7 @@ fn opening_keys(alloc: Global, file: Option<&str>) -> Result<Vec<Key>, AllocErro
 /// drawn what it has missed. It leaves before every end at which it came, unless the session is broken. Where memory is
 /// wanting for the keys, nothing is played. The pass is given back with the history that it has seen, by which all of this
 /// holds, and in front of which stands what it had seen before.
-pub fn serve_link<R: Wait, L: Link, G: Gate, O: Outside + Drop>(
+pub fn serve_link<R: Wait, L: Link, G: Gate, O: Outside<P = RegexPattern> + Drop>(
     rt: &R,
     alloc: Global,
     desk: &Desk<SharedEngine<O>>,

@@ -15,6 +15,7 @@ use jobs::Spawner;
 use kak_engine::Outside;
 use line_gates::Gate;
 use program_words::{WordsError, read_words};
+use regex_ports::RegexPattern;
 use session_events::MAX_ENTRIES;
 use std::alloc::Global;
 use std::sync::Wait;
@@ -25,7 +26,7 @@ use std::sync::Wait;
 pub fn run_server<
     R: Wait,
     A: Acceptor,
-    O: Outside + Drop,
+    O: Outside<P = RegexPattern> + Drop,
     G: Gate + Clone,
     P: Spawner<LinkJob<A::Link, O, G>>,
 >(

@@ -15,11 +15,14 @@ use engine_desk::SharedEngine;
 use jobs::Spawner;
 use kak_engine::Outside;
 use line_gates::Gate;
+use regex_ports::RegexPattern;
 use std::alloc::Global;
 use std::sync::Wait;
 
 // What is left where memory ran out.
-fn out_of_memory<O: Outside + Drop, T: Drop>(alloc: Global) -> (ServerStatus, Session<O, T>)
+fn out_of_memory<O: Outside<P = RegexPattern> + Drop, T: Drop>(
+    alloc: Global,
+) -> (ServerStatus, Session<O, T>)
     ensures why { result.0 ≡ ServerStatus.NoMemory }
     ensures engine { result.1.engine ≡ None }
     ensures ends { result.1.ends.items ≡ [] }
@@ -38,7 +41,7 @@ fn out_of_memory<O: Outside + Drop, T: Drop>(alloc: Global) -> (ServerStatus, Se
 pub fn serve<
     R: Wait,
     A: Acceptor,
-    O: Outside + Drop,
+    O: Outside<P = RegexPattern> + Drop,
     G: Gate + Clone,
     P: Spawner<LinkJob<A::Link, O, G>>,
 >(

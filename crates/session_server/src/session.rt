@@ -3,10 +3,11 @@
 use engine_desk::SharedEngine;
 use kak_engine::Outside;
 use link_lines::Ended;
+use regex_ports::RegexPattern;
 
 /// What is left of a session.
 #[derive(Drop)]
-pub struct Session<O: Outside + Drop, T: Drop> {
+pub struct Session<O: Outside<P = RegexPattern> + Drop, T: Drop> {
     /// The engine. It is lost only where memory ran out.
     pub engine: Option<SharedEngine<O>>,
     /// How the serving of each link ended, and what is left of the link, in the order in which they came. Only where memory

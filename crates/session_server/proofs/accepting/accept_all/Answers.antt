@@ -28,7 +28,7 @@ pub returns-in-Err-start-clause-in_order : goal.returns-in-Err-start-clause-in_o
 returns-in-Err-start-clause-in_order g c =
     let i = c.loop.invariant in let e = c.in-Err-start.ensures.err in
     let links = map (λ job. g.A.Link.Link.wire job.link) (g.P.Spawner.started c.loop.spawner) in
-    subst (λ (js : List (LinkJob g.row.A-Link.Denot g.row.O.Denot g.row.G.Denot g.row.A-Link-Spent.Denot g.row.O-P.Denot)). CameInOrder c.in-Err-start.stopped.why (map (λ job. g.A.Link.Link.wire job.link) js) (g.A.Acceptor.door c.args.acceptor.now).to_come (g.A.Acceptor.door c.next-in-loop.new.self).to_come) (sym e.0)
+    subst (λ (js : List (LinkJob g.row.A-Link.Denot g.row.O.Denot g.row.G.Denot g.row.A-Link-Spent.Denot)). CameInOrder c.in-Err-start.stopped.why (map (λ job. g.A.Link.Link.wire job.link) js) (g.A.Acceptor.door c.args.acceptor.now).to_come (g.A.Acceptor.door c.next-in-loop.new.self).to_come) (sym e.0)
     (handed-order c.in-Err-start.stopped.why links (g.A.Link.Link.wire c.in-Came.link) _ _ _ e.2 i.order c.in-Came.ensures.in_order)
 
 pub returns-in-Err-clause-in_order : goal.returns-in-Err-clause-in_order
@@ -44,7 +44,7 @@ loop-preserved-in_default g c =
     let before = g.P.Spawner.started c.loop.spawner in
     let longer : length (g.P.Spawner.started c.start.new.spawner) ≡ length before + 1 = ap length ok.0 ∙ length-append before (job ∷ []) in
     let made = ap (λ k. k.made) o.keeper in
-    let wires = λ (js : List (LinkJob g.row.A-Link.Denot g.row.O.Denot g.row.G.Denot g.row.A-Link-Spent.Denot g.row.O-P.Denot)). map (λ j. g.A.Link.Link.wire j.link) js in
+    let wires = λ (js : List (LinkJob g.row.A-Link.Denot g.row.O.Denot g.row.G.Denot g.row.A-Link-Spent.Denot)). map (λ j. g.A.Link.Link.wire j.link) js in
     let next = subst (λ (w : Wire). IsNextOf w (g.A.Acceptor.door c.loop.acceptor).to_come (g.A.Acceptor.door c.next-in-loop.new.self).to_come) (sym c.in-Ok.ensures.link) c.in-Came.ensures.in_order in
     record {
       fit = c.start.ensures.fit;
@@ -53,7 +53,7 @@ loop-preserved-in_default g c =
       given = ap (λ k. k.given) o.keeper ∙ i.given;
       made = made ∙ ap (λ n. n + 1) i.made ∙ sym longer;
       most = omega (arith, longer, o.room, i.made);
-      jobs = subst (λ (js : List (LinkJob g.row.A-Link.Denot g.row.O.Denot g.row.G.Denot g.row.A-Link-Spent.Denot g.row.O-P.Denot)). Admitted (λ j. job_view (arc_value j.desk) j.pass (option_map (λ name. string_bytes name) j.file)) c.args.host.now.home c.args.host.now.keeper.place 0 c.args.host.now.file js) (sym ok.0)
+      jobs = subst (λ (js : List (LinkJob g.row.A-Link.Denot g.row.O.Denot g.row.G.Denot g.row.A-Link-Spent.Denot)). Admitted (λ j. job_view (arc_value j.desk) j.pass (option_map (λ name. string_bytes name) j.file)) c.args.host.now.home c.args.host.now.keeper.place 0 c.args.host.now.file js) (sym ok.0)
           (admitted-one (λ j. job_view (arc_value j.desk) j.pass (option_map (λ name. string_bytes name) j.file)) c.args.host.now.home c.args.host.now.keeper.place 0 c.args.host.now.file before job i.jobs
           (as-admitted c.args.host.now.home c.args.host.now.keeper.place c.args.host.now.file before _ _ _ o i.home i.place i.made i.file));
       file = o.file ∙ sym (ap (λ js. file_left c.args.host.now.file js) ok.0 ∙ left-behind c.args.host.now.file before job);

@@ -1,4 +1,5 @@
-use Rattle.std.proofs.Common.{◌≡◌, [], refl, sym, ◌∙◌, subst, append-nil}
+use Rattle.std.proofs.Common.{rules, ◌≡◌, ◌++◌, List, [], ◌∷◌, length, map, refl, sym, ◌∙◌, ap, subst, arith, append-nil}
+use Rattle.std.specs.Vec.Iter.{into_iter_items}
 use Rattle.std.proofs.lemmas.List.Elements.{All-rest, All-same}
 use Rattle.jobs.proofs.MeetLemmas.{grows}
 use Rattle.session_desk.specs.Tokens.{DeskPlace, IsOf, PassView}
@@ -10,8 +11,12 @@ use Rattle.session_server.specs.Hosting.{noted, serving_end}
 use Rattle.session_server.proofs.SessionLemmas.{keeps-itself, keeps-first, noted-one, of-next}
 use Rattle.session_server.proofs.closing.take_back.Goals as goal
 
+all-done : {B : Type 0} (done rest all : List B) → done ++ rest ≡ all → length rest ≡ 0 → done ≡ all
+all-done done [] all e none = sym (append-nil done) ∙ e
+all-done done (next ∷ rest) all e none = absurd (omega (arith, none))
+
 pub loop-ended-init : goal.loop-ended-init
-loop-ended-init g c = record { place = refl; made = refl; begins = starts_itself _; mark = keeps-itself _; results = refl; given = sym (append-nil _); ends = c.new-ends.ensures.items; places = All-same (λ r. r.1.place ≡ c.args.keeper.now.place) _ _ c.into_iter-ended-iterator.ensures.into_iter_gives.0 c.requires.places }
+loop-ended-init g c = record { place = refl; made = refl; begins = starts_itself _; mark = keeps-itself _; results = refl; left = search rules; given = sym (append-nil _); ends = c.new-ends.ensures.items; places = All-same (λ r. r.1.place ≡ c.args.keeper.now.place) _ _ c.into_iter-ended-iterator.ensures.into_iter_gives.0 c.requires.places }
 
 pub leave-requires-clause-pass : goal.leave-requires-clause-pass
 leave-requires-clause-pass g c =
@@ -27,7 +32,14 @@ loop-ended-preserved g c =
       begins = starts_through _ _ _ e.begins i.begins;
       mark = keeps-first _ _ _ _ i.mark e.mark;
       results = grows _ _ _ _ one i.results step;
+      left = omega (arith, i.left, ap length step, c.in-Some.ensures.steps.1);
       given = noted-one (noted {S = g.row.S.Denot}) _ _ _ c.loop-ended.yielded one e.given i.given;
       ends = noted-one (serving_end {S = g.row.S.Denot}) _ _ [] c.loop-ended.yielded one c.in_ok-push.ensures.items i.ends;
       places = All-rest (λ r. r.1.place ≡ c.args.keeper.now.place) one _ _ step i.places;
     }
+
+pub returns-clause-given : goal.returns-clause-given
+returns-clause-given g c =
+    let i = c.loop-ended.invariant in
+    let all = all-done c.loop-ended.yielded (into_iter_items c.loop-ended.ended-iterator) c.args.results.items (sym i.results ∙ c.into_iter-ended-iterator.ensures.into_iter_gives.0) (sym i.left ∙ c.in-None.ensures.steps.0) in
+    i.given ∙ ap (λ (links : List (Ended × PassView Entry Frame × g.row.S.Denot)). c.args.keeper.now.given ++ map (noted {S = g.row.S.Denot}) links) all

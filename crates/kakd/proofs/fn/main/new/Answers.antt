@@ -1,5 +1,5 @@
 use Rattle.std.proofs.MapsCrossing.{crosses as maps_cross}
-use Rattle.session_server.proofs.Crossing.{crosses}
+use Rattle.session_server.proofs.JobCrossing.{crosses}
 use Rattle.kakd.proofs.fn.main.new.Goals as goal
 
 pub begin-requires-send-J : goal.begin-requires-send-J
