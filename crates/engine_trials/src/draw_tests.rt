@@ -2,7 +2,8 @@
 
 use draw_model::redraw;
 use drawings::{Drawing, DrawnLine};
-use kak_world::{Mode, World};
+use kak_world::{AnyTurn, Mode, World};
+use regex_ports::RegexPattern;
 use std::alloc::Global;
 use std::process::Abort;
 use std::test::Fail;
@@ -30,7 +31,7 @@ fn shown_lines(alloc: Global, drawing: &Drawing) -> Result<String, Fail> {
 
 // What a first client is shown.
 fn first_drawing<R: Abort>(rt: &R, alloc: Global) -> Result<Drawing, Fail> {
-    let mut world = World::new(alloc)?;
+    let mut world = World::<RegexPattern, AnyTurn>::new(alloc)?;
     world.join(alloc, 0)?;
     assert!(rt; world.is_joined(0));
     world.enter(0);
@@ -62,7 +63,7 @@ fn a_first_client_has_a_mode_line_and_no_status(rt: HostRuntime) -> Result<(), F
 
 // What client 0 is shown with this text in its prompt.
 fn prompt_drawing<R: Abort>(rt: &R, alloc: Global, typed: &str) -> Result<Drawing, Fail> {
-    let mut world = World::new(alloc)?;
+    let mut world = World::<RegexPattern, AnyTurn>::new(alloc)?;
     world.join(alloc, 0)?;
     for c in typed.chars() {
         assert!(rt; world.is_joined(0));

@@ -2,8 +2,8 @@
 
 use crate::client_lines::{EMPTY, OPTIONS};
 use json_ui::{
-    Atom, Atoms, Cursor, Drawing, DrawnLine, DrawnLines, Info, LineError, MAX_LINE, Refusal,
-    Request, decode_line, encode_drawing, encode_refusal,
+    Atom, Atoms, Button, Coord, Cursor, Drawing, DrawnLine, DrawnLines, Info, LineError, MAX_LINE,
+    Mouse, Refusal, Request, decode_line, encode_drawing, encode_refusal,
 };
 use kak_faces::{Face, StandardFace};
 use kak_text::Chars;
@@ -74,26 +74,43 @@ fn a_refusal_goes_behind_what_was_written(rt: HostRuntime) -> Result<(), Fail> {
     Ok(())
 }
 
-// How many keys a line has, if it is one of keys.
-fn keys_in(alloc: Global, line: &[u8]) -> Result<Option<usize>, LineError> {
+// What a line asks for: of keys, how many there are, and of a size, its rows and columns.
+#[derive(Clone, Copy, PartialEq, Debug)]
+enum Asked {
+    Nothing,
+    Keys(usize),
+    Size(u16, u16),
+    Scroll(i32, Option<Coord>),
+    Mouse(Mouse),
+    Menu,
+}
+
+// What a line asks for, or why it is refused.
+fn asked_by(alloc: Global, line: &[u8]) -> Result<Asked, LineError> {
     match decode_line(alloc, line)? {
-        Request::Nothing => Ok(None),
-        Request::Keys(keys) => Ok(Some(keys.into_vec().len())),
-        Request::Resize(_, _) => Ok(None),
+        Request::Nothing => Ok(Asked::Nothing),
+        Request::Keys(keys) => Ok(Asked::Keys(keys.into_vec().len())),
+        Request::Resize(size) => Ok(Asked::Size(size.rows(), size.columns())),
+        Request::Scroll(lines, place) => Ok(Asked::Scroll(lines, place)),
+        Request::Mouse(mouse) => Ok(Asked::Mouse(mouse)),
+        Request::MenuSelect => Ok(Asked::Menu),
     }
 }
 
-static LINES: [(&str, Result<Option<usize>, Refusal>); 15] = [
-    ("", Ok(None)),
-    (" \t\r", Ok(None)),
-    ("{\"jsonrpc\":\"2.0\",\"method\":\"keys\"}", Ok(Some(0))),
+static LINES: [(&str, Result<Asked, Refusal>); 15] = [
+    ("", Ok(Asked::Nothing)),
+    (" \t\r", Ok(Asked::Nothing)),
+    (
+        "{\"jsonrpc\":\"2.0\",\"method\":\"keys\"}",
+        Ok(Asked::Keys(0)),
+    ),
     (
         "{ \"jsonrpc\": \"2.0\", \"method\": \"keys\", \"params\": [\"ihi<esc>\"] }",
-        Ok(Some(4)),
+        Ok(Asked::Keys(4)),
     ),
     (
         "{\"method\":\"keys\",\"jsonrpc\":\"2.0\",\"params\":[\"h\"],\"params\":[\"l\",\"lé\"]}",
-        Ok(Some(3)),
+        Ok(Asked::Keys(3)),
     ),
     ("{\"a\":1e400}", Err(Refusal::Parse)),
     ("\"\\ud800\"", Err(Refusal::Parse)),
@@ -105,7 +122,7 @@ static LINES: [(&str, Result<Option<usize>, Refusal>); 15] = [
     ),
     ("{\"jsonrpc\":\"2.0\",\"method\":[]}", Err(Refusal::Invalid)),
     (
-        "{\"jsonrpc\":\"2.0\",\"method\":\"scroll\",\"params\":[2]}",
+        "{\"jsonrpc\":\"2.0\",\"method\":\"mouse\",\"params\":[2]}",
         Err(Refusal::Method),
     ),
     (
@@ -125,11 +142,11 @@ static LINES: [(&str, Result<Option<usize>, Refusal>); 15] = [
 #[test]
 fn lines_are_read_or_refused_by_the_first_cause(rt: HostRuntime) {
     for &(line, wanted) in &LINES {
-        let read = keys_in(rt.alloc(), line.as_bytes());
+        let read = asked_by(rt.alloc(), line.as_bytes());
         assert_eq!(rt; read, wanted.map_err(LineError::Refused), "from {line}");
     }
     assert_eq!(rt;
-        keys_in(rt.alloc(), b"\xff"),
+        asked_by(rt.alloc(), b"\xff"),
         Err(LineError::Refused(Refusal::Parse))
     );
 }
@@ -138,57 +155,148 @@ fn lines_are_read_or_refused_by_the_first_cause(rt: HostRuntime) {
 fn a_line_has_at_most_so_many_bytes_and_levels(rt: HostRuntime) -> Result<(), Fail> {
     let spaces = vec![in rt.alloc(); b' '; MAX_LINE + 1]?;
     let too_long = Err(LineError::Refused(Refusal::TooLong));
-    assert_eq!(rt; keys_in(rt.alloc(), spaces.as_slice()), too_long);
+    assert_eq!(rt; asked_by(rt.alloc(), spaces.as_slice()), too_long);
     let mut within = spaces;
     within.truncate(MAX_LINE);
-    assert_eq!(rt; keys_in(rt.alloc(), within.as_slice()), Ok(None));
+    assert_eq!(rt; asked_by(rt.alloc(), within.as_slice()), Ok(Asked::Nothing));
     for (levels, refusal) in [(127, Refusal::Invalid), (128, Refusal::Parse)] {
         let mut nested = vec![in rt.alloc(); b'['; levels]?;
         nested.extend_from_slice(vec![in rt.alloc(); b']'; levels]?.as_slice())?;
         assert_eq!(rt;
-            keys_in(rt.alloc(), nested.as_slice()),
+            asked_by(rt.alloc(), nested.as_slice()),
             Err(LineError::Refused(refusal))
         );
     }
     Ok(())
 }
 
-// The rows and columns of a line, if it is one of these.
-fn size_in(alloc: Global, line: &[u8]) -> Result<Option<(u16, u16)>, LineError> {
-    match decode_line(alloc, line)? {
-        Request::Nothing | Request::Keys(_) => Ok(None),
-        Request::Resize(rows, columns) => Ok(Some((rows, columns))),
-    }
-}
+const PLACE: Coord = Coord { line: 1, column: 2 };
 
-static SIZES: [(&str, Result<Option<(u16, u16)>, Refusal>); 16] = [
-    ("[10,80]", Ok(Some((10, 80)))),
-    ("[0,0]", Ok(Some((1, 1)))),
-    ("[1000,1001]", Ok(Some((1000, 1000)))),
-    ("[65536,65537]", Ok(Some((1000, 1000)))),
-    ("[18446744073709551615,1]", Ok(Some((1000, 1)))),
-    ("[18446744073709551616,1]", Err(Refusal::Params)),
-    ("[-1,1]", Err(Refusal::Params)),
-    ("[-0,1]", Err(Refusal::Params)),
-    ("[1.0,1]", Err(Refusal::Params)),
-    ("[1,1e0]", Err(Refusal::Params)),
-    ("[\"1\",1]", Err(Refusal::Params)),
-    ("[]", Err(Refusal::Params)),
-    ("[1]", Err(Refusal::Params)),
-    ("[1,2,3]", Err(Refusal::Params)),
-    ("null", Err(Refusal::Params)),
-    ("{\"0\":1,\"1\":2}", Err(Refusal::Params)),
+const FARTHEST: Coord = Coord {
+    line: u32::MAX,
+    column: u32::MAX,
+};
+
+const UNFIT: Result<Asked, Refusal> = Err(Refusal::Params);
+
+// Methods, parameters, and what they ask for.
+static PARAMETERS: [(&str, &str, Result<Asked, Refusal>); 52] = [
+    ("resize", "[10,80]", Ok(Asked::Size(10, 80))),
+    ("resize", "[0,0]", Ok(Asked::Size(1, 1))),
+    ("resize", "[1000,1001]", Ok(Asked::Size(1000, 1000))),
+    ("resize", "[65536,65537]", Ok(Asked::Size(1000, 1000))),
+    (
+        "resize",
+        "[18446744073709551615,1]",
+        Ok(Asked::Size(1000, 1)),
+    ),
+    ("resize", "[18446744073709551616,1]", UNFIT),
+    ("resize", "[-1,1]", UNFIT),
+    ("resize", "[-0,1]", UNFIT),
+    ("resize", "[1.0,1]", UNFIT),
+    ("resize", "[1,1e0]", UNFIT),
+    ("resize", "[\"1\",1]", UNFIT),
+    ("resize", "[]", UNFIT),
+    ("resize", "[1]", UNFIT),
+    ("resize", "[1,2,3]", UNFIT),
+    ("resize", "null", UNFIT),
+    ("resize", "{\"0\":1,\"1\":2}", UNFIT),
+    ("scroll", "[3]", Ok(Asked::Scroll(3, None))),
+    (
+        "scroll",
+        "[-2147483648,1,2]",
+        Ok(Asked::Scroll(i32::MIN, Some(PLACE))),
+    ),
+    ("scroll", "[2147483647]", Ok(Asked::Scroll(i32::MAX, None))),
+    ("scroll", "[2147483648]", UNFIT),
+    ("scroll", "[-2147483649]", UNFIT),
+    ("scroll", "[-0]", UNFIT),
+    ("scroll", "[3.5]", UNFIT),
+    ("scroll", "[1,2]", UNFIT),
+    ("scroll", "[1,2,-3]", UNFIT),
+    ("scroll", "[1,2,3,4]", UNFIT),
+    ("scroll", "[\"1\"]", UNFIT),
+    ("scroll", "3", UNFIT),
+    ("mouse_move", "[1,2]", Ok(Asked::Mouse(Mouse::Move(PLACE)))),
+    (
+        "mouse_move",
+        "[4294967295,4294967295]",
+        Ok(Asked::Mouse(Mouse::Move(FARTHEST))),
+    ),
+    ("mouse_move", "[4294967296,2]", UNFIT),
+    ("mouse_move", "[1,4294967296]", UNFIT),
+    ("mouse_move", "[\"left\",1,2]", UNFIT),
+    ("mouse_move", "[1,2,3]", UNFIT),
+    (
+        "mouse_press",
+        "[1,2]",
+        Ok(Asked::Mouse(Mouse::Press(Button::Left, PLACE))),
+    ),
+    (
+        "mouse_press",
+        "[\"left\",1,2]",
+        Ok(Asked::Mouse(Mouse::Press(Button::Left, PLACE))),
+    ),
+    (
+        "mouse_press",
+        "[\"middle\",1,2]",
+        Ok(Asked::Mouse(Mouse::Press(Button::Middle, PLACE))),
+    ),
+    (
+        "mouse_press",
+        "[\"right\",1,2]",
+        Ok(Asked::Mouse(Mouse::Press(Button::Right, PLACE))),
+    ),
+    ("mouse_press", "[\"Left\",1,2]", UNFIT),
+    ("mouse_press", "[\"left\",1]", UNFIT),
+    ("mouse_press", "[null,1,2]", UNFIT),
+    ("mouse_press", "[\"left\",1,2,3]", UNFIT),
+    ("mouse_press", "[1]", UNFIT),
+    (
+        "mouse_release",
+        "[\"right\",1,2]",
+        Ok(Asked::Mouse(Mouse::Release(Button::Right, PLACE))),
+    ),
+    (
+        "mouse_release",
+        "[1,2]",
+        Ok(Asked::Mouse(Mouse::Release(Button::Left, PLACE))),
+    ),
+    ("mouse_release", "[\"right\",\"1\",2]", UNFIT),
+    ("menu_select", "[-1]", Ok(Asked::Menu)),
+    ("menu_select", "[18446744073709551615]", Ok(Asked::Menu)),
+    ("menu_select", "[-9223372036854775809]", UNFIT),
+    ("menu_select", "[1e3]", UNFIT),
+    ("menu_select", "[]", UNFIT),
+    ("menu_select", "[1,1]", UNFIT),
 ];
 
 #[test]
-fn sizes_are_two_whole_numbers(rt: HostRuntime) -> Result<(), Fail> {
-    for &(params, wanted) in &SIZES {
-        let mut line = String::new(rt.alloc());
-        line.push_str("{\"jsonrpc\":\"2.0\",\"method\":\"resize\",\"params\":")?;
-        line.push_str(params)?;
-        line.push_str("}")?;
-        let read = size_in(rt.alloc(), line.as_bytes());
-        assert_eq!(rt; read, wanted.map_err(LineError::Refused), "from {params}");
+fn parameters_fit_their_method_or_do_not(rt: HostRuntime) -> Result<(), Fail> {
+    for &(method, params, wanted) in &PARAMETERS {
+        let line = format!(in rt.alloc();
+            "{{\"jsonrpc\":\"2.0\",\"method\":\"{method}\",\"params\":{params}}}"
+        )?;
+        let read = asked_by(rt.alloc(), line.as_bytes());
+        assert_eq!(rt;
+            read,
+            wanted.map_err(LineError::Refused),
+            "from {method} {params}"
+        );
+    }
+    Ok(())
+}
+
+#[test]
+fn parameters_that_are_missing_fit_keys_alone(rt: HostRuntime) -> Result<(), Fail> {
+    for &(method, _, _) in &PARAMETERS {
+        let line = format!(in rt.alloc(); "{{\"jsonrpc\":\"2.0\",\"method\":\"{method}\"}}")?;
+        let read = asked_by(rt.alloc(), line.as_bytes());
+        assert_eq!(rt;
+            read,
+            Err(LineError::Refused(Refusal::Params)),
+            "from {method}"
+        );
     }
     Ok(())
 }

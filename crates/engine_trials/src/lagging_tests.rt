@@ -2,9 +2,10 @@
 
 use insert_prompt::insert_key;
 use kak_text::Coord;
-use kak_world::{Mode, World};
+use kak_world::{AnyTurn, Mode, World};
 use key_names::{Base, Key};
 use list_shelf::Holder;
+use regex_ports::RegexPattern;
 use std::alloc::{AllocError, Global};
 use std::process::Abort;
 use std::test::Fail;
@@ -23,15 +24,21 @@ const fn plain(base: Base) -> Key {
 
 // A world that clients 0 and 1 have joined.
 #[tactic(auto, unfolding(kak_world::specs::Flat::joined_by))]
-fn two_clients(alloc: Global) -> Result<World, AllocError> {
-    let mut world = World::new(alloc)?;
+fn two_clients(alloc: Global) -> Result<World<RegexPattern, AnyTurn>, AllocError> {
+    let mut world = World::<RegexPattern, AnyTurn>::new(alloc)?;
     world.join(alloc, 0)?;
     world.join(alloc, 1)?;
     Ok(world)
 }
 
 // Lets client 0 type some letters, of which each hundredth is a newline.
-fn type_letters<R: Abort>(rt: &R, alloc: Global, world: &mut World, from: u32, to: u32) {
+fn type_letters<R: Abort>(
+    rt: &R,
+    alloc: Global,
+    world: &mut World<RegexPattern, AnyTurn>,
+    from: u32,
+    to: u32,
+) {
     for n in from..to {
         let base = if n % 100 == 99 {
             Base::Ret
@@ -44,7 +51,7 @@ fn type_letters<R: Abort>(rt: &R, alloc: Global, world: &mut World, from: u32, t
 }
 
 // How the buffer's log and client 1's list stand: the first stamp, the log's, and the list's.
-fn stamps<R: Abort>(rt: &R, world: &World) -> (u64, u64, u64) {
+fn stamps<R: Abort>(rt: &R, world: &World<RegexPattern, AnyTurn>) -> (u64, u64, u64) {
     match world.buffer(0) {
         None => (0, 0, FULL as u64 + 1),
         Some(buffer) => {

@@ -7,4 +7,6 @@ mod desk_tests;
 #[cfg(test)]
 mod link_tests;
 #[cfg(test)]
+mod outside;
+#[cfg(test)]
 mod server_tests;

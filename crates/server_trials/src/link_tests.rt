@@ -6,10 +6,10 @@ ghost use Rattle.session_events.specs.declared.event.Event.TheVariants.{Join};
 ghost use Rattle.session_events.specs.Entries.{entry_of};
 ghost use Rattle.session_events.specs.Meaning.{no_output};
 
+use crate::outside::PatternsAlone;
 use client_links::{Heard, Link, MemLink};
 use engine_desk::{DeskSeat, SharedEngine};
 use json_ui::JsonReader;
-use kak_engine::NoOutside;
 use kak_ports::{FailingCalls, Put};
 use key_names::{Base, Key};
 use line_gates::{Gate, OpenGate};
@@ -175,7 +175,7 @@ fn join<S: Seat>(alloc: Global, seat: &mut S) -> Result<(), Fail> {
 // Serves a link from which nothing comes for a while, and then its end, while another client types: how that ended, and what
 // was sent.
 fn serve_overtyped<R: Wait>(rt: &R, alloc: Global) -> Result<(Ended, String), Fail> {
-    let Ok(engine) = SharedEngine::new(alloc, NoOutside::new(), 100) else {
+    let Ok(engine) = SharedEngine::new(alloc, PatternsAlone::new(), 100) else {
         return Err("there is memory for an engine".into());
     };
     let (desk, mut keeper) = Desk::new(alloc, engine)?;
@@ -229,7 +229,7 @@ impl Gate for LoggedGate {
 
 // Serves a link whose client says two lines: what the gate was asked and told.
 fn serve_logged<R: Wait>(rt: &R, alloc: Global) -> Result<Vec<Asked>, Fail> {
-    let Ok(engine) = SharedEngine::new(alloc, NoOutside::new(), 100) else {
+    let Ok(engine) = SharedEngine::new(alloc, PatternsAlone::new(), 100) else {
         return Err("there is memory for an engine".into());
     };
     let (desk, mut keeper) = Desk::new(alloc, engine)?;

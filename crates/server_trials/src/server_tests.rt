@@ -4,9 +4,9 @@ ghost use Rattle.std.specs.Prelude.{◌≡◌, [], IfOk};
 ghost use Rattle.client_links.specs.Wires.{IsFresh};
 ghost use Rattle.client_links.specs.Memory.{memory_wire};
 
+use crate::outside::PatternsAlone;
 use client_links::{MemAcceptor, MemLink};
 use jobs::{InTurn, Spawner, StartPlan, ThreadSpawner, begin};
-use kak_engine::NoOutside;
 use kak_ports::FailingCalls;
 use line_gates::{Awaited, HeldGate, LineOf};
 use link_lines::Ended;
@@ -16,7 +16,7 @@ use std::alloc::{AllocError, Global};
 use std::sync::Wait;
 use std::test::Fail;
 
-type HeldJob = LinkJob<MemLink, NoOutside, HeldGate>;
+type HeldJob = LinkJob<MemLink, PatternsAlone, HeldGate>;
 
 const TYPES_X: &str = "{\"jsonrpc\":\"2.0\",\"method\":\"keys\",\"params\":[\"ix<esc>\"]}\n";
 
@@ -154,7 +154,7 @@ fn left_of(
     alloc: Global,
     status: ServerStatus,
     overdue: bool,
-    session: Option<Session<NoOutside, MemLink>>,
+    session: Option<Session<PatternsAlone, MemLink>>,
 ) -> Result<Left, Fail> {
     let Some(session) = session else {
         return Err("there was a session".into());
@@ -190,7 +190,7 @@ fn serve<R: Wait, P: Spawner<HeldJob>>(
         &mut acceptor,
         spawner,
         gate.clone()?,
-        NoOutside::new(),
+        PatternsAlone::new(),
     );
     left_of(alloc, status, gate.was_overdue(), session)
 }

@@ -6,10 +6,14 @@ ghost use Rattle.selection_set.specs.Held.{IsHeld};
 ghost use Rattle.selection_set.specs.Listing.{IsPairInside};
 
 use drawings::DrawnLine;
+use face_texts::{FaceTable, read_face};
+use highlight_paint::{Highlighters, Painter, Viewer};
 use kak_faces::{Face, StandardFace, merge};
 use kak_text::{Chars, MAX_TABSTOP, Text};
 use line_buffer::Lines;
-use line_painting::{draw_lines, push_run, push_shown};
+use line_painting::{Scene, WindowFrame, draw_lines, part_in, push_run, push_shown, text_part};
+use regex_ports::NoPattern;
+use scope_options::Scope;
 use selection_set::{Pair, Sels};
 use std::alloc::Global;
 use std::process::Abort;
@@ -82,6 +86,45 @@ fn signed(alloc: Global, line: &DrawnLine) -> Result<String, Fail> {
     Ok(out)
 }
 
+// The lines of a window under highlighters, each line's atoms followed by signs for their faces.
+fn painted(
+    alloc: Global,
+    lines: &Lines,
+    sels: &Sels,
+    window: Window,
+    tabstop: Tabstop,
+    highlighters: &Highlighters<NoPattern>,
+) -> Result<String, Fail>
+    requires held { IsHeld lines.now sels.now }
+{
+    let faces = FaceTable::given(alloc)?;
+    let viewer = Viewer {
+        buffer: 0,
+        client: 0,
+    };
+    let part = part_in(lines, window);
+    let grounds = highlighters.paint(alloc, viewer, part, &faces)?;
+    let numbers = highlighters.numbers(alloc, viewer)?;
+    let scene = Scene {
+        lines,
+        sels,
+        frame: WindowFrame {
+            window,
+            tabstop,
+            signs: highlighters.has_signs(viewer),
+        },
+        palette: faces.palette(),
+        numbers: numbers.as_slice(),
+        cursor_line: 0,
+    };
+    let drawn = draw_lines(alloc, scene, grounds)?;
+    let mut out = String::new(alloc);
+    for line in drawn.as_slice() {
+        out.push_str(signed(alloc, line)?.as_str())?;
+    }
+    Ok(out)
+}
+
 // The lines of a window of 2 lines and 3 columns, each line's atoms followed by signs for their faces.
 fn seen(
     alloc: Global,
@@ -99,12 +142,8 @@ fn seen(
         rows: 2,
         columns: 3,
     };
-    let drawn = draw_lines(alloc, lines, window, tabstop, sels)?;
-    let mut out = String::new(alloc);
-    for line in drawn.as_slice() {
-        out.push_str(signed(alloc, line)?.as_str())?;
-    }
-    Ok(out)
+    let none = Highlighters::new(alloc);
+    painted(alloc, lines, sels, window, tabstop, &none)
 }
 
 // What a window at the top shows of a text with one selection of a character.
@@ -208,6 +247,40 @@ fn selections_go_over_lines(rt: HostRuntime) -> Result<(), Fail> {
         let shown = seen(alloc, &lines, &sels, *top, *left, Tabstop { columns: 8 })?;
         assert_eq!(rt; shown.as_str(), *expected);
     }
+    Ok(())
+}
+
+#[test]
+fn highlighters_lie_below_selections(rt: HostRuntime) -> Result<(), Fail> {
+    let alloc = rt.alloc();
+    let lines = lines_of(alloc, "ab c\td")?;
+    let pairs = [pair(&rt, &lines, 0, 1)];
+    let sels = select(&rt, alloc, &lines, pairs.as_slice(), 0)?;
+    let mut rows = Highlighters::new(alloc);
+    let window = Window {
+        top: 0,
+        left: 0,
+        rows: 1,
+        columns: 12,
+    };
+    let tabstop = Tabstop { columns: 8 };
+    let fill = Painter::AtColumn(4, read_face(alloc, "red")?);
+    rows.add(alloc, Scope::Global, "c", fill, false)?;
+    let shown = painted(alloc, &lines, &sels, window, tabstop, &rows)?;
+    assert_eq!(rt; shown.as_str(), "a+b^ |c|    d\n|");
+    rows.add(alloc, Scope::Global, "w", Painter::ShowWhitespaces, false)?;
+    let shown = painted(alloc, &lines, &sels, window, tabstop, &rows)?;
+    assert_eq!(rt; shown.as_str(), "a+b^·|c|→   |d|¬|");
+    let numbers = Painter::NumberLines(true, Chars::from_str(alloc, "|")?);
+    rows.add(alloc, Scope::Buffer(0), "n", numbers, false)?;
+    let viewer = Viewer {
+        buffer: 0,
+        client: 0,
+    };
+    let part = text_part(window, rows.gutter(viewer, lines.line_count(), tabstop));
+    assert_eq!(rt; part.columns, 10);
+    let shown = painted(alloc, &lines, &sels, part, tabstop, &rows)?;
+    assert_eq!(rt; shown.as_str(), "1||a+b^·|c|→   |d|¬|");
     Ok(())
 }
 

@@ -8,7 +8,7 @@ use Rattle.server_trials.proofs.link_tests.FragileSeatSeat.step.Goals as goal
 join-is : (event : Event) → is_join event ≡ true → Join ≡ event
 join-is Join e = refl
 join-is (Struck key) e = cc
-join-is (Resize rows columns) e = cc
+join-is (Resize size) e = cc
 join-is (Refresh asked) e = cc
 join-is Leave e = cc
 

@@ -1,5 +1,5 @@
 use Rattle.std.proofs.MapsCrossing.{crosses as maps_cross}
-use Rattle.session_server.proofs.Crossing.{crosses}
+use Rattle.session_server.proofs.JobCrossing.{crosses}
 use Rattle.server_trials.proofs.server_tests.fn.a_client_is_drawn_while_another_one_is_held_back.new.Goals as goal
 
 pub begin-requires-send-J : goal.begin-requires-send-J
