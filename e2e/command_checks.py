@@ -125,6 +125,43 @@ STATUSES = {
     # limits
     "as many commands as a key may run": ("", f":{'nop;' * 4095}<ret>", ""),
     "one too many": ("", f":{'nop;' * 4096}<ret>", "given up: budget spent"),
+    # faces
+    "a face is set everywhere": ("", ":face window A red<ret>", "no such scope: window"),
+    "the scope is told before the face": ("", ":face buffer A red,<ret>", "no such scope: buffer"),
+    "a face without a reading": ("", ":set-face global A red,<ret>", "bad face at 4"),
+    "a face over itself": ("", ":face global A red@A<ret>", "face cycle: A"),
+    "faces over one another": ("", ":face global A red@B; face global B blue@A<ret>", "face cycle: B"),
+    "a name comes before a colour": ("", ":face global red blue; face global A red; face global red A<ret>", "face cycle: red"),
+    "a face that isn't set": ("", ":unset-face global A<ret>", "no such face: A"),
+    "a face that was unset": ("", ":face global A red; unset-face global A; unset-face global A<ret>", "no such face: A"),
+    "a given face is unset": ("", ":unset-face global Error; unset-face global Error<ret>", "no such face: Error"),
+    # highlighters
+    "no type of highlighters": ("", ":addhl global/ wrap x<ret>", "no such highlighter: wrap"),
+    "two words at least": ("", ":addhl wrap<ret>", COUNT),
+    "a fill takes a face": ("", ":addhl nowhere/ fill<ret>", COUNT),
+    "a switch of line numbers": ("", ":addhl nowhere/ number-lines -override<ret>", "unknown switch: -override"),
+    "a path without a scope": ("", ":addhl nowhere/ line x red<ret>", "no such highlighter: nowhere/"),
+    "a scope alone": ("", ":addhl global fill red<ret>", "no such highlighter: global"),
+    "below no group": ("", ":addhl global/a/ group<ret>", "no such highlighter: global/a/"),
+    "below another highlighter": ("", ":addhl global/a fill red; addhl global/a/b group<ret>", "no such highlighter: global/a/b"),
+    "below a group": ("", ":addhl window/a group; addhl window/a/b group; addhl window/a/b group<ret>", "highlighter exists: window/a/b"),
+    "a name that was made": ("", ":addhl global/ fill red; addhl global/ fill red<ret>", "highlighter exists: global/fill_red"),
+    "with a slash": ("", ":addhl buffer/ regex a/b 0:red; addhl buffer/ regex a/b 0:red<ret>", "highlighter exists: buffer/regex_a<slash>b_0:red"),
+    "a path is told before a number": ("", ":addhl global/a group; addhl global/a line x mauve<ret>", "highlighter exists: global/a"),
+    "a number before a face": ("", ":addhl global/ line x mauve<ret>", VALUE),
+    "the face of a column": ("", ":addhl global/ column 03 mauve<ret>", "bad face at 0"),
+    "a group without a face": ("", ":addhl global/ regex x red<ret>", VALUE),
+    "a group that is no number": ("", ":addhl global/ regex x y:red<ret>", VALUE),
+    "the face of a group": ("", ":addhl global/ regex ( 10:red,mauve<ret>", "bad face at 4"),
+    "a pattern that can't be made": ("", ":addhl global/a regex ( 0:red<ret>", "bad pattern"),
+    "it leaves no highlighter": ("", ":addhl global/a regex ( 0:red<ret>:rmhl global/a<ret>", "no such highlighter: global/a"),
+    "a highlighter of a pattern": ("", ":addhl global/a regex x 0:red; addhl global/a group<ret>", "highlighter exists: global/a"),
+    "removed with those below it": ("", ":addhl global/a group; addhl global/a/b group; rmhl global/a; rmhl global/a/b<ret>", "no such highlighter: global/a/b"),
+    "replaced without those below it": ("", ":addhl global/a group; addhl global/a/b group; addhl -override global/a group; rmhl global/a/b<ret>", "no such highlighter: global/a/b"),
+    "nothing to be removed": ("", ":addhl global/a group; rmhl global/<ret>", "no such highlighter: global/"),
+    # boxes
+    "a box has one text": ("", ":info a b<ret>", COUNT),
+    "a title lacks its word": ("", ":info -title<ret>", COUNT),
 }
 
 # a text that is typed; what is typed then, line by line; the text that is then drawn, the mode line, and the status

@@ -11,7 +11,8 @@ TOP = pathlib.Path(__file__).resolve().parent.parent
 README_SESSION = [keys_line("ihi<esc>"), keys_line("ia", "<nope>")]
 PROTOCOL_SESSION = [keys_line("ihi<esc>"), keys_line("h"), keys_line(":wr"), keys_line("<ret>"), keys_line("ia", "<nope>")]
 # how requests begin
-REQUESTS = tuple(b'{"jsonrpc":"2.0","method":"%s"' % method for method in (b"keys", b"resize"))
+REQUESTS = tuple(b'{"jsonrpc":"2.0","method":"%s"' % method for method in (
+    b"keys", b"resize", b"scroll", b"mouse_move", b"mouse_press", b"mouse_release"))
 
 
 def shown_lines(text):

@@ -7,8 +7,16 @@ def compact(value):
     return json.dumps(value, separators=(",", ":"), sort_keys=True, ensure_ascii=False)
 
 
-def face(foreground="default", background="default"):
-    return {"attributes": [], "bg": background, "fg": foreground, "underline": "default"}
+# the attributes, in the order in which a face has them
+ATTRIBUTES = ("underline", "reverse", "bold", "blink", "dim", "italic", "final_fg", "final_bg", "final_attr")
+
+
+def face(foreground="default", background="default", *attributes, underline="default"):
+    """A face with these colours and attributes, which may be told in any order."""
+    unknown = set(attributes) - set(ATTRIBUTES)
+    if unknown:
+        raise ValueError(f"no attributes: {unknown}")
+    return {"attributes": [it for it in ATTRIBUTES if it in attributes], "bg": background, "fg": foreground, "underline": underline}
 
 
 DEFAULT = face()
@@ -19,6 +27,10 @@ PROMPT = face("yellow")
 ERROR = face("black", "red")
 CURSOR = face("black", "white")
 CURSOR_ON_NEWLINE = face("black", "cyan")
+INFORMATION = face("black", "yellow")
+LINE_NUMBERS = DEFAULT
+LINE_NUMBER_CURSOR = face("default", "default", "reverse")
+WHITESPACE = face("default", "default", "dim")
 
 
 def atom(contents, of):
@@ -30,13 +42,21 @@ def request(method, *parameters):
     return (compact({"jsonrpc": "2.0", "method": method, "params": list(parameters)}) + "\n").encode()
 
 
-def drawing(lines, mode_line, cursor, status=(), where="buffer"):
-    """The four lines of a drawing: lines of atoms, the mode line's text, the cursor's line and column, and the status."""
+def shown_box(title, content, of=INFORMATION):
+    """The line that shows a box: its title and its text, whose lines are those between newlines."""
+    line = lambda text: [atom(text, of)] if text else []
+    return request("info_show", line(title), [line(text) for text in content.split("\n")], {"column": 0, "line": 0}, of, "prompt")
+
+
+def drawing(lines, mode_line, cursor, status=(), where="buffer", box=b""):
+    """The lines of a drawing: lines of atoms, the mode line's text, the cursor's line and column, the status, and what becomes of
+    the box, where that is told."""
     line, column = cursor
     return b"".join([
         request("draw", [list(atoms) for atoms in lines], DEFAULT, PADDING),
         request("draw_status", list(status), [atom(mode_line, STATUS_LINE)], STATUS_LINE),
         request("set_cursor", where, {"line": line, "column": column}),
+        box,
         request("refresh", False),
     ])
 
@@ -45,6 +65,8 @@ def opening(first):
     """What a client is sent first: the options, and this drawing."""
     return request("set_ui_options", {}) + first
 
+
+HIDDEN_BOX = request("info_hide")
 
 # what a client is sent first without a file: the drawing of a text of one newline
 OPENING = opening(drawing([[atom("\n", CURSOR_ON_NEWLINE)]], "*scratch* 1:1 normal 1/1 - client0", (0, 0)))

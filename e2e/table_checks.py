@@ -11,6 +11,8 @@ FACES = {
     "another selection": "SecondarySelection", "the cursor of any selection, on a character": "PrimaryCursor",
     "the cursor of any selection, on a newline": "PrimaryCursorEol", "mode line, text of the prompt, what `echo` said": "StatusLine",
     "name of the prompt": "Prompt", "cursor of the prompt": "StatusCursor", "what went wrong": "Error",
+    "the box, its title and its lines": "Information", "the numbers of lines": "LineNumbers",
+    "the number of the main cursor's line, with `-hlcursor`": "LineNumberCursor", "the signs of `show-whitespaces`": "Whitespace",
 }
 
 
@@ -115,8 +117,11 @@ def commands(report):
     coded = {(word, short.get(name, "")) for word, name in re.findall(arm, body(names, "full_name"))}
     listed = {(use.split()[0], alias) for row in cells for use, alias in re.findall(r"`([^`]+)`(?: \[([a-z!]+)\])?", row[0])}
     agree(report, "docs/COMMANDS.md and command_forms: commands and their short names", listed, coded)
-    switches = [switch for row in cells for switch in re.findall(r"\[(-[a-z]+)", row[0])]
-    agree(report, "docs/COMMANDS.md and command_forms: switches", switches, re.findall(r'"(-[a-z]+)"', source("command_forms/src/switches.rt")))
+    types = [cells[0] for cells in rows("COMMANDS.md", "Highlighters", "Type")]
+    switches = [switch for row in [*(row[0] for row in cells), *types] for switch in re.findall(r"\[(-[a-z-]+)", row)]
+    agree(report, "docs/COMMANDS.md and command_forms: switches", switches, re.findall(r'"(-[a-z][a-z-]*)"', source("command_forms/src/switches.rt")))
+    coded = arms(body("command_forms/src/painters.rt", "highlighter_type"), r'"([a-z-]+)"')
+    agree(report, "docs/COMMANDS.md and command_forms: types of highlighters", [use.split()[0] for cell in types for use in spans(cell)], coded)
 
 
 def expansions(report):
@@ -167,12 +172,21 @@ def statuses(report):
 
 
 def faces(report):
-    """docs/PROTOCOL.md has the faces that are set from the start."""
-    coded = dict(re.findall(r"^standard_face name\.(\w+) = (?:plain_face )?(.*)", source("kak_faces/specs/Standard.antt"), re.MULTILINE))
-    for of, front, back in rows("PROTOCOL.md", "Drawings", "Face of"):
-        face = coded[FACES[of]].replace("default_face", "named.Default named.Default").replace("named.", "").lower()
-        report.check(f"docs/PROTOCOL.md: the face of {of}", face, f"{front} {back}".replace("`", ""))
+    """docs/PROTOCOL.md has the faces that are set from the start, and the names of attributes and colours; and each line of a drawing."""
+    coded = dict(re.findall(r"^standard_face name\.(\w+) = (.*)", source("kak_faces/specs/Standard.antt"), re.MULTILINE))
+    for of, front, back, attributes in rows("PROTOCOL.md", "Drawings", "Face of"):
+        colours = [name.lower() for name in re.findall(r"named\.(\w+)", coded[FACES[of]])] or ["default", "default"]
+        face = (colours, re.findall(r"(\w+) = true", coded[FACES[of]]))
+        report.check(f"docs/PROTOCOL.md: the face of {of}", face, (spans(front) + spans(back), spans(attributes)))
     report.check("docs/PROTOCOL.md has a row for each face that is drawn", sorted(FACES), sorted(cells[0] for cells in rows("PROTOCOL.md", "Drawings", "Face of")))
+    colours, section = source("kak_faces/specs/Colours.antt"), page("PROTOCOL.md").partition("### Faces\n")[2].partition("| Face of")[0]
+    attributes = re.findall(r'^attribute_name .* = codes "(\w+)"', colours, re.MULTILINE)
+    report.check("docs/PROTOCOL.md: the attributes, in their order", attributes, [name for name in spans(section.partition("in this order:")[2].partition(". ")[0])])
+    plain = [name for name in re.findall(r'^colour_name .* = codes "([\w-]+)"', colours, re.MULTILINE)]
+    named = spans(section.partition("A colour is")[2].partition("`bright-`")[0])
+    agree(report, "docs/PROTOCOL.md and kak_faces: colours", named + [f"bright-{name}" for name in named if name != "default"], plain)
+    written = re.findall(r'request_line \(codes "(\w+)"\)', source("json_writing/specs/Drawings.antt"))
+    agree(report, "docs/PROTOCOL.md and json_writing: the lines of a drawing", [name for cells in rows("PROTOCOL.md", "Drawings", "Line") for name in spans(cells[0])], written)
 
 
 def limits(report):

@@ -35,8 +35,8 @@ def run(program, server, report):
     with tmux.Tmux() as windows:
         opened = Opener(windows, {"KAK": str(program), "KAKD": str(server)})
         for checks in (
-                an_editor, the_builder, two_windows, keys, real_faces, all_faces, all_requests, sizes, wide_characters, pastes, killed_server, killed_editor, ways_out,
-                faults):
+                an_editor, the_builder, two_windows, keys, real_faces, all_faces, a_box, all_requests, sizes, wide_characters, pastes, killed_server, killed_editor,
+                ways_out, faults):
             play(server, report, checks, opened, name=f"terminal: {checks.__name__}", files={"notes.txt": b"milk\nbread\n"})
 
 
@@ -162,6 +162,7 @@ def two_windows(place, report, opened):
 def keys(place, report, opened):
     """Keys with modifiers do what they are named for."""
     front = opened(place, "keys.txt")
+    front.shows("keys.txt 1:1 normal")
     front.type("iab <c> é")
     report.check("terminal: the keys of a text", (True, True), (front.shows("ab <c> é"), front.leave()))
     for pressed, shown in (
@@ -242,6 +243,24 @@ def all_faces(place, report, opened):
         report.check(f"terminal: all faces with {colours}", of_attributes + wanted, [of for _, of in front.faces(0, 1)])
         server.close()
         report.check("terminal: a server that hangs up", ("0", "", True), front.ended())
+
+
+def a_box(place, report, opened):
+    """A box with a title, at the right end of the last rows of the text, in the window that asked for it alone; it goes with the next key."""
+    asking, other = (opened(place, "-s", "work", "notes.txt") for _ in range(2))
+    for front in (asking, other):
+        report.check("terminal: a window for a box", True, front.shows("notes.txt 1:1 normal 1/1 - client"))
+    asking.type(":info -title help milk\r")
+    report.check("terminal: a box is shown", True, asking.shows("╭─help─╮"))
+    box = ["╭─help─╮", "│ milk │", "╰──────╯"]
+    report.check("terminal: the box is at the end of the last rows", [f"{'~':72}{row}" for row in box], asking.lines()[21:24])
+    report.check("terminal: the other window has no box", ["~"] * 3, other.lines()[21:24])
+    asking.type("l")
+    report.check("terminal: a key after a box", True, asking.shows("notes.txt 1:2 normal 1/1 - client"))
+    report.check("terminal: the box has gone", ["~"] * 3, asking.lines()[21:24])
+    for front in (asking, other):
+        front.type(":q\r")
+        report.check("terminal: a window that had a box beside it quits", ("0", "", True), front.ended())
 
 
 def all_requests(place, report, opened):

@@ -1,8 +1,9 @@
 """What a front end asks of a server, as lines."""
 import json
 
-# The methods that are sent. `kak` and `kakd` play `keys` and `resize` today, and refuse any other with `Method` (docs/PROTOCOL.md); a
-# server that plays `scroll`, `mouse_move`, `mouse_press` and `mouse_release` is sent these too as soon as they are named here.
+# The methods that are sent. `kak` and `kakd` play `keys` and `resize` today, and read the others without playing anything
+# (docs/PROTOCOL.md); a server that plays `scroll`, `mouse_move`, `mouse_press` and `mouse_release` is sent these too as soon as they
+# are named here.
 PLAYED = ("keys", "resize")
 # the size of a window until a `resize`
 ROWS, COLUMNS = 24, 80
