@@ -4,12 +4,13 @@ ghost use Rattle.std.specs.Prelude.{IfOk};
 ghost use Rattle.std.specs.List.{AllByRecursion};
 ghost use Rattle.selection_set.specs.Listing.{IsPairInside};
 ghost use Rattle.selection_set.specs.Held.{IsHeld};
+ghost use Rattle.regex_select.specs.Known.{AreMatchesIn};
 
 use directions::Direction;
 use kak_text::{Chars, Coord, Text};
 use line_buffer::Lines;
-use regex_ports::{Made, PatternMaker, RegexMaker, RegexPattern};
-use regex_select::{Search, next_match, search};
+use regex_ports::{Made, Pattern, PatternMaker, RegexMaker, RegexPattern};
+use regex_select::{KnownMatches, Search, next_match, search, search_main};
 use selection_set::{Pair, Sel, Sels};
 use std::alloc::Global;
 use std::process::Abort;
@@ -68,6 +69,20 @@ fn sel(low: u32, high: u32, turned: bool) -> Sel {
     }
 }
 
+// What is known once a pattern was searched for twice.
+fn known_twice(alloc: Global, lines: &Lines, pattern: &RegexPattern) -> KnownMatches
+    ensures { AreMatchesIn lines.now result }
+{
+    let nothing = KnownMatches::nothing(alloc);
+    let Some(noted) = nothing.when_searched(alloc, lines, pattern) else {
+        return nothing;
+    };
+    let Some(all) = noted.when_searched(alloc, lines, pattern) else {
+        return noted;
+    };
+    all
+}
+
 // A search for `ab` makes just these selections of two, and this main one.
 fn assert_found<R: Abort>(
     rt: &R,
@@ -80,9 +95,15 @@ fn assert_found<R: Abort>(
     let ab = pattern(rt, alloc, "ab")?;
     let pairs = [pair(rt, &lines, 2, 2), pair(rt, &lines, 10, 9)];
     let sels = listed(rt, alloc, &lines, pairs.as_slice(), 1)?;
-    let found = search(alloc, &lines, &sels, &ab, by)?;
+    let nothing = KnownMatches::nothing(alloc);
+    let found = search(alloc, &lines, &sels, &ab, by, &nothing)?;
     assert_eq!(rt; found.as_slice(), expected, "by {by:?}");
     assert_eq!(rt; found.main(), main, "by {by:?}");
+    let known = known_twice(alloc, &lines, &ab);
+    assert!(rt; known.are_all_of("ab"));
+    let found = search(alloc, &lines, &sels, &ab, by, &known)?;
+    assert_eq!(rt; found.as_slice(), expected, "by {by:?} among known ones");
+    assert_eq!(rt; found.main(), main, "by {by:?} among known ones");
     Ok(())
 }
 
@@ -117,6 +138,24 @@ fn next_ends<R: Abort>(
     Ok((found.anchor, found.cursor))
 }
 
+// The ends of the match that is found from one character on where all matches are known.
+fn known_ends<R: Abort>(
+    rt: &R,
+    alloc: Global,
+    lines: &Lines,
+    pattern: &RegexPattern,
+    from: usize,
+    direction: Direction,
+) -> Result<(Coord, Coord), Fail> {
+    let known = known_twice(alloc, lines, pattern);
+    assert!(rt; known.are_all_of(pattern.text()));
+    let pairs = [pair(rt, lines, from, from)];
+    let sels = listed(rt, alloc, lines, pairs.as_slice(), 0)?;
+    let found = search_main(alloc, lines, &sels, pattern, direction, &known)?;
+    let main = found.at(found.main());
+    Ok((main.low, main.high))
+}
+
 #[test]
 fn one_match_is_found_either_way(rt: HostRuntime) -> Result<(), Fail> {
     let alloc = rt.alloc();
@@ -140,6 +179,27 @@ fn one_match_is_found_either_way(rt: HostRuntime) -> Result<(), Fail> {
         let (anchor, cursor) = next_ends(&rt, alloc, &lines, &sought, from, direction)?;
         assert_eq!(rt; anchor, coord(low), "{source} from {from} of {text}");
         assert_eq!(rt; cursor, coord(high), "{source} from {from} of {text}");
+        let (first, last) = known_ends(&rt, alloc, &lines, &sought, from, direction)?;
+        assert_eq!(rt; first, coord(low), "known {source} from {from} of {text}");
+        assert_eq!(rt; last, coord(high), "known {source} from {from} of {text}");
     }
+    Ok(())
+}
+
+#[test]
+fn what_is_known_is_of_the_pattern_that_was_searched_for_last(rt: HostRuntime) -> Result<(), Fail> {
+    let alloc = rt.alloc();
+    let lines = lines(alloc, "abc ab\n")?;
+    let ab = pattern(&rt, alloc, "ab")?;
+    let known = known_twice(alloc, &lines, &ab);
+    assert_eq!(rt; known.as_slice().len(), 2);
+    assert!(rt; known.when_searched(alloc, &lines, &ab).is_none());
+    let other = pattern(&rt, alloc, "abc")?;
+    assert!(rt; !known.are_all_of("abc"));
+    let Some(noted) = known.when_searched(alloc, &lines, &other) else {
+        panic!(rt; "another pattern isn't noted");
+    };
+    assert!(rt; !noted.are_all_of("ab"));
+    assert!(rt; !noted.are_all_of("abc"));
     Ok(())
 }

@@ -18,6 +18,10 @@ impl Pattern for NoPattern {
 
     ghost source = { λ p. [] };
 
+    fn text(&self) -> &str {
+        ""
+    }
+
     fn matches(&self, alloc: Global, text: &str) -> Result<Vec<Span>, AllocError> {
         Err(AllocError)
     }

@@ -35,6 +35,10 @@ pub trait Pattern: Drop {
     // The text that the pattern was made of.
     ghost source: { Self → List ℕ };
 
+    /// The text that it was made of. Two patterns of one text find the same.
+    fn text(&self) -> &str
+        ensures { result.now ≡ source self.now };
+
     /// The matches of the pattern in a text, from left to right, each searched for behind the one before it. `^` and
     /// `$` match at the ends of lines, and `.` matches a newline.
     fn matches(&self, alloc: Global, text: &str) -> Result<Vec<Span>, AllocError>

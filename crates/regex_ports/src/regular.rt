@@ -78,6 +78,10 @@ fn found_in<T: Texts>(alloc: Global, regex: &Regex, texts: &mut T) -> Result<Vec
 impl Pattern for RegexPattern {
     ghost source = { λ p. p };
 
+    fn text(&self) -> &str {
+        self.regex.as_str()
+    }
+
     fn matches(&self, alloc: Global, text: &str) -> Result<Vec<Span>, AllocError> {
         spans(alloc, &self.regex, text)
     }

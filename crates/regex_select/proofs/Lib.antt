@@ -9,3 +9,5 @@ pub mod SoughtLemmas
 pub mod MadeLemmas
 pub mod FoundLemmas
 pub mod SpanLemmas
+pub mod RisingLemmas
+pub mod HalvesLemmas

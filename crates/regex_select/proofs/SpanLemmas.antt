@@ -23,7 +23,7 @@ use Rattle.regex_ports.proofs.CharLemmas.{chars-done, chars-some}
 use Rattle.regex_select.proofs.WalkLemmas.{bytes-more, chars-behind}
 use Rattle.regex_select.proofs.MatchedLemmas.{straight, part-some, part-none, end-empty}
 
-either : (a b : ℕ) → (a < b) ⊎ (b ≤ a)
+pub either : (a b : ℕ) → (a < b) ⊎ (b ≤ a)
 either a b = grind arith
 
 -- ---- characters and bytes

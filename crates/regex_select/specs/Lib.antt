@@ -9,3 +9,4 @@ pub mod Ways
 pub mod Spans
 pub mod Laws
 pub mod Examples
+pub mod Known

@@ -5,7 +5,9 @@
 pub mod error;
 pub mod finding;
 mod gathering;
+mod halves;
 pub mod keeping;
+pub mod known;
 pub mod laws;
 pub mod matching;
 mod searching;
@@ -22,5 +24,6 @@ mod writing;
 pub use error::SelectError;
 pub use finding::{add_match, next_match, search, search_main};
 pub use keeping::keep;
+pub use known::KnownMatches;
 pub use matching::{matches_in, split_in};
 pub use way::Search;

@@ -5,7 +5,7 @@ use Rattle.selection_set.specs.Inside.{range_of}
 use Rattle.selection_set.specs.Listing.{ranges_of}
 use Rattle.regex_select.specs.Rows.{spans_in}
 use Rattle.regex_select.proofs.SpanLemmas.{none-there, some-there, found-is-sought, found-selects}
-use Rattle.regex_select.proofs.finding.sought.Goals as goal
+use Rattle.regex_select.proofs.finding.sought_in_text.Goals as goal
 
 pub unreachable-requires : goal.unreachable-requires
 unreachable-requires g c =
