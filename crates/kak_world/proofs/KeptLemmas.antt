@@ -4,7 +4,7 @@ use Rattle.std.specs.Prelude.{◌&&◌, is_some, is_none, option_map}
 use Rattle.std.specs.List.{list_any}
 use Rattle.std.specs.declared.option.Option.{Option}
 use Rattle.std.proofs.lemmas.Bool.{eqb-true}
-use Rattle.std.proofs.lemmas.List.{length-map, map-set}
+use Rattle.std.proofs.lemmas.List.{length-map, map-set, set-get_or}
 use Rattle.tables.specs.Tables.{first_where}
 use Rattle.list_shelf.specs.declared.holder.Holder.{Holder}
 use Rattle.list_shelf.specs.declared.holder.Holder.TheVariants.{Of}
@@ -12,7 +12,7 @@ use Rattle.list_shelf.specs.Shelves.{IsUp, KeepsUp, is_of as is_of_row}
 use Rattle.kak_world.specs.declared.clients.Client.{Client}
 use Rattle.kak_world.specs.declared.world.Rest.{Rest}
 use Rattle.kak_world.specs.Flat.{Scoped, Buffer, is_of, is_here, newcomer, is_turn_of, is_there, has_list, buffer_at, buffer_or_scratch}
-use Rattle.kak_world.specs.Seen.{KeptBuffer, with_seen, slot_seen, all_seen, SlotIsUp, SlotKeepsUp, AllKeepUp, TurnIsUp}
+use Rattle.kak_world.specs.Seen.{KeptBuffer, Kept, with_seen, slot_seen, all_seen, all_stored, SlotIsUp, SlotKeepsUp, AllKeepUp, TurnIsUp}
 use Rattle.kak_world.proofs.ShowingLemmas.{set-slot_same}
 use Rattle.kak_world.proofs.WorldLemmas.{parts, get_or_same}
 
@@ -84,6 +84,14 @@ parts-set {sc = sc} bs n slot cs r = ap (λ x. (parts x cs r sc []).flat) (seen-
 -- the buffer in a slot
 pub kept-at : (bs : List (Option KeptBuffer)) (n : ℕ) (slot : Option KeptBuffer) (b : KeptBuffer) → n < length (all_seen bs) → slot ≡ get_or bs n slot → slot ≡ Some b → get_or bs n None ≡ Some b
 kept-at bs n slot b h g s = get_or_same bs n slot (omega (arith, h, seen-length bs)) ∙ sym g ∙ s
+
+-- a slot that is set to the buffer that it had
+pub same-set : (bs : List (Option KeptBuffer)) (n : ℕ) (b to : KeptBuffer) → get_or bs n None ≡ Some b → to ≡ b → set bs n (Some to) ≡ bs
+same-set bs n b to g e = ap (set bs n) (ap Some e ∙ sym g) ∙ set-get_or bs n None
+
+-- and the world of its buffers
+pub same-parts : {cs : List Client} {r : Rest} {sc : Scoped} (w : Kept) (bs now : List (Option KeptBuffer)) → now ≡ bs → parts (all_seen bs) cs r sc (all_stored bs) ≡ w → parts (all_seen now) cs r sc (all_stored now) ≡ w
+same-parts {cs = cs} {r = r} {sc = sc} w bs now e v = ap (λ (xs : List (Option KeptBuffer)). parts (all_seen xs) cs r sc (all_stored xs)) e ∙ v
 
 -- which lists stay up to date
 

@@ -81,7 +81,7 @@ scratch = made_buffer (codes "*scratch*") false (10 ∷ [])
 
 -- what a client that has just come has of its own
 abbrev pub first_own : Own
-first_own = record { mode = Normal; count = 0; register = None; pending = None; status = Quiet; appending = false; purpose = Commands; prompt = empty; leaving = false; drawn = false; size = first_size; info = None; sent = None }
+first_own = record { mode = Normal; count = 0; register = None; pending = None; status = Quiet; appending = false; purpose = Commands; prompt = empty; leaving = false; drawn = false; dragging = false; size = first_size; info = None; sent = None }
 
 -- a client that has just come: its number in the history, the number in its name, and that of the buffer that it sees
 abbrev pub newcomer : ℕ → ℕ → ℕ → Client

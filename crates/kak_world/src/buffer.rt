@@ -23,14 +23,17 @@ ghost use Rattle.kak_world.specs.Dropping.{listed_for_viewers};
 ghost use Rattle.kak_world.specs.Seen.{buffer_made, begun_in, with_seen, stored_of, and_then, CarriesValue};
 ghost use Rattle.kak_world.specs.Stored.{nothing_since, since_behind, is_nobody, LeavesBut, Leaves};
 ghost use Rattle.kak_world.specs.Changing.{buffer_edited, buffer_traveled, IsSomeEdited, IsCutMove};
+ghost use Rattle.regex_select.specs.Known.{AreMatchesIn};
 
 use crate::clients::Client;
 use crate::lists::{add_first, add_for_viewers};
+use crate::searched::SearchedText;
 use crate::since::Since;
-use buffer_store::{Buffer as Store, BufferError, MoveError, Splice};
+use buffer_store::{BufferError, MoveError, Splice};
 use kak_text::{Chars, Shift};
 use line_buffer::Lines;
 use list_shelf::{Holder, Shelf, SliceLog};
+use regex_select::KnownMatches;
 use selection_set::Sels;
 use std::alloc::{AllocError, Global};
 use std::marker::Model;
@@ -44,7 +47,7 @@ use window_view::Corner;
 pub struct WorldBuffer {
     name: Chars,
     is_file: bool,
-    store: Store,
+    store: SearchedText,
     shelf: Shelf,
     since: Since,
 }
@@ -120,7 +123,7 @@ impl WorldBuffer {
         Ok(WorldBuffer {
             name,
             is_file,
-            store: Store::new(alloc, lines)?,
+            store: SearchedText::new(alloc, lines)?,
             shelf: Shelf::new(alloc),
             since: Since::just_opened(),
         })
@@ -167,6 +170,21 @@ impl WorldBuffer {
         ensures { result.now ≡ self.now.seen.story.text }
     {
         self.store.lines()
+    }
+
+    /// What is known of the matches in its text of the pattern that was searched for last.
+    pub fn known_matches(&self) -> &KnownMatches
+        ensures { AreMatchesIn self.now.seen.story.text result.now }
+    {
+        self.store.known_matches()
+    }
+
+    /// Lets something else be known of matches in its text, of which contracts see nothing.
+    pub fn know_matches(&mut self, known: KnownMatches)
+        requires { AreMatchesIn self.old.seen.story.text known }
+        ensures { self.new ≡ self.old }
+    {
+        self.store.know_matches(known);
     }
 
     /// A law: each list on it is settled, and lies inside its text.

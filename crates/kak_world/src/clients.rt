@@ -173,6 +173,7 @@ impl Clients {
                 prompt: EditLine::new(alloc),
                 leaving: false,
                 drawn: false,
+                dragging: false,
                 size: Size::first(),
                 info: None,
                 sent: None,

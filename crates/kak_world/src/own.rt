@@ -62,6 +62,8 @@ pub struct Own {
     pub leaving: bool,
     /// Whether the client was drawn before.
     pub drawn: bool,
+    /// Whether its left mouse button is down: it was pressed, and neither released nor followed by a key.
+    pub dragging: bool,
     /// How many rows and columns each of its windows has, also one on a buffer that it sees later.
     pub size: Size,
     /// The box that it is to be shown, if there is one.

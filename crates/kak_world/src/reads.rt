@@ -191,8 +191,8 @@ impl<P: Pattern, T: Turn> World<P, T> {
         }
     }
 
-    // Lets the window of a client whose turn it is stand elsewhere on the buffer that it sees.
-    fn set_corner(&mut self, who: u32, corner: Corner)
+    /// Lets the window of a client whose turn it is stand elsewhere on the buffer that it sees.
+    pub fn set_corner(&mut self, who: u32, corner: Corner)
         requires { acts who self.old.flat ≡ true }
         ensures { self.new.flat ≡ with_corner who corner self.old.flat }
     {
