@@ -44,6 +44,7 @@ fn list_used<P: Pattern, T: Turn>(
 {
     let lines = world.lines(who);
     let sels = world.sels(who);
+    let known = world.known_matches(who);
     match wanted {
         Use::Select => matches_in(alloc, lines, sels, pattern),
         Use::Split => split_in(alloc, lines, sels, pattern),
@@ -59,6 +60,7 @@ fn list_used<P: Pattern, T: Turn>(
                     direction,
                     extend: false,
                 },
+                known,
             )
         }
         Use::Reach(direction) => {
@@ -71,10 +73,11 @@ fn list_used<P: Pattern, T: Turn>(
                     direction,
                     extend: true,
                 },
+                known,
             )
         }
-        Use::Step(direction, _) => search_main(alloc, lines, sels, pattern, direction),
-        Use::Add(direction, _) => add_match(alloc, lines, sels, pattern, direction),
+        Use::Step(direction, _) => search_main(alloc, lines, sels, pattern, direction, known),
+        Use::Add(direction, _) => add_match(alloc, lines, sels, pattern, direction, known),
     }
 }
 
@@ -118,6 +121,42 @@ fn take_list<P: Pattern, T: Turn>(
     }
 }
 
+// Lets be known of the matches of a pattern in the text that a client sees what is to be known when it is searched for. The flat
+// world says nothing of that, and that memory is wanting for it isn't told.
+fn know<P: Pattern, T: Turn>(alloc: Global, world: &mut World<P, T>, who: u32, pattern: &P)
+    requires { acts who world.old.flat ≡ true }
+    ensures { world.new ≡ world.old }
+{
+    let lines = world.lines(who);
+    match world
+        .known_matches(who)
+        .when_searched(alloc, lines, pattern)
+    {
+        None => {}
+        Some(next) => world.know_matches(who, next),
+    }
+}
+
+// The same where a use of a pattern searches for it in the whole text.
+fn know_for<P: Pattern, T: Turn>(
+    alloc: Global,
+    world: &mut World<P, T>,
+    who: u32,
+    wanted: Use,
+    pattern: &P,
+)
+    requires { acts who world.old.flat ≡ true }
+    ensures { world.new ≡ world.old }
+{
+    match wanted {
+        Use::Search(_) => know(alloc, world, who, pattern),
+        Use::Reach(_) => know(alloc, world, who, pattern),
+        Use::Step(_, _) => know(alloc, world, who, pattern),
+        Use::Add(_, _) => know(alloc, world, who, pattern),
+        _ => {}
+    }
+}
+
 // Makes use of a pattern.
 fn make_use<P: Pattern, T: Turn>(
     alloc: Global,
@@ -130,6 +169,7 @@ fn make_use<P: Pattern, T: Turn>(
     ensures row { GivesRow result world.new.flat (pattern_used wanted (P.source pattern.now) who world.old.flat) }
     ensures wanting { IsErrOf result NoMemory → world.new.flat ≡ world.old.flat }
 {
+    know_for(alloc, world, who, wanted, pattern);
     match list_used(alloc, world, who, wanted, pattern) {
         Ok(sels) => take_list(alloc, world, who, sels, next_use(wanted)),
         Err(error) => Err(refusal_of(error)),
