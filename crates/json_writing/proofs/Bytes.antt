@@ -1,7 +1,7 @@
 -- Bytes that are added one piece after another.
-use Rattle.std.proofs.Common.{◌≡◌, ℕ, zero, suc, ◌+◌, ◌<◌, ◌≤◌, ◌==◌, eqb, List, [], ◌∷◌, ◌++◌, Bool, true, false, cond, length, take, get_or, map, refl, sym, ap, ◌∙◌, append_assoc, append-nil, length-append, length-take-le, arith}
+use Rattle.std.proofs.Common.{◌≡◌, ℕ, zero, suc, ◌+◌, ◌<◌, ◌≤◌, ◌==◌, eqb, List, [], ◌∷◌, ◌++◌, Bool, true, false, cond, length, take, drop, get_or, map, refl, sym, ap, ◌∙◌, append_assoc, append-nil, length-append, length-take-le, arith}
 use Rattle.std.specs.Prelude.{filter}
-use Rattle.std.proofs.lemmas.List.{take_more}
+use Rattle.std.proofs.lemmas.List.{take_more, take-append-drop}
 use Rattle.std.proofs.lemmas.List.Elements.{filter-append}
 use Rattle.std.proofs.lemmas.Bool.{ne_eqb}
 use Rattle.json_writing.specs.Grows.{Grows}
@@ -27,9 +27,16 @@ written_four old s1 s2 s3 s4 a b c d p q r s = rw (s, r, q, p) (simp append_asso
 pub written_part : (old s0 s1 s2 before after comma part : List ℕ) → s0 ≡ old ++ before → s1 ≡ s0 ++ comma → s2 ≡ s1 ++ part → after ≡ before ++ (comma ++ part) → s2 ≡ old ++ after
 written_part old s0 s1 s2 before after comma part p q r e = rw (r, q, p, e) (simp append_assoc)
 
-all_escaped-append : (xs ys : List ℕ) → all_escaped (xs ++ ys) ≡ all_escaped xs ++ all_escaped ys
+pub all_escaped-append : (xs ys : List ℕ) → all_escaped (xs ++ ys) ≡ all_escaped xs ++ all_escaped ys
 all_escaped-append [] ys = refl
 all_escaped-append (x ∷ xs) ys = ap (λ b. escaped x ++ b) (all_escaped-append xs ys) ∙ sym (append_assoc (escaped x) (all_escaped xs) (all_escaped ys))
+
+-- a piece is written, and the others are left
+pub written_parts : (all out new text piece rest : List ℕ) (n : ℕ) → piece ≡ take n text → rest ≡ drop n text → out ++ all_escaped text ≡ all → new ≡ out ++ all_escaped piece → new ++ all_escaped rest ≡ all
+written_parts all out new text piece rest n f r h w =
+    let whole : piece ++ rest ≡ text = ap (λ x. x ++ rest) f ∙ ap (λ x. take n text ++ x) r ∙ take-append-drop n text in
+    ap (λ b. b ++ all_escaped rest) w ∙ append_assoc out (all_escaped piece) (all_escaped rest)
+    ∙ ap (λ b. out ++ b) (sym (all_escaped-append piece rest) ∙ ap all_escaped whole) ∙ h
 
 -- one more character
 pub all_escaped-more : (xs : List ℕ) (i x : ℕ) → i < length xs → x ≡ get_or xs i x → all_escaped (take (i + 1) xs) ≡ all_escaped (take i xs) ++ escaped x

@@ -9,8 +9,8 @@ use Rattle.drawings.specs.declared.drawing.InfoBox.{InfoBox}
 use Rattle.drawings.specs.declared.drawing.Drawing.{Drawing}
 use Rattle.drawings.specs.declared.refusal.Refusal.{Refusal}
 use Rattle.drawings.specs.declared.refusal.Refusal.TheVariants.{TooLong, Parse, Invalid, Method, Params, Key}
-use Rattle.json_writing.specs.JsonText.{separated, string_text, plain_string, array_text, object_text, member_text}
-use Rattle.json_writing.specs.Drawings.{colour_text, attribute_texts, face_text, atom_text, line_text, lines_text, request_line, draw_lines, status_lines, cursor_lines, cursor_word, place_text, options_lines, info_lines, refresh_lines, drawing_bytes, box_lines}
+use Rattle.json_writing.specs.JsonText.{all_escaped, separated, string_text, plain_string, array_text, object_text, member_text}
+use Rattle.json_writing.specs.Drawings.{colour_text, attribute_texts, face_text, atom_end, atom_text, line_text, lines_text, request_line, draw_lines, status_lines, cursor_lines, cursor_word, place_text, options_lines, info_lines, refresh_lines, drawing_bytes, box_lines}
 use Rattle.json_writing.specs.Refusals.{refusal_code, refusal_message, refusal_bytes}
 
 -- a closing character goes with what follows
@@ -47,8 +47,10 @@ face_text-parts face =
     ∙ ap (λ b. fg ++ (codes "\",\"underline\":\"" ++ b)) (closed ul (125 ∷ []) 34)))))
 
 -- an atom
-pub atom_text-parts : (atom : Atom) → codes "{\"contents\":" ++ (string_text atom.contents ++ (codes ",\"face\":" ++ (face_text atom.face ++ codes "}"))) ≡ atom_text atom
-atom_text-parts atom = sym (object_two (member_text (codes "contents") (string_text atom.contents)) (member_text (codes "face") (face_text atom.face)))
+pub atom_text-parts : (atom : Atom) → codes "{\"contents\":\"" ++ (all_escaped atom.contents ++ atom_end atom.face) ≡ atom_text atom
+atom_text-parts atom =
+    sym (object_two (member_text (codes "contents") (string_text atom.contents)) (member_text (codes "face") (face_text atom.face))
+    ∙ ap (λ b. codes "{\"contents\":\"" ++ b) (closed (all_escaped atom.contents) (codes ",\"face\":" ++ (face_text atom.face ++ codes "}")) 34))
 
 -- a request
 pub request_line-parts : (method : List ℕ) (parameters : List (List ℕ)) → request_line method parameters ≡ codes "{\"jsonrpc\":\"2.0\",\"method\":\"" ++ (method ++ (codes "\",\"params\":[" ++ (separated parameters ++ codes "]}\n")))

@@ -44,6 +44,10 @@ atom_text atom = object_text (
     ∷ member_text (codes "face") (face_text atom.face)
     ∷ [])
 
+-- what ends an atom in a face, from the quote behind its characters on
+abbrev pub atom_end : Face → List ℕ
+atom_end face = codes "\",\"face\":" ++ (face_text face ++ codes "}")
+
 -- a line of atoms
 abbrev pub line_text : DrawnLine → List ℕ
 line_text line = array_text (map atom_text line.atoms)

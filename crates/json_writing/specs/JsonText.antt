@@ -1,5 +1,5 @@
 -- JSON in compact text, as lists of bytes.
-use Rattle.std.specs.Prelude.{ℕ, ◌/◌, ◌%◌, ◌==◌, List, [], ◌∷◌, ◌++◌, Bool, nat_lt, if◌then◌else◌, codes, encode_utf8}
+use Rattle.std.specs.Prelude.{◌≡◌, ℕ, ◌<◌, ◌/◌, ◌%◌, ◌==◌, ◌&&◌, List, [], ◌∷◌, ◌++◌, length, slice_index, Bool, true, not, nat_lt, nat_le, if◌then◌else◌, codes, encode_utf8}
 use Rattle.std.specs.Char.{digit_char}
 
 -- a character inside a JSON string: the quote, the backslash and the control characters are escaped
@@ -13,6 +13,14 @@ escaped c =
 abbrev pub all_escaped : List ℕ → List ℕ
 all_escaped [] = []
 all_escaped (c ∷ cs) = escaped c ++ all_escaped cs
+
+-- whether a character stands for itself inside a JSON string, as one byte
+abbrev pub is_plain : ℕ → Bool
+is_plain c = nat_le 32 c && nat_le c 126 && not (c == 34) && not (c == 92)
+
+-- characters that stand for themselves
+abbrev pub ArePlain : List ℕ → Type 0
+ArePlain cs = (n : ℕ) → n < length cs → is_plain (slice_index cs n) ≡ true
 
 -- a JSON string of any characters
 abbrev pub string_text : List ℕ → List ℕ

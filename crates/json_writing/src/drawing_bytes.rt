@@ -4,6 +4,7 @@ ghost use Rattle.std.specs.Prelude.{◌≡◌, ◌++◌, ◌∷◌, [], if◌the
 ghost use Rattle.json_writing.specs.Grows.{Grows};
 ghost use Rattle.json_writing.specs.Drawings.{face_text, line_text, lines_text, options_lines, draw_lines, status_lines, cursor_lines, place_text, cursor_word, info_lines, box_lines, refresh_lines, drawing_bytes};
 
+use crate::atom_ends::AtomEnds;
 use crate::face_bytes::push_face;
 use crate::line_bytes::{push_line, push_lines};
 use crate::text_bytes::{push_byte, push_number, push_text};
@@ -46,6 +47,7 @@ fn push_options(out: &mut Vec<u8>, first: bool) -> Result<(), AllocError>
 // Adds the request that draws the lines.
 fn push_draw(
     out: &mut Vec<u8>,
+    ends: &mut AtomEnds,
     lines: &DrawnLines,
     default_face: &Face,
     padding_face: &Face,
@@ -54,24 +56,29 @@ fn push_draw(
     ensures grows { Grows out.old.items out.new.items }
 {
     push_text(out, "{\"jsonrpc\":\"2.0\",\"method\":\"draw\",\"params\":[")?;
-    push_lines(out, lines.as_slice())?;
+    push_lines(out, ends, lines.as_slice())?;
     push_next_face(out, default_face)?;
     push_last_face(out, padding_face)?;
     Ok(())
 }
 
 // Adds a line behind a comma.
-fn push_next_line(out: &mut Vec<u8>, line: &DrawnLine) -> Result<(), AllocError>
+fn push_next_line(
+    out: &mut Vec<u8>,
+    ends: &mut AtomEnds,
+    line: &DrawnLine,
+) -> Result<(), AllocError>
     ensures ok { OnOk result (out.new.items ≡ out.old.items ++ 44 ∷ line_text line.now) }
     ensures grows { Grows out.old.items out.new.items }
 {
     push_byte(out, b',')?;
-    push_line(out, line)
+    push_line(out, ends, line)
 }
 
 // Adds the request that draws the status and the mode line.
 fn push_status(
     out: &mut Vec<u8>,
+    ends: &mut AtomEnds,
     status: &DrawnLine,
     mode_line: &DrawnLine,
     face: &Face,
@@ -83,8 +90,8 @@ fn push_status(
         out,
         "{\"jsonrpc\":\"2.0\",\"method\":\"draw_status\",\"params\":[",
     )?;
-    push_line(out, status)?;
-    push_next_line(out, mode_line)?;
+    push_line(out, ends, status)?;
+    push_next_line(out, ends, mode_line)?;
     push_last_face(out, face)?;
     Ok(())
 }
@@ -144,7 +151,7 @@ fn push_cursor(out: &mut Vec<u8>, cursor: Cursor) -> Result<(), AllocError>
 }
 
 // Begins the request that shows a box, with its title.
-fn push_title(out: &mut Vec<u8>, title: &DrawnLine) -> Result<(), AllocError>
+fn push_title(out: &mut Vec<u8>, ends: &mut AtomEnds, title: &DrawnLine) -> Result<(), AllocError>
     ensures ok { OnOk result (out.new.items ≡ out.old.items
         ++ (codes "{\"jsonrpc\":\"2.0\",\"method\":\"info_show\",\"params\":[" ++ line_text title.now)) }
     ensures grows { Grows out.old.items out.new.items }
@@ -153,17 +160,21 @@ fn push_title(out: &mut Vec<u8>, title: &DrawnLine) -> Result<(), AllocError>
         out,
         "{\"jsonrpc\":\"2.0\",\"method\":\"info_show\",\"params\":[",
     )?;
-    push_line(out, title)?;
+    push_line(out, ends, title)?;
     Ok(())
 }
 
 // Adds the lines of a box.
-fn push_content(out: &mut Vec<u8>, content: &DrawnLines) -> Result<(), AllocError>
+fn push_content(
+    out: &mut Vec<u8>,
+    ends: &mut AtomEnds,
+    content: &DrawnLines,
+) -> Result<(), AllocError>
     ensures ok { OnOk result (out.new.items ≡ out.old.items ++ 44 ∷ lines_text content.now) }
     ensures grows { Grows out.old.items out.new.items }
 {
     push_byte(out, b',')?;
-    push_lines(out, content.as_slice())
+    push_lines(out, ends, content.as_slice())
 }
 
 // Adds the anchor, the face and the style of a box, and ends the request.
@@ -179,18 +190,18 @@ fn push_box_end(out: &mut Vec<u8>, face: &Face) -> Result<(), AllocError>
 }
 
 // Adds the request that shows a box.
-fn push_box(out: &mut Vec<u8>, info: &InfoBox) -> Result<(), AllocError>
+fn push_box(out: &mut Vec<u8>, ends: &mut AtomEnds, info: &InfoBox) -> Result<(), AllocError>
     ensures ok { OnOk result (out.new.items ≡ out.old.items ++ box_lines info.now) }
     ensures grows { Grows out.old.items out.new.items }
 {
-    push_title(out, &info.title)?;
-    push_content(out, &info.content)?;
+    push_title(out, ends, &info.title)?;
+    push_content(out, ends, &info.content)?;
     push_box_end(out, &info.face)?;
     Ok(())
 }
 
 // Adds the request on the box, where it changed.
-fn push_info(out: &mut Vec<u8>, info: &Info) -> Result<(), AllocError>
+fn push_info(out: &mut Vec<u8>, ends: &mut AtomEnds, info: &Info) -> Result<(), AllocError>
     ensures ok { OnOk result (out.new.items ≡ out.old.items ++ info_lines info.now) }
     ensures grows { Grows out.old.items out.new.items }
 {
@@ -200,12 +211,12 @@ fn push_info(out: &mut Vec<u8>, info: &Info) -> Result<(), AllocError>
             out,
             "{\"jsonrpc\":\"2.0\",\"method\":\"info_hide\",\"params\":[]}\n",
         ),
-        Info::Show(shown) => push_box(out, shown),
+        Info::Show(shown) => push_box(out, ends, shown),
     }
 }
 
 // Adds what comes before the cursor.
-fn push_window(out: &mut Vec<u8>, drawing: &Drawing) -> Result<(), AllocError>
+fn push_window(out: &mut Vec<u8>, ends: &mut AtomEnds, drawing: &Drawing) -> Result<(), AllocError>
     ensures ok { OnOk result (out.new.items ≡ out.old.items ++ (options_lines drawing.now.first
         ++ (draw_lines drawing.now.lines drawing.now.default_face drawing.now.padding_face
         ++ status_lines drawing.now.status drawing.now.mode_line drawing.now.status_face))) }
@@ -214,12 +225,14 @@ fn push_window(out: &mut Vec<u8>, drawing: &Drawing) -> Result<(), AllocError>
     push_options(out, drawing.first)?;
     push_draw(
         out,
+        ends,
         &drawing.lines,
         &drawing.default_face,
         &drawing.padding_face,
     )?;
     push_status(
         out,
+        ends,
         &drawing.status,
         &drawing.mode_line,
         &drawing.status_face,
@@ -233,9 +246,10 @@ pub fn encode_drawing(drawing: &Drawing, out: &mut Vec<u8>) -> Result<(), AllocE
     ensures ok { OnOk result (out.new.items ≡ out.old.items ++ drawing_bytes drawing.now) }
     ensures grows { Grows out.old.items out.new.items }
 {
-    push_window(out, drawing)?;
+    let mut ends = AtomEnds::new(*out.allocator());
+    push_window(out, &mut ends, drawing)?;
     push_cursor(out, drawing.cursor)?;
-    push_info(out, &drawing.info)?;
+    push_info(out, &mut ends, &drawing.info)?;
     push_text(
         out,
         "{\"jsonrpc\":\"2.0\",\"method\":\"refresh\",\"params\":[false]}\n",

@@ -1,6 +1,7 @@
 //! Drawings and refusals as lines of JSON, written straight into bytes.
 #![tactic(auto)]
 
+mod atom_ends;
 mod drawing_bytes;
 mod examples;
 mod face_bytes;

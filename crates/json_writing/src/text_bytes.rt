@@ -1,13 +1,19 @@
 //! Strings, numbers and commas as JSON.
 
-ghost use Rattle.std.specs.Prelude.{◌≡◌, ◌<◌, ◌∷◌, [], ◌++◌, OnOk, decimal, encode_utf8, ◌/◌, ◌%◌, ◌+◌, ◌≤◌, vec_len, IfSome};
+ghost use Rattle.std.specs.Prelude.{◌≡◌, ◌<◌, ◌∷◌, [], ◌++◌, OnOk, decimal, encode_utf8, ◌/◌, ◌%◌, ◌+◌, ◌≤◌, vec_len, true, length, take, IfSome};
 ghost use Rattle.std.specs.Vec.{vec_capacity};
 ghost use Rattle.std.specs.Char.{digit_char};
 ghost use Rattle.json_writing.specs.Grows.{Grows};
-ghost use Rattle.json_writing.specs.JsonText.{escaped, all_escaped, string_text, comma_unless};
+ghost use Rattle.json_writing.specs.JsonText.{escaped, all_escaped, is_plain, ArePlain, comma_unless};
 
 use itoa::Buffer;
 use std::alloc::AllocError;
+
+// So many characters are tested and copied at once.
+const PIECE: usize = 64;
+
+// Fewer characters are written one by one.
+const SOME: usize = 12;
 
 /// Adds bytes at the end.
 pub fn push_bytes(out: &mut Vec<u8>, bytes: &[u8]) -> Result<(), AllocError>
@@ -143,8 +149,8 @@ fn push_with_room(out: &mut Vec<u8>, c: char, left: usize) -> Result<(), AllocEr
     Ok(())
 }
 
-// Adds characters as they stand in a JSON string.
-fn push_characters(out: &mut Vec<u8>, text: &[char]) -> Result<(), AllocError>
+// Adds characters one by one as they stand in a JSON string.
+fn push_each(out: &mut Vec<u8>, text: &[char]) -> Result<(), AllocError>
     ensures ok { OnOk result (out.new.items ≡ out.old.items ++ all_escaped text.now) }
     ensures grows { Grows out.old.items out.new.items }
 {
@@ -155,12 +161,85 @@ fn push_characters(out: &mut Vec<u8>, text: &[char]) -> Result<(), AllocError>
     Ok(())
 }
 
-/// Adds a JSON string.
-pub fn push_string(out: &mut Vec<u8>, text: &[char]) -> Result<(), AllocError>
-    ensures ok { OnOk result (out.new.items ≡ out.old.items ++ string_text text.now) }
+// Whether a character stands for itself in a JSON string, as one byte.
+#[inline]
+fn is_plain(c: char) -> bool
+    ensures { result ≡ is_plain c }
+{
+    (c >= ' ') & (c <= '~') & (c != '"') & (c != '\\')
+}
+
+// Whether each character stands for itself. Each is looked at, in a loop that has no other way out.
+fn are_plain(text: &[char]) -> bool
+    ensures { result ≡ true → ArePlain text.now }
+{
+    let mut plain = true;
+    for c in text {
+        if is_plain(*c) {
+            continue;
+        }
+        plain = false;
+    }
+    plain
+}
+
+// How many characters at the front of a piece stand for themselves.
+fn plain_front(text: &[char]) -> usize
+    ensures few { result ≤ length text.now }
+    ensures plain { ArePlain (take result text.now) }
+{
+    if are_plain(text) {
+        return text.len();
+    }
+    for (i, c) in text.iter().enumerate() {
+        if !is_plain(*c) {
+            return i;
+        }
+    }
+    text.len()
+}
+
+// Adds a piece of characters that stand for themselves at once.
+fn push_plain(out: &mut Vec<u8>, text: &[char]) -> Result<(), AllocError>
+    requires short { length text.now ≤ 64 }
+    requires plain { ArePlain text.now }
+    ensures ok { OnOk result (out.new.items ≡ out.old.items ++ text.now) }
     ensures grows { Grows out.old.items out.new.items }
 {
-    push_byte(out, b'"')?;
-    push_characters(out, text)?;
-    push_byte(out, b'"')
+    let mut bytes = [0u8; PIECE];
+    for (i, c) in text.iter().enumerate() {
+        bytes[i] = *c as u8;
+    }
+    push_bytes(out, &bytes[..text.len()])
+}
+
+// Adds a piece of characters as they stand in a JSON string: those at its front that stand for themselves at once, where
+// there are some characters, and the others one by one.
+fn push_piece(out: &mut Vec<u8>, text: &[char]) -> Result<(), AllocError>
+    requires { length text.now ≤ 64 }
+    ensures ok { OnOk result (out.new.items ≡ out.old.items ++ all_escaped text.now) }
+    ensures grows { Grows out.old.items out.new.items }
+{
+    if text.len() < SOME {
+        return push_each(out, text);
+    }
+    let (front, rest) = text.split_at(plain_front(text));
+    push_plain(out, front)?;
+    push_each(out, rest)?;
+    Ok(())
+}
+
+/// Adds characters as they stand in a JSON string.
+pub fn push_characters(out: &mut Vec<u8>, text: &[char]) -> Result<(), AllocError>
+    ensures ok { OnOk result (out.new.items ≡ out.old.items ++ all_escaped text.now) }
+    ensures grows { Grows out.old.items out.new.items }
+{
+    let mut rest = text;
+    while rest.len() > PIECE {
+        let (piece, more) = rest.split_at(PIECE);
+        push_piece(out, piece)?;
+        rest = more;
+    }
+    push_piece(out, rest)?;
+    Ok(())
 }

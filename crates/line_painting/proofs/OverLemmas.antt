@@ -5,11 +5,11 @@ use Rattle.std.specs.List.{AllByRecursion}
 use Rattle.std.proofs.lemmas.Bool.{cases_lt}
 use Rattle.std.proofs.lemmas.List.{take_more, take-append-drop, length-map, get_or_default}
 use Rattle.text_model.specs.declared.coords.Coord.{Coord}
-use Rattle.text_model.specs.Texts.{lines_of, joined, line_count, nth_line, offset, IsPlace}
+use Rattle.text_model.specs.Texts.{lines_of, line_count, nth_line, offset, IsPlace}
 use Rattle.text_model.proofs.CoordLemmas.{test_cases}
 use Rattle.text_model.proofs.PlaceLemmas.{leb_true, leb_false, place-before_next, start-le, start-more, offset-earlier_line}
 use Rattle.list_model.specs.Ranges.{Range, Selected, cursor, IsRange, only}
-use Rattle.list_model.specs.Settled.{AreApart, IsSettledList}
+use Rattle.list_model.specs.Settled.{AreApart}
 use Rattle.list_model.proofs.ListLemmas.{all_weaker}
 use Rattle.selection_set.specs.declared.sel.Sel.{Sel}
 use Rattle.selection_set.specs.Inside.{range_of, IsInside, cursor_at}

@@ -1,5 +1,5 @@
 -- What a window shows of the lines of a text with selections.
-use Rattle.std.specs.Prelude.{ℕ, ◌+◌, ◌-◌, Bool, true, false, ◌==◌, ◌&&◌, nat_le, if◌then◌else◌, List, [], ◌∷◌, ◌++◌, length, take, drop, replicate, flat_map, decimal}
+use Rattle.std.specs.Prelude.{ℕ, ◌+◌, Bool, true, false, ◌==◌, ◌&&◌, nat_le, if◌then◌else◌, List, [], ◌∷◌, ◌++◌, length, take, drop, flat_map}
 use Rattle.text_model.specs.Texts.{lines_of, joined}
 use Rattle.list_model.specs.Ranges.{Range, Selected, cursor}
 use Rattle.kak_text.specs.Cells.{cells_of}

@@ -1,6 +1,6 @@
 //! Atoms that grow at their end.
 
-ghost use Rattle.std.specs.Prelude.{◌≡◌, [], ◌++◌, replicate, OnOk, IfOk};
+ghost use Rattle.std.specs.Prelude.{◌≡◌, ◌≤◌, [], ◌++◌, length, replicate, OnOk, IfOk};
 ghost use Rattle.compact_chars.specs.Rows.{chars_of};
 ghost use Rattle.line_painting.specs.Atoms.{shown_in, with_all_shown};
 ghost use Rattle.line_painting.specs.Painting.{drawn_chars};
@@ -13,6 +13,9 @@ use kak_faces::{Face, StandardFace};
 use kak_text::Chars;
 use std::alloc::{AllocError, Global};
 use std::marker::Model;
+
+// So many characters are added at once.
+const PIECE: usize = 64;
 
 // Atoms that grow at their end, and the face that more characters get. The characters that came last wait for others
 // of their face; contracts see the atoms that there are with them.
@@ -53,14 +56,29 @@ fn add_drawn(chars: &mut Chars, drawn: CharDrawn) -> Result<(), AllocError>
     add_times(chars, ' ', drawn.spaces)
 }
 
+// Adds the characters whose numbers a few bytes are, all at once.
+fn add_piece(chars: &mut Chars, bytes: &[u8]) -> Result<(), AllocError>
+    requires { length bytes.now ≤ 64 }
+    ensures { OnOk result (chars.new ≡ chars.old ++ bytes.now) }
+{
+    let mut wide = ['\0'; PIECE];
+    for (i, b) in bytes.iter().enumerate() {
+        wide[i] = *b as char;
+    }
+    chars.extend_from_slice(&wide[..bytes.len()])
+}
+
 // Adds the characters whose numbers bytes are.
 fn add_bytes(chars: &mut Chars, bytes: &[u8]) -> Result<(), AllocError>
     ensures { OnOk result (chars.new ≡ chars.old ++ bytes.now) }
 {
-    for b in bytes {
-        chars.push(*b as char)?;
+    let mut rest = bytes;
+    while rest.len() > PIECE {
+        let (piece, more) = rest.split_at(PIECE);
+        add_piece(chars, piece)?;
+        rest = more;
     }
-    Ok(())
+    add_piece(chars, rest)
 }
 
 // Adds characters in their face behind the atoms, and takes them away.

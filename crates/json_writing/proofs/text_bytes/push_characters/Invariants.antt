@@ -1,11 +1,14 @@
-use Rattle.std.proofs.Common.{◌≡◌, ◌+◌, ◌-◌, ◌≤◌, ◌++◌, length, take, vec_len}
-use Rattle.std.specs.Vec.{vec_capacity}
+use Rattle.std.proofs.Common.{◌≡◌, ◌++◌, length}
 use Rattle.json_writing.specs.Grows.{Grows}
 use Rattle.json_writing.specs.JsonText.{all_escaped}
 use Rattle.json_writing.proofs.text_bytes.push_characters.Given as goal
 
-abbrev pub invariant-loop-i : goal.invariant-loop-i
-invariant-loop-i l =
-    (l.out.items ≡ l.fn.out.items ++ all_escaped (take l.i l.text))
-    × (vec_len l.out + (length l.text - l.i) ≤ vec_capacity l.out)
-    × Grows l.fn.out.items l.out.items
+-- what was written and what is left are the whole
+abbrev pub invariant-loop-rest : goal.invariant-loop-rest
+invariant-loop-rest l = record {
+  whole : l.out.items ++ all_escaped l.rest ≡ l.fn.out.items ++ all_escaped l.text;
+  grown : Grows l.fn.out.items l.out.items;
+}
+
+abbrev pub decreases-loop-rest : goal.decreases-loop-rest
+decreases-loop-rest l = length l.rest

@@ -1,7 +1,5 @@
-use Rattle.std.proofs.Common.{◌≡◌, ◌-◌, ◌+◌, min, List, ℕ, length, arith, subst}
+use Rattle.std.proofs.Common.{length, arith}
 use Rattle.compact_chars.specs.Rows.{chars_of}
-use Rattle.text_model.specs.Texts.{offset, IsPlace}
-use Rattle.line_painting.specs.Painting.{line_start, IsLongLine}
 use Rattle.line_painting.proofs.OverLemmas.{cursor-laid, cursor-off, long-line}
 use Rattle.line_painting.proofs.overs.push_cursor.Goals as goal
 

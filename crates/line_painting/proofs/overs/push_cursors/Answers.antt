@@ -1,4 +1,4 @@
-use Rattle.std.proofs.Common.{◌≡◌, ◌∙◌, ◌<◌, ◌≤◌, List, ap, ap₂, eqb, get_or, length, sym, subst, arith}
+use Rattle.std.proofs.Common.{◌<◌, ap, eqb, get_or, length, subst, arith}
 use Rattle.compact_chars.specs.Rows.{chars_of}
 use Rattle.selection_set.proofs.HeldLemmas.{zero_sel}
 use Rattle.line_painting.specs.Painting.{IsCursorLaid}

@@ -1,5 +1,4 @@
 use Rattle.std.proofs.Common.{arith}
-use Rattle.std.proofs.lemmas.Result.{on_ok_weaker}
 use Rattle.line_painting.proofs.OverLemmas.{selection-laid}
 use Rattle.line_painting.proofs.overs.push_selection.Goals as goal
 

@@ -1,11 +1,7 @@
-use Rattle.std.proofs.Common.{◌≡◌, ◌∙◌, ◌<◌, ◌≤◌, List, ap, ap₂, eqb, get_or, length, sym, arith}
-use Rattle.std.proofs.lemmas.List.{get_or_default}
-use Rattle.text_model.specs.Texts.{nth_line}
-use Rattle.selection_set.specs.declared.sel.Sel.{Sel}
+use Rattle.std.proofs.Common.{◌∙◌, ◌<◌, ap, eqb, get_or, length, arith}
 use Rattle.selection_set.proofs.HeldLemmas.{zero_sel}
 use Rattle.face_texts.specs.Palettes.{palette_face}
 use Rattle.line_painting.specs.Lines.{selection_name}
-use Rattle.compact_chars.specs.Rows.{chars_of}
 use Rattle.line_painting.proofs.OverLemmas.{selections-none, selections-one, selections-all, below-line, below-all, read-sel}
 use Rattle.line_painting.proofs.overs.push_selections.Goals as goal
 

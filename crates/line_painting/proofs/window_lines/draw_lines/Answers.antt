@@ -1,13 +1,10 @@
-use Rattle.std.proofs.Common.{◌≡◌, ◌<◌, ◌≤◌, ℕ, ◌+◌, ◌-◌, min, List, [], ◌++◌, ◌∷◌, length, take, drop, get_or, refl, sym, ap, ap₂, subst, ◌∙◌, arith}
-use Rattle.std.specs.List.{AllByRecursion}
-use Rattle.text_model.specs.Texts.{joined, lines_of, nth_line}
-use Rattle.window_view.specs.Views.{window_seen}
+use Rattle.std.proofs.Common.{◌≡◌, ◌<◌, ℕ, ◌-◌, List, [], ◌++◌, ◌∷◌, length, take, drop, get_or, refl, sym, ap, ap₂, subst, ◌∙◌, arith}
+use Rattle.text_model.specs.Texts.{joined, lines_of}
 use Rattle.selection_set.specs.declared.sel.Sel.{Sel}
 use Rattle.kak_faces.specs.Standard.{default_face}
 use Rattle.face_grounds.specs.Grounds.{Seen, everywhere}
-use Rattle.drawings.specs.declared.drawing.DrawnLine.{DrawnLine}
 use Rattle.line_painting.specs.Lines.{line_drawn, drawn_from}
-use Rattle.line_painting.specs.Painting.{line_start, line_on, slice_index_seen, scene_looks, lines_in, EndsBefore}
+use Rattle.line_painting.specs.Painting.{line_on, slice_index_seen, scene_looks}
 use Rattle.line_painting.proofs.WindowLemmas.{window-more, window-all, lines-length}
 use Rattle.line_painting.proofs.OverLemmas.{ends-upto, ends-next}
 use Rattle.line_painting.proofs.window_lines.draw_lines.Goals as goal

@@ -1,9 +1,8 @@
-use Rattle.std.proofs.Common.{◌≡◌, ◌<◌, ℕ, [], length, get_or, sym, ap, ◌∙◌, refl, subst, arith}
+use Rattle.std.proofs.Common.{ap, ◌∙◌, refl}
 use Rattle.std.proofs.lemmas.Result.{on_ok_weaker}
 use Rattle.text_model.specs.Texts.{nth_line}
 use Rattle.selection_set.specs.Held.{selected}
 use Rattle.face_grounds.specs.Grounds.{ground_at, over_all}
-use Rattle.line_painting.specs.Lines.{face_on}
 use Rattle.line_painting.specs.Painting.{line_start, slice_index_seen}
 use Rattle.line_painting.proofs.OverLemmas.{line-laid, line-bare, below-first}
 use Rattle.line_painting.proofs.window_lines.lay_line.Goals as goal

@@ -1,9 +1,7 @@
-use Rattle.std.proofs.Common.{◌≡◌, ◌+◌, ◌-◌, ◌*◌, ◌≤◌, ℕ, min, length, get_or, drop, sym, ap, ◌∙◌, length-take, length-drop, arith}
-use Rattle.std.proofs.lemmas.List.{get_or_default}
+use Rattle.std.proofs.Common.{length, get_or, ap, ◌∙◌, length-drop, arith}
 use Rattle.compact_chars.specs.Rows.{chars_of}
 use Rattle.window_view.specs.Views.{window_seen}
 use Rattle.line_painting.specs.Painting.{with_stretch}
-use Rattle.face_grounds.specs.declared.ground.Run.{Run}
 use Rattle.line_painting.proofs.DrawnLemmas.{ground-first, ground-run, ground-rest, ground-all, ground-cut, zero_run, read-run, slice-length}
 use Rattle.line_painting.proofs.window_lines.push_ground.Goals as goal
 
