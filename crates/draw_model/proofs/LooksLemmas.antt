@@ -1,11 +1,10 @@
 -- What a client's window shows, drawn over the grounds that its highlighters paint.
-use Rattle.std.proofs.Common.{◌≡◌, ℕ, ◌+◌, ◌-◌, ◌<◌, ◌≤◌, min, Bool, List, length, map, get_or, take, drop, sym, ap, ap₂, subst, ◌∙◌, arith}
+use Rattle.std.proofs.Common.{◌≡◌, ℕ, ◌+◌, ◌-◌, ◌<◌, min, Bool, List, length, map, ap, ap₂, ◌∙◌, arith}
 use Rattle.text_model.specs.Texts.{lines_of, line_count, nth_line}
 use Rattle.list_model.specs.Ranges.{Selected}
 use Rattle.selection_set.specs.Held.{selected}
 use Rattle.window_view.specs.View.{View}
 use Rattle.window_view.specs.Views.{window_seen}
-use Rattle.kak_faces.specs.declared.face.Face.{Face}
 use Rattle.kak_faces.specs.Standard.{default_face}
 use Rattle.face_grounds.specs.Grounds.{Seen, everywhere, ground_at}
 use Rattle.face_texts.specs.declared.palette.Palette.{Palette}

@@ -3,7 +3,6 @@ use Rattle.std.specs.Prelude.{ℕ, ◌==◌, ◌&&◌, Bool, true, false, if◌t
 use Rattle.std.specs.Str.{bytes_eq}
 use Rattle.kak_faces.specs.declared.face.Face.{Face}
 use Rattle.kak_faces.specs.Same.{same_face}
-use Rattle.face_texts.specs.declared.palette.Palette.{Palette}
 use Rattle.face_texts.specs.Palettes.{palette_of}
 use Rattle.drawings.specs.declared.drawing.DrawnLine.{DrawnLine}
 use Rattle.drawings.specs.declared.drawing.InfoBox.{InfoBox}

@@ -16,13 +16,13 @@ use Rattle.directions.specs.declared.direction.Direction.TheVariants.{Forward, B
 use Rattle.kak_world.specs.declared.purpose.Use.TheVariants.{Select, Split, Keep as KeepThose, Drop, Search, Reach}
 use Rattle.kak_world.specs.declared.purpose.Purpose.TheVariants.{Commands, Pattern}
 use Rattle.kak_world.specs.declared.own.Note.{Note}
-use Rattle.kak_world.specs.Flat.{Flat, made_buffer, first_rest, first_scoped, opening, joined_by, with_sels, with_own, with_faces, with_highlighters, faces_of, view_of}
+use Rattle.kak_world.specs.Flat.{Flat, made_buffer, first_rest, first_scoped, opening, joined_by, with_sels, with_own, with_faces, with_highlighters, view_of}
 use Rattle.face_texts.specs.Texts.{face_on}
 use Rattle.scope_options.specs.declared.scope.Scope.TheVariants.{Global, Window}
 use Rattle.highlight_paint.specs.Painters.{Paints, highlighter, Fills, Numbers, ShowsWhitespaces}
 use Rattle.line_painting.specs.Atoms.{atoms_of}
 use Rattle.line_painting.specs.Painting.{alone}
-use Rattle.line_painting.specs.Examples.{atom, atoms_line, bare_atom, cursor_atom, faced, number_face, in_red, first_palette, whole, narrow, three}
+use Rattle.line_painting.specs.Examples.{atom, atoms_line, cursor_atom, faced, number_face, in_red, first_palette, whole, narrow, three}
 use Rattle.draw_model.specs.Boxes.{parts, boxed, info_since, with_drawn}
 use Rattle.draw_model.specs.Drawings.{prompt_name, status_line, cursor_drawn, main_column, main_cells, main_cursor, mode_line_text, after_following, drawing_of}
 

@@ -54,8 +54,8 @@ fn viewer_of<P: Pattern, T: Turn>(world: &World<P, T>, who: u32) -> Viewer
     }
 }
 
-// How many number cells stand before the lines that a client sees.
-fn gutter_of<P: Pattern, T: Turn>(world: &World<P, T>, who: u32, tabstop: Tabstop) -> u32
+/// How many number cells stand before the lines that a client sees, with its tab stops.
+pub fn gutter_of<P: Pattern, T: Turn>(world: &World<P, T>, who: u32, tabstop: Tabstop) -> u32
     requires joined { is_joined who world.now.flat ≡ true }
     requires tabstop { tabstop.columns ≡ tabstop_of who world.now.flat }
     ensures value { result ≡ gutter_for who world.now.flat }

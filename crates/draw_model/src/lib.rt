@@ -8,5 +8,5 @@ mod laws;
 mod status;
 
 pub use boxes::note_drawn;
-pub use drawing::redraw;
+pub use drawing::{gutter_of, redraw};
 pub use laws::worked_examples;

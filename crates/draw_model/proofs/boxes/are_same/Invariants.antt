@@ -1,5 +1,5 @@
 -- The characters gone over are the same.
-use Rattle.std.proofs.Common.{◌≡◌, drop, length}
+use Rattle.std.proofs.Common.{◌≡◌, drop}
 use Rattle.std.specs.Str.{bytes_eq}
 use Rattle.draw_model.proofs.boxes.are_same.Given as goal
 

@@ -1,4 +1,4 @@
-use Rattle.std.proofs.Common.{◌≡◌, ℕ, List, refl, sym, ap, ap₂, ◌∙◌}
+use Rattle.std.proofs.Common.{◌≡◌, ℕ, List, refl, ap, ap₂, ◌∙◌}
 use Rattle.std.specs.Prelude.{not, length, option_map}
 use Rattle.list_model.specs.Ranges.{Selected}
 use Rattle.text_model.specs.declared.coords.Coord.{Coord}

@@ -1,7 +1,6 @@
-use Rattle.std.proofs.Common.{◌≡◌, ◌<◌, ℕ, List, length, map, sym, ap, ap₂, subst, ◌∙◌}
+use Rattle.std.proofs.Common.{◌≡◌, ℕ, List, map, sym, ap, ap₂, subst, ◌∙◌}
 use Rattle.std.proofs.lemmas.Result.{IfOk-weaker}
 use Rattle.selection_set.specs.Held.{selected}
-use Rattle.window_view.specs.Views.{window_seen}
 use Rattle.face_texts.specs.declared.rows.NamedFace.{NamedFace}
 use Rattle.face_texts.specs.Palettes.{palette_of}
 use Rattle.highlight_paint.specs.Painters.{Paints, painting}
@@ -9,9 +8,9 @@ use Rattle.highlight_paint.specs.Painting.{ArePainted}
 use Rattle.highlight_paint.specs.Numbers.{numbering, numbers_of, has_signs}
 use Rattle.line_painting.specs.declared.scene.Scene.{Scene}
 use Rattle.line_painting.specs.Lines.{text_part}
-use Rattle.kak_world.specs.Flat.{Flat, text_of, shown_of, faces_of}
+use Rattle.kak_world.specs.Flat.{Flat, shown_of, faces_of}
 use Rattle.text_model.specs.declared.coords.Coord.{Coord}
-use Rattle.draw_model.specs.Drawings.{paints_for, gutter_for}
+use Rattle.draw_model.specs.Drawings.{paints_for}
 use Rattle.draw_model.proofs.LooksLemmas.{window-drawn}
 use Rattle.draw_model.proofs.drawing.draw_window.Goals as goal
 

@@ -1,8 +1,8 @@
-use Rattle.std.proofs.Common.{List, ap, ap₂, ◌∙◌, sym}
+use Rattle.std.proofs.Common.{List, ap, ap₂, ◌∙◌}
 use Rattle.drawings.specs.declared.drawing.Atom.{Atom}
 use Rattle.std.specs.Str.{chars}
 use Rattle.edit_line.specs.Halves.{Halves}
-use Rattle.line_painting.specs.Atoms.{shown_in, with_all_shown, atoms_of}
+use Rattle.line_painting.specs.Atoms.{atoms_of}
 use Rattle.draw_model.specs.Drawings.{prompt_shown}
 use Rattle.draw_model.proofs.StatusLemmas.{name-chars, prompt-drawn}
 use Rattle.draw_model.proofs.status.prompt_line.Goals as goal

@@ -1,4 +1,4 @@
-use Rattle.std.proofs.Common.{◌≡◌, true, false, ◌||◌, sym, ap, ap₂, ◌∙◌, subst}
+use Rattle.std.proofs.Common.{◌≡◌, true, sym, ◌∙◌, subst}
 use Rattle.scope_options.specs.declared.scope.Scope.TheVariants.{Global, Buffer, Window}
 use Rattle.highlight_paint.specs.Painters.{painting_at, painting}
 use Rattle.highlight_paint.specs.Numbers.{has_signs}
