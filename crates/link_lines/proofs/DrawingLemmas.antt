@@ -136,8 +136,8 @@ line-asked : (read : Result Request Refusal) → AreAsked (played_by read)
 line-asked (Ok Nothing) = tt
 line-asked (Ok (Keys keys)) = keys-asked keys
 line-asked (Ok (Resize size)) = (refl, keys-asked [])
-line-asked (Ok (Scroll lines place)) = tt
-line-asked (Ok (Mouse mouse)) = tt
+line-asked (Ok (Scroll lines place)) = (refl, keys-asked [])
+line-asked (Ok (Mouse mouse)) = (refl, keys-asked [])
 line-asked (Ok MenuSelect) = tt
 line-asked (Err refusal) = tt
 

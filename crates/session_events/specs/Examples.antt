@@ -1,8 +1,9 @@
 -- Worked examples of what a client has missed, and of how many are here: clients 0 and 1 come, and 0 is drawn.
-use Rattle.std.specs.Prelude.{◌≡◌, true, false, List, [], ◌∷◌, ◌++◌}
+use Rattle.std.specs.Prelude.{◌≡◌, pos, true, false, List, [], ◌∷◌, ◌++◌}
 use Rattle.key_names.specs.declared.key.Key.{Key}
+use Rattle.mouse_events.specs.declared.mouse.Mouse.{Mouse}
 use Rattle.window_view.specs.Sizes.{sized}
-use Rattle.session_events.specs.declared.event.Event.TheVariants.{Join, Key as Struck, Resize, Refresh, Leave}
+use Rattle.session_events.specs.declared.event.Event.TheVariants.{Join, Key as Struck, Resize, Scroll, Mouse as Pointed, Refresh, Leave}
 use Rattle.session_events.specs.declared.event.Entry.{Entry}
 use Rattle.session_events.specs.Entries.{entry_of}
 use Rattle.session_events.specs.Counting.{AreNeverMore}
@@ -28,6 +29,9 @@ pub record Examples : Type 0 where
   -- and so is a resize, the client's own too
   pub resize_of_other : has_missed 0 (drawn ++ entry_of 1 (Resize (sized 2 3)) ∷ []) ≡ true
   pub own_resize : has_missed 0 (drawn ++ entry_of 0 (Resize (sized 2 3)) ∷ []) ≡ true
+  -- and so are scrolling and what a mouse does
+  pub own_scroll : has_missed 0 (drawn ++ entry_of 0 (Scroll (pos 3)) ∷ []) ≡ true
+  pub mouse_of_other : (mouse : Mouse) → has_missed 0 (drawn ++ entry_of 1 (Pointed mouse) ∷ []) ≡ true
   -- and so is the coming or the going of another
   pub going_of_other : has_missed 0 (drawn ++ entry_of 1 Leave ∷ []) ≡ true
   pub coming_of_other : has_missed 0 (drawn ++ entry_of 2 Join ∷ []) ≡ true

@@ -6,6 +6,7 @@ ghost use Rattle.session_events.specs.Meaning.{no_output};
 use byte_texts::Octets;
 use drawings::Drawing;
 use key_names::Key;
+use mouse_events::Mouse;
 use sequences::Seq;
 use window_view::Size;
 
@@ -18,6 +19,10 @@ pub enum Event {
     Key(Key),
     /// The windows of the client have so many rows and columns from now on.
     Resize(Size),
+    /// The client's window goes so many lines on, or back where that is below 0.
+    Scroll(i32),
+    /// A mouse was moved over the client's window, or a button was pressed or released there.
+    Mouse(Mouse),
     /// The client is drawn; the flag says whether it asked to be.
     Refresh(bool),
     /// The client goes.

@@ -26,6 +26,8 @@ pub fn kind_of(event: &Event) -> Kind
         Event::Join => Kind::Coming,
         Event::Key(_) => Kind::Doing,
         Event::Resize(_) => Kind::Doing,
+        Event::Scroll(_) => Kind::Doing,
+        Event::Mouse(_) => Kind::Doing,
         Event::Refresh(_) => Kind::Drawing,
         Event::Leave => Kind::Going,
     }

@@ -10,7 +10,7 @@ use Rattle.json_writing.specs.Refusals.{refusal_bytes}
 use Rattle.requests.specs.Reading.{Reads}
 use Rattle.session_turns.specs.Turns.{Protocol}
 use Rattle.session_events.specs.declared.event.Event.{Event}
-use Rattle.session_events.specs.declared.event.Event.TheVariants.{Join, Key as Struck, Resize as Resized, Refresh, Leave}
+use Rattle.session_events.specs.declared.event.Event.TheVariants.{Join, Key as Struck, Resize as Resized, Scroll as Scrolled, Mouse as Pointed, Refresh, Leave}
 
 -- keys are struck one by one, and then the client is drawn
 abbrev pub keys_played : List Key → List Event
@@ -21,8 +21,8 @@ abbrev pub events_asked : Request → Option (List Event)
 events_asked Nothing = None
 events_asked (Keys keys) = Some (map (λ key. Struck key) keys)
 events_asked (Resize size) = Some (Resized size ∷ [])
-events_asked (Scroll lines place) = None
-events_asked (Mouse mouse) = None
+events_asked (Scroll lines place) = Some (Scrolled lines ∷ [])
+events_asked (Mouse mouse) = Some (Pointed mouse ∷ [])
 events_asked MenuSelect = None
 
 -- events that were asked for, and then the client is drawn

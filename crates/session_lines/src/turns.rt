@@ -28,8 +28,8 @@ fn play_request<S: Seat>(alloc: Global, seat: &mut S, request: Request) -> Resul
         Request::Nothing => Ok(Reply::nothing()),
         Request::Keys(keys) => play_keys(alloc, seat, keys.as_slice()),
         Request::Resize(size) => play_event(alloc, seat, &Event::Resize(size)),
-        Request::Scroll(_, _) => Ok(Reply::nothing()),
-        Request::Mouse(_) => Ok(Reply::nothing()),
+        Request::Scroll(lines, _) => play_event(alloc, seat, &Event::Scroll(lines)),
+        Request::Mouse(mouse) => play_event(alloc, seat, &Event::Mouse(mouse)),
         Request::MenuSelect => Ok(Reply::nothing()),
     }
 }

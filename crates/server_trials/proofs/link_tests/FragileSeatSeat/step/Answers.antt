@@ -1,6 +1,6 @@
 use Rattle.std.proofs.Common.{◌≡◌, true, [], ◌∷◌, refl, sym, ap, ◌∙◌}
 use Rattle.session_events.specs.declared.event.Event.{Event}
-use Rattle.session_events.specs.declared.event.Event.TheVariants.{Join, Key as Struck, Resize, Refresh, Leave}
+use Rattle.session_events.specs.declared.event.Event.TheVariants.{Join, Key as Struck, Resize, Scroll, Mouse as Pointed, Refresh, Leave}
 use Rattle.session_events.specs.Entries.{entry_with, is_join}
 use Rattle.server_trials.proofs.link_tests.FragileSeatSeat.step.Goals as goal
 
@@ -9,6 +9,8 @@ join-is : (event : Event) → is_join event ≡ true → Join ≡ event
 join-is Join e = refl
 join-is (Struck key) e = cc
 join-is (Resize size) e = cc
+join-is (Scroll lines) e = cc
+join-is (Pointed mouse) e = cc
 join-is (Refresh asked) e = cc
 join-is Leave e = cc
 
