@@ -14,10 +14,10 @@ use Rattle.kak_world.specs.Flat.{Flat, is_joined}
 use Rattle.kak_engine.specs.Steps.{run}
 use Rattle.kak_engine.specs.Held.{EngineStands}
 
-pub known-joined : (flat : Flat) (h k : List Entry) (m n : Option ℕ) (limit : ℕ) (shelf : Shelf) (who : ℕ) → EngineStands flat h m limit shelf → h ≡ k → m ≡ n → n ≡ None → is_here (presence_from who Away k) ≡ true → is_joined who flat ≡ true
+pub known-joined : (flat : Flat) (h k : List Entry) (m n : Option ℕ) (limit : ℕ) (shelf : Option Shelf) (who : ℕ) → EngineStands flat h m limit shelf → h ≡ k → m ≡ n → n ≡ None → is_here (presence_from who Away k) ≡ true → is_joined who flat ≡ true
 known-joined flat h k m n limit shelf who s same mark free here = s.known (mark ∙ free) who ∙ ap (λ (e : List Entry). is_here (presence_from who Away e)) same ∙ here
 
-pub led-world : (flat : Flat) (h k : List Entry) (m n : Option ℕ) (limit : ℕ) (shelf : Shelf) → EngineStands flat h m limit shelf → h ≡ k → m ≡ n → n ≡ None → flat ≡ run k
+pub led-world : (flat : Flat) (h k : List Entry) (m n : Option ℕ) (limit : ℕ) (shelf : Option Shelf) → EngineStands flat h m limit shelf → h ≡ k → m ≡ n → n ≡ None → flat ≡ run k
 led-world flat h k m n limit shelf s same mark free = s.world (mark ∙ free) ∙ ap run same
 
 -- a list has as many ranges in a text as it has selections

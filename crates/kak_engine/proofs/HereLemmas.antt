@@ -3,7 +3,7 @@ use Rattle.std.proofs.Common.{◌≡◌, ℕ, ◌+◌, ◌<◌, ◌≤◌, Bool,
 use Rattle.std.specs.Prelude.{if◌then◌else◌, not, ◌==◌, filter}
 use Rattle.std.proofs.lemmas.List.{map-append, length-map}
 use Rattle.session_events.specs.declared.event.Event.{Event}
-use Rattle.session_events.specs.declared.event.Event.TheVariants.{Join, Key as Struck, Resize, Refresh, Leave}
+use Rattle.session_events.specs.declared.event.Event.TheVariants.{Join, Key as Struck, Resize, Scroll, Mouse as Pointed, Refresh, Leave}
 use Rattle.session_events.specs.declared.event.Answered.{Answered}
 use Rattle.session_events.specs.declared.event.Entry.{Entry}
 use Rattle.session_events.specs.Entries.{kind_of, is_join, entry_with}
@@ -14,7 +14,7 @@ use Rattle.kak_world.specs.declared.world.TheConstants.{MAX_CLIENTS}
 use Rattle.kak_world.specs.Flat.{Flat, opening, is_of, joined_by, left_by_client}
 use Rattle.kak_world.specs.Keeping.{whos_of}
 use Rattle.kak_engine.specs.Steps.{after_entry, after_event, run_from, run}
-use Rattle.kak_engine.proofs.KeepingLaws.{keeps_key, keeps_resize, keeps_refresh}
+use Rattle.kak_engine.proofs.KeepingLaws.{keeps_key, keeps_resize, keeps_scroll, keeps_mouse, keeps_refresh}
 
 whos-come : (who : ℕ) (flat : Flat) → whos_of (joined_by who flat).clients ≡ whos_of flat.clients ++ who ∷ []
 unfolding joined_by
@@ -37,6 +37,8 @@ whos-after : (who : ℕ) (event : Event) (answers : List Answered) (flat : Flat)
 whos-after who Join answers flat = whos-come who flat
 whos-after who (Struck key) answers flat = (keeps_key who key answers flat).whos
 whos-after who (Resize size) answers flat = (keeps_resize who size flat).whos
+whos-after who (Scroll lines) answers flat = (keeps_scroll who lines flat).whos
+whos-after who (Pointed mouse) answers flat = (keeps_mouse who mouse flat).whos
 whos-after who (Refresh asked) answers flat = (keeps_refresh who flat).whos
 whos-after who Leave answers flat = whos-go who flat
 

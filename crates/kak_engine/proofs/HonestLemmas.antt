@@ -15,10 +15,6 @@ use Rattle.kak_files.specs.Files.{FileRow, Shelf, ToldFiles, Reads, ReadIsCounte
 use Rattle.kak_files.specs.Exchanges.{Exchange, Read as WasRead, Written, Leads, Passed}
 use Rattle.kak_ports.specs.declared.sink.Put.{Put}
 use Rattle.kak_ports.specs.declared.sink.Put.TheVariants as put
-use Rattle.session_events.specs.declared.event.Event.{Event}
-use Rattle.session_events.specs.declared.event.Event.TheVariants.{Join}
-use Rattle.session_events.specs.declared.event.Entry.{Entry}
-use Rattle.kak_world.specs.Flat.{Flat}
 use Rattle.regex_ports.specs.Making.{Rose, IsCounted}
 use Rattle.regex_ports.specs.declared.maker.Made.{Made}
 use Rattle.regex_ports.specs.declared.maker.Made.TheVariants as maker
@@ -26,7 +22,6 @@ use Rattle.session_events.specs.declared.event.Answered.{Answered}
 use Rattle.kak_engine.specs.Answering.{made_told, is_built, read_told, put_told}
 use Rattle.kak_engine.specs.Asking.{Asked, OfPattern, OfFile, files_in}
 use Rattle.kak_engine.specs.Honesty.{Outside, at_opening, is_refused, Stood, CountsRefusal, IsHonest, MakesPattern, ReadsFile, WritesFile, IsKept}
-use Rattle.kak_engine.specs.Steps.{asked_by, IsStepCutShort, IsBegunBehind}
 use Rattle.kak_files.proofs.ExchangeLemmas.{leads-none, leads-trans, passed-none, passed-trans, passed-read, passed-written}
 
 -- a count that stands still, and one that doesn't fall
@@ -126,14 +121,6 @@ opening-same exchanges None None l = refl
 opening-same exchanges (Some old) (Some new) l = ap (λ o. opened o new.spare) l.opening ∙ ap (λ s. opened old.opening s) l.spare
 opening-same exchanges None (Some new) l = absurd l
 opening-same exchanges (Some old) None l = absurd l
-
--- an event that was cut short before the outside was asked
-pub cut-before : (who : ℕ) (event : Event) (flat : Flat) (x y : Outside) → y ≡ x → IsStepCutShort who event flat x y
-cut-before who event flat x y same = record { answers = []; asked = []; begins = (asked_by who event [] flat, refl); honest = honest-same x y same }
-
--- no event was begun
-pub none-begun : (history : List Entry) (x y : Outside) → y ≡ x → IsBegunBehind history x y
-none-begun history x y same = record { who = 0; event = Join; here = λ no. let e : true ≡ false = no in cc; cut = cut-before 0 Join _ x y same }
 
 -- more exchanges lead on from what the files hold
 kept-behind : (d e : List Exchange) (x y : Option ToldFiles) → Leads d (at_opening x) x → Leads e x y → Leads (d ++ e) (at_opening y) y

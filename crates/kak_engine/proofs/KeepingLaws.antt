@@ -1,8 +1,9 @@
 -- No key makes a client come or go, and what a row asks for takes no unit back.
-use Rattle.std.proofs.Common.{◌≡◌, ℕ, suc, ◌≤◌, ◌<◌, ◌+◌, ◌*◌, Bool, true, false, List, None, refl, ap, ◌∙◌, arith}
+use Rattle.std.proofs.Common.{◌≡◌, ℕ, suc, ◌≤◌, ◌<◌, ◌+◌, ◌*◌, ℤ, Bool, true, false, List, None, refl, ap, ◌∙◌, arith}
 use Rattle.std.specs.Prelude.{if◌then◌else◌}
 use Rattle.key_names.specs.declared.key.Key.{Key}
 use Rattle.window_view.specs.Sizes.{Dimensions}
+use Rattle.mouse_events.specs.declared.mouse.Mouse.{Mouse}
 use Rattle.kak_world.specs.declared.own.Mode.{Mode}
 use Rattle.kak_world.specs.declared.own.Mode.TheVariants.{Normal, Insert, Prompt}
 use Rattle.kak_world.specs.declared.own.StatusText.TheVariants.{Quiet, Refused}
@@ -17,13 +18,15 @@ use Rattle.insert_prompt.proofs.KeepingLaws.{keeps_insert, keeps_prompt}
 use Rattle.command_set.proofs.CommandLaws.{command_units, keeps_command}
 use Rattle.command_set.proofs.FileLaws.{read_falls, keeps_read, saved_falls, keeps_saved}
 use Rattle.command_set.proofs.FinishLaws.{finish_falls, keeps_finish}
-use Rattle.draw_model.specs.Drawings.{after_following}
+use Rattle.pointer_rows.specs.Scrolling.{scrolled}
+use Rattle.pointer_rows.proofs.KeepingLaws.{keeps_pointed, keeps_scrolled}
+use Rattle.draw_model.specs.Drawings.{after_following, gutter_for}
 use Rattle.session_events.specs.declared.event.Answered.{Answered}
 use Rattle.kak_engine.specs.declared.engine.TheConstants.{MAX_UNITS}
 use Rattle.kak_engine.specs.Course.{RunsKey}
 use Rattle.kak_engine.specs.Doing.{DoingEnd, Fine, Failed, GivenUp, Outcome, DoingPlace, beginning, run_task, Do, row_in, row_key, top, strike}
 use Rattle.draw_model.specs.Boxes.{with_drawn, box_for}
-use Rattle.kak_engine.specs.Steps.{told, begun, first_moment, ends_group, group_ended, key_ended, struck, after_key, shown_to, noted_drawn, resized}
+use Rattle.kak_engine.specs.Steps.{told, begun, first_moment, ends_group, group_ended, key_ended, struck, after_key, shown_to, noted_drawn, resized, after_scroll, pointed_by, after_mouse}
 use Rattle.kak_engine.specs.Laws.{KeepsPresence}
 use Rattle.kak_engine.proofs.CarryingLaws.{IsCarried, Keeps, keeps-unit, keeps-row, carried-do}
 
@@ -124,9 +127,9 @@ keeps-told who (GivenUp text) flat = keeps_own who (λ o. record o { status = Re
 
 keeps-begun : (who : ℕ) (flat : Flat) → KeepsPresence flat (begun who flat)
 keeps-begun who flat =
-    let quiet : Flat = with_own who (λ o. record o { status = Quiet; info = None }) flat in
+    let quiet : Flat = with_own who (λ o. record o { status = Quiet; info = None; dragging = false }) flat in
     let ready : Flat = with_units MAX_UNITS quiet in
-    present-behind flat ready (begun who flat) (clients-present flat ready (keeps_after flat quiet ready (keeps_own who (λ o. record o { status = Quiet; info = None }) flat) (keeps_units MAX_UNITS quiet))) (present-turn who ready)
+    present-behind flat ready (begun who flat) (clients-present flat ready (keeps_after flat quiet ready (keeps_own who (λ o. record o { status = Quiet; info = None; dragging = false }) flat) (keeps_units MAX_UNITS quiet))) (present-turn who ready)
 
 keeps-group : (mode : Mode) (who : ℕ) (flat : Flat) → KeepsClients flat (ends_group mode who flat)
 keeps-group Insert who flat = keeps_same flat
@@ -157,6 +160,18 @@ keeps_key who key answers flat =
 -- a resize
 pub keeps_resize : (who : ℕ) (size : Dimensions) (flat : Flat) → KeepsPresence flat (resized who size flat)
 keeps_resize who size flat = clients-present flat _ (keeps_own who (λ o. record o { size = size }) flat)
+
+-- scrolling, and what a mouse does
+keeps-stepped : (who : ℕ) (f : Flat → Flat) (flat : Flat) → ((x : Flat) → KeepsClients x (f x)) → KeepsPresence flat (step_ended (f (takes_turn who flat)))
+keeps-stepped who f flat keeps =
+    let turned : Flat = takes_turn who flat in
+    present-behind flat (f turned) (step_ended (f turned)) (present-behind flat turned (f turned) (present-turn who flat) (clients-present turned (f turned) (keeps turned))) (present-ended (f turned))
+
+pub keeps_scroll : (who : ℕ) (lines : ℤ) (flat : Flat) → KeepsPresence flat (after_scroll who lines flat)
+keeps_scroll who lines flat = keeps-stepped who (scrolled who lines) flat (keeps_scrolled who lines)
+
+pub keeps_mouse : (who : ℕ) (mouse : Mouse) (flat : Flat) → KeepsPresence flat (after_mouse who mouse flat)
+keeps_mouse who mouse flat = keeps-stepped who (pointed_by who mouse) flat (λ x. keeps_pointed who (gutter_for who x) mouse x)
 
 -- a refresh
 pub keeps_refresh : (who : ℕ) (flat : Flat) → KeepsPresence flat (noted_drawn who (shown_to who flat))

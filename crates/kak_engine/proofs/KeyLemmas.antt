@@ -5,7 +5,7 @@ use Rattle.key_names.specs.declared.key.Key.{Key}
 use Rattle.kak_world.specs.Flat.{Flat, is_client_leaving, step_ended}
 use Rattle.session_turns.specs.Growth.{Begins}
 use Rattle.session_events.specs.declared.event.Event.{Event}
-use Rattle.session_events.specs.declared.event.Event.TheVariants.{Join, Resize, Refresh, Leave, Key as Struck}
+use Rattle.session_events.specs.declared.event.Event.TheVariants.{Join, Key as Struck, Resize, Scroll, Mouse as Pointed, Refresh, Leave}
 use Rattle.session_events.specs.declared.event.Answered.{Answered}
 use Rattle.session_events.specs.Entries.{is_join}
 use Rattle.kak_engine.specs.declared.doing.Ending.{Ending}
@@ -120,6 +120,8 @@ pub left-coming : (who : ℕ) (event : Event) (old : Flat) (o : Outside) → is_
 left-coming who Join old o comes = left-before who Join old old o refl
 left-coming who (Struck key) old o comes = absurd (let no : false ≡ true = comes in cc)
 left-coming who (Resize size) old o comes = absurd (let no : false ≡ true = comes in cc)
+left-coming who (Scroll lines) old o comes = absurd (let no : false ≡ true = comes in cc)
+left-coming who (Pointed mouse) old o comes = absurd (let no : false ≡ true = comes in cc)
 left-coming who (Refresh asked) old o comes = absurd (let no : false ≡ true = comes in cc)
 left-coming who Leave old o comes = absurd (let no : false ≡ true = comes in cc)
 

@@ -14,6 +14,7 @@ pub mod LegalLemmas
 pub mod LoopLemmas
 pub mod PresenceLemmas
 pub mod RunLemmas
+pub mod RescueLemmas
 pub mod SeatingLemmas
 pub mod WhyLemmas
 pub mod StageLemmas

@@ -10,7 +10,7 @@ use Rattle.kak_world.specs.Flat.{Flat, is_here as is_among, is_joined, left_by_c
 use Rattle.kak_world.specs.Keeping.{whos_of}
 use Rattle.kak_world.proofs.KeepingLaws.{here_come, count_come, joined_others_come, here_goes, here_others_go, count_goes, joined_goes, joined_others_go, here_joined}
 use Rattle.session_events.specs.declared.event.Event.{Event}
-use Rattle.session_events.specs.declared.event.Event.TheVariants.{Join, Key as Struck, Resize, Refresh, Leave}
+use Rattle.session_events.specs.declared.event.Event.TheVariants.{Join, Key as Struck, Resize, Scroll, Mouse as Pointed, Refresh, Leave}
 use Rattle.session_events.specs.declared.event.Answered.{Answered}
 use Rattle.session_events.specs.declared.kind.Kind.{Kind}
 use Rattle.session_events.specs.declared.kind.Kind.TheVariants.{Coming, Doing, Drawing, Going}
@@ -19,7 +19,7 @@ use Rattle.session_events.specs.Legal.{Presence, is_here, presence_after}
 use Rattle.kak_engine.specs.Steps.{after_event}
 use Rattle.kak_engine.specs.Held.{CanRun}
 use Rattle.kak_engine.specs.Laws.{KeepsPresence, StaysThere}
-use Rattle.kak_engine.proofs.KeepingLaws.{keeps_key, keeps_resize, keeps_refresh}
+use Rattle.kak_engine.proofs.KeepingLaws.{keeps_key, keeps_resize, keeps_scroll, keeps_mouse, keeps_refresh}
 
 -- whether a client is there behind an event of some kind, which is its own or not, by whether it was there
 abbrev pub there_after : Kind → Bool → Bool → Bool
@@ -68,6 +68,8 @@ pub here-after : (k who : ℕ) (event : Event) (answers : List Answered) (flat :
 here-after k who Join answers flat = here_come k who flat ∙ come (is_among k flat.clients) (who == k)
 here-after k who (Struck key) answers flat = here-same k flat _ (keeps_key who key answers flat)
 here-after k who (Resize size) answers flat = here-same k flat _ (keeps_resize who size flat)
+here-after k who (Scroll lines) answers flat = here-same k flat _ (keeps_scroll who lines flat)
+here-after k who (Pointed mouse) answers flat = here-same k flat _ (keeps_mouse who mouse flat)
 here-after k who (Refresh asked) answers flat = here-same k flat _ (keeps_refresh who flat)
 here-after k who Leave answers flat = by (who == k) refl
   where
@@ -85,6 +87,8 @@ joined-after k who Join answers flat same came = by (who == k) refl
     by false e = joined_others_come k who flat e
 joined-after k who (Struck key) answers flat same came = joined-same k flat _ (keeps_key who key answers flat) same
 joined-after k who (Resize size) answers flat same came = joined-same k flat _ (keeps_resize who size flat) same
+joined-after k who (Scroll lines) answers flat same came = joined-same k flat _ (keeps_scroll who lines flat) same
+joined-after k who (Pointed mouse) answers flat same came = joined-same k flat _ (keeps_mouse who mouse flat) same
 joined-after k who (Refresh asked) answers flat same came = joined-same k flat _ (keeps_refresh who flat) same
 joined-after k who Leave answers flat same came = by (who == k) refl
   where
@@ -97,6 +101,8 @@ pub few-after : (who : ℕ) (event : Event) (answers : List Answered) (flat : Fl
 few-after who Join answers flat can few = omega (arith, count_come who flat, can.few)
 few-after who (Struck key) answers flat can few = omega (arith, count-same flat _ (keeps_key who key answers flat), few)
 few-after who (Resize size) answers flat can few = omega (arith, count-same flat _ (keeps_resize who size flat), few)
+few-after who (Scroll lines) answers flat can few = omega (arith, count-same flat _ (keeps_scroll who lines flat), few)
+few-after who (Pointed mouse) answers flat can few = omega (arith, count-same flat _ (keeps_mouse who mouse flat), few)
 few-after who (Refresh asked) answers flat can few = omega (arith, count-same flat _ (keeps_refresh who flat), few)
 few-after who Leave answers flat can few = omega (arith, count_goes who flat (here_joined who flat can), few)
 
@@ -117,5 +123,7 @@ others_stay who k event answers flat other = record {
     stays Join j = joined_others_come k who flat (ne_eqb who k other) ∙ j
     stays (Struck key) j = (keeps_key who key answers flat).joined k j
     stays (Resize size) j = (keeps_resize who size flat).joined k j
+    stays (Scroll lines) j = (keeps_scroll who lines flat).joined k j
+    stays (Pointed mouse) j = (keeps_mouse who mouse flat).joined k j
     stays (Refresh asked) j = (keeps_refresh who flat).joined k j
     stays Leave j = joined_others_go k who flat (ne_eqb who k other) ∙ j

@@ -1,5 +1,5 @@
 -- The world after one more entry.
-use Rattle.std.proofs.Common.{◌≡◌, ℕ, zero, suc, ◌≤◌, true, false, List, [], ◌∷◌, ◌++◌, length, drop, refl, sym, ap, ◌∙◌, subst, arith, append-nil}
+use Rattle.std.proofs.Common.{◌≡◌, ℕ, zero, suc, ◌≤◌, Bool, true, false, List, [], ◌∷◌, ◌++◌, length, drop, refl, sym, ap, ◌∙◌, subst, arith, append-nil}
 use Rattle.std.specs.Prelude.{Some, None, IfSome, ◌==◌}
 use Rattle.std.specs.declared.option.Option.{Option}
 use Rattle.std.proofs.lemmas.List.{append_assoc}
@@ -8,7 +8,7 @@ use Rattle.kak_files.specs.Exchanges.{Exchange}
 use Rattle.kak_world.specs.declared.world.TheConstants.{MAX_CLIENTS}
 use Rattle.kak_world.specs.Flat.{Flat, opening, is_here as is_among, is_joined}
 use Rattle.session_events.specs.declared.event.Event.{Event}
-use Rattle.session_events.specs.declared.event.Event.TheVariants.{Join, Key as Struck, Resize, Refresh, Leave}
+use Rattle.session_events.specs.declared.event.Event.TheVariants.{Join, Key as Struck, Resize, Scroll, Mouse as Pointed, Refresh, Leave}
 use Rattle.session_events.specs.declared.event.Answered.{Answered}
 use Rattle.session_events.specs.declared.event.Entry.{Entry}
 use Rattle.session_events.specs.declared.kind.Kind.{Kind}
@@ -17,7 +17,7 @@ use Rattle.session_events.specs.Entries.{kind_of, is_going, is_join, is_leave, e
 use Rattle.session_events.specs.Legal.{Away, is_here, presence_from, AreLeavings, IsLegal}
 use Rattle.kak_engine.specs.Asking.{Asked, files_in}
 use Rattle.kak_engine.specs.Steps.{after_entry, after_event, asked_by, asked_from, asked_in, exchanges, run_from, run, AreAskedFor, AllAskedFrom, AllAsked, IsStepLeft}
-use Rattle.kak_engine.specs.Held.{EngineStands, CanRun, refused_at, refused_by}
+use Rattle.kak_engine.specs.Held.{EngineStands, CanRun, files_told, refused_at, refused_by}
 use Rattle.kak_engine.specs.Honesty.{Outside, IsUntouched, IsHonest, IsKept}
 use Rattle.kak_engine.proofs.HereLemmas.{few-more}
 use Rattle.kak_engine.proofs.HonestLemmas.{files_in-append, honest-none, kept-first, kept-more}
@@ -46,7 +46,7 @@ refused-none None history limit who event e = e
 refused-none (Some at) history limit who event e = cc
 
 -- an event that such an engine doesn't refuse can be run
-pub can-step : (flat : Flat) (history : List Entry) (mark : Option ℕ) (limit : ℕ) (shelf : Shelf) (who : ℕ) (event : Event) → EngineStands flat history mark limit shelf → refused_at mark history limit who event ≡ None → CanRun (kind_of event) who flat
+pub can-step : (flat : Flat) (history : List Entry) (mark : Option ℕ) (limit : ℕ) (shelf : Option Shelf) (who : ℕ) (event : Event) → EngineStands flat history mark limit shelf → refused_at mark history limit who event ≡ None → CanRun (kind_of event) who flat
 can-step flat history mark limit shelf who event s r =
     let free : mark ≡ None = mark-none mark history limit who event r in
     can-run history limit who event flat (s.world free) (s.known free) (s.here free) s.legal (refused-none mark history limit who event r)
@@ -68,7 +68,7 @@ asked_in-more flat (e ∷ history) who event answers =
     ∙ sym (append_assoc (asked_by e.who e.event e.answers flat) (asked_from (after_entry e flat) history) (asked_by who event answers (run_from (after_entry e flat) history)))
 
 -- an engine to which nothing happened stands
-pub stands-first : (flat : Flat) (history : List Entry) (limit : ℕ) (shelf : Shelf) → flat ≡ opening → history ≡ [] → IsUntouched shelf.told → EngineStands flat history None limit shelf
+pub stands-first : (flat : Flat) (history : List Entry) (limit : ℕ) (shelf : Shelf) → flat ≡ opening → history ≡ [] → IsUntouched shelf.told → EngineStands flat history None limit (Some shelf)
 stands-first flat history limit shelf e k fresh = record {
   world = λ m. e ∙ ap run (sym k);
   known = λ m q. ap (is_joined q) e ∙ nobody-joined q ∙ ap (λ h. is_here (presence_from q Away h)) (sym k);
@@ -81,10 +81,10 @@ stands-first flat history limit shelf e k fresh = record {
 }
 
 -- an engine goes on to stand
-pub stands-more : (before now : Flat) (history new : List Entry) (mark : Option ℕ) (limit : ℕ) (x y : Outside) (who : ℕ) (event : Event) (answers : List Answered) → EngineStands before history mark limit x.shelf → refused_at mark history limit who event ≡ None
+pub stands-more : (before now : Flat) (history new : List Entry) (mark : Option ℕ) (limit : ℕ) (rescued : Bool) (x y : Outside) (who : ℕ) (event : Event) (answers : List Answered) → EngineStands before history mark limit (files_told rescued x.shelf) → refused_at mark history limit who event ≡ None
     → (is_join event ≡ true → is_joined who now ≡ true) → now ≡ after_event who event answers before → AreAskedFor who event answers before → IsHonest answers (asked_by who event answers before) x y → new ≡ history ++ entry_with who event answers ∷ []
-    → EngineStands now new mark limit y.shelf
-stands-more before now history new mark limit x y who event answers s r came n asks honest k =
+    → EngineStands now new mark limit (files_told rescued y.shelf)
+stands-more before now history new mark limit rescued x y who event answers s r came n asks honest k =
     let free : mark ≡ None = mark-none mark history limit who event r in
     let a = allowed history limit who event (refused-none mark history limit who event r) in
     let same : before ≡ run history = s.world free in
@@ -93,8 +93,8 @@ stands-more before now history new mark limit x y who event answers s r came n a
       world = λ m. n ∙ ap (after_event who event answers) same ∙ sym (run-more history who event answers) ∙ ap run (sym k);
       known = λ m q. ap (is_joined q) n ∙ joined-after q who event answers before (s.known free q ∙ sym (s.here free q)) came_after ∙ ap (there_after (kind_of event) (who == q)) (s.known free q) ∙ behind q;
       here = λ m q. ap (λ f. is_among q f.clients) n ∙ here-after q who event answers before ∙ ap (there_after (kind_of event) (who == q)) (s.here free q) ∙ behind q;
-      few = λ m. subst (λ f. length f.clients ≤ MAX_CLIENTS) (sym n) (few-after who event answers before (can-step before history mark limit x.shelf who event s r) (s.few free));
-      kept = λ m. subst (λ (e : List Exchange). IsKept e y.shelf) (all same) (kept-more answers (exchanges history) (asked_by who event answers before) x y (s.kept free) honest);
+      few = λ m. subst (λ f. length f.clients ≤ MAX_CLIENTS) (sym n) (few-after who event answers before (can-step before history mark limit (files_told rescued x.shelf) who event s r) (s.few free));
+      kept = λ m. kept-on rescued same (s.kept free);
       legal = subst (IsLegal limit) (sym k) (record {
         lives = lives-more history limit who event answers s.legal.lives a;
         within = within-more history limit who event answers s.legal.within a;
@@ -114,15 +114,26 @@ stands-more before now history new mark limit x y who event answers s r came n a
         ∙ ap files_in (sym (asked_in-more opening history who event answers))
         ∙ ap exchanges (sym k)
 
+    kept-on : (r : Bool) → before ≡ run history → IfSome (files_told r x.shelf) (IsKept (exchanges history)) → IfSome (files_told r y.shelf) (IsKept (exchanges new))
+    kept-on true same was = tt
+    kept-on false same was = subst (λ (e : List Exchange). IsKept e y.shelf) (all same) (kept-more answers (exchanges history) (asked_by who event answers before) x y was honest)
+
 -- behind a going
-pub left-stands : (before now : Flat) (history new : List Entry) (mark : Option ℕ) (limit : ℕ) (shelf : Shelf) (who : ℕ) (event : Event) → EngineStands before history mark limit shelf → refused_at mark history limit who event ≡ None
-    → is_leave event ≡ true → now ≡ after_event who Leave [] before → new ≡ history ++ entry_of who Leave ∷ [] → EngineStands now new mark limit shelf
-left-stands before now history new mark limit shelf who Leave s r goes n k =
+gone-stands : (before now : Flat) (history new : List Entry) (mark : Option ℕ) (limit : ℕ) (rescued : Bool) (shelf : Shelf) (who : ℕ) → EngineStands before history mark limit (files_told rescued shelf) → refused_at mark history limit who Leave ≡ None
+    → now ≡ after_event who Leave [] before → new ≡ history ++ entry_of who Leave ∷ [] → EngineStands now new mark limit (files_told rescued shelf)
+gone-stands before now history new mark limit rescued shelf who s r n k =
     let o : Outside = record { shelf = shelf; refusals = 0; asked = [] } in
-    stands-more before now history new mark limit o o who Leave [] s r (λ j. let no : false ≡ true = j in cc) n refl (honest-none o) k
+    stands-more before now history new mark limit rescued o o who Leave [] s r (λ j. let no : false ≡ true = j in cc) n refl (honest-none o) k
+
+pub left-stands : (before now : Flat) (history new : List Entry) (mark : Option ℕ) (limit : ℕ) (shelf : Option Shelf) (who : ℕ) (event : Event) → EngineStands before history mark limit shelf → refused_at mark history limit who event ≡ None
+    → is_leave event ≡ true → now ≡ after_event who Leave [] before → new ≡ history ++ entry_of who Leave ∷ [] → EngineStands now new mark limit shelf
+left-stands before now history new mark limit (Some shelf) who Leave s r goes n k = gone-stands before now history new mark limit false shelf who s r n k
+left-stands before now history new mark limit None who Leave s r goes n k = gone-stands before now history new mark limit true (record { told = None; faults = 0 }) who s r n k
 left-stands before now history new mark limit shelf who Join s r goes n k = cc
 left-stands before now history new mark limit shelf who (Struck key) s r goes n k = cc
 left-stands before now history new mark limit shelf who (Resize size) s r goes n k = cc
+left-stands before now history new mark limit shelf who (Scroll lines) s r goes n k = cc
+left-stands before now history new mark limit shelf who (Pointed mouse) s r goes n k = cc
 left-stands before now history new mark limit shelf who (Refresh asked) s r goes n k = cc
 
 -- who leaves has joined
@@ -133,7 +144,7 @@ leaver-joined who Doing flat goes can = cc
 leaver-joined who Drawing flat goes can = cc
 
 -- an engine that broke
-pub stands-broken : (flat now : Flat) (history new : List Entry) (mark : Option ℕ) (limit at : ℕ) (x y : Shelf) → EngineStands flat history mark limit x → new ≡ history → at ≡ length new → EngineStands now new (Some at) limit y
+pub stands-broken : (flat now : Flat) (history new : List Entry) (mark : Option ℕ) (limit at : ℕ) (x y : Option Shelf) → EngineStands flat history mark limit x → new ≡ history → at ≡ length new → EngineStands now new (Some at) limit y
 stands-broken flat now history new mark limit at x y s e count = record { world = λ m. cc; known = λ m. cc; here = λ m. cc; few = λ m. cc; kept = λ m. cc; legal = subst (IsLegal limit) (sym e) s.legal; asked = subst AllAsked (sym e) s.asked; marked = count }
 
 -- a client that made an event, and didn't leave by it, is here behind the longer history
@@ -141,6 +152,15 @@ pub in-more : (history new : List Entry) (mark : Option ℕ) (limit who : ℕ) (
 in-more history new mark limit who event answers r = in-behind history new limit who event answers (refused-none mark history limit who event r)
 
 -- an event that was cut short, on the world that the history led to
-pub left-known : (flat new : Flat) (history : List Entry) (mark : Option ℕ) (limit : ℕ) (shelf : Shelf) (who : ℕ) (event : Event) (x y : Outside) → EngineStands flat history mark limit shelf → refused_at mark history limit who event ≡ None
+pub left-known : (flat new : Flat) (history : List Entry) (mark : Option ℕ) (limit : ℕ) (shelf : Option Shelf) (who : ℕ) (event : Event) (x y : Outside) → EngineStands flat history mark limit shelf → refused_at mark history limit who event ≡ None
     → IsStepLeft who event flat new x y → IsStepLeft who event (run history) new x y
 left-known flat new history mark limit shelf who event x y s r cut = subst (λ f. IsStepLeft who event f new x y) (s.world (mark-none mark history limit who event r)) cut
+
+-- where a history tells all that was exchanged with the files, it tells what they hold
+pub kept-told : (rescued : Bool) (exchanges : List Exchange) (shelf : Shelf) → rescued ≡ false → IfSome (files_told rescued shelf) (IsKept exchanges) → IsKept exchanges shelf
+kept-told true exchanges shelf e kept = cc
+kept-told false exchanges shelf e kept = kept
+
+-- an engine that isn't broken, and whose texts were rescued
+pub stands-rescued : (flat : Flat) (history : List Entry) (mark : Option ℕ) (limit : ℕ) (shelf : Option Shelf) → EngineStands flat history mark limit shelf → EngineStands flat history mark limit None
+stands-rescued flat history mark limit shelf s = record { world = s.world; known = s.known; here = s.here; few = s.few; kept = λ m. tt; legal = s.legal; asked = s.asked; marked = s.marked }

@@ -6,7 +6,7 @@ use Rattle.kak_files.specs.Files.{Shelf}
 use Rattle.kak_world.specs.declared.world.Stepping.{Stepping}
 use Rattle.kak_world.specs.Flat.{Flat, turn_of, rest_of, between_steps, opening, is_client_leaving, joined_by, left_by_client, with_own, with_rest}
 use Rattle.session_events.specs.declared.event.Event.{Event}
-use Rattle.session_events.specs.declared.event.Event.TheVariants.{Join, Key as Struck, Resize, Refresh, Leave}
+use Rattle.session_events.specs.declared.event.Event.TheVariants.{Join, Key as Struck, Resize, Scroll, Mouse as Pointed, Refresh, Leave}
 use Rattle.session_events.specs.declared.event.Answered.{Answered}
 use Rattle.session_events.specs.declared.event.Entry.{Entry}
 use Rattle.kak_engine.specs.Held.{EngineStands}
@@ -25,6 +25,8 @@ unfolding joined_by with_rest left_by_client with_own
 step-event who Join answers flat e = e
 step-event who (Struck key) answers flat e = step-key who key answers flat e
 step-event who (Resize size) answers flat e = e
+step-event who (Scroll lines) answers flat e = refl
+step-event who (Pointed mouse) answers flat e = refl
 step-event who (Refresh asked) answers flat e = refl
 step-event who Leave answers flat e = e
 
@@ -40,5 +42,5 @@ unfolding rest_of
 nobody-behind history = ap (λ (s : Stepping). s.turn) (steps_end history)
 
 -- between steps it is nobody's turn
-pub nobody-turns : (flat : Flat) (history : List Entry) (mark : Option ℕ) (limit : ℕ) (shelf : Shelf) → EngineStands flat history mark limit shelf → mark ≡ None → turn_of flat ≡ None
+pub nobody-turns : (flat : Flat) (history : List Entry) (mark : Option ℕ) (limit : ℕ) (shelf : Option Shelf) → EngineStands flat history mark limit shelf → mark ≡ None → turn_of flat ≡ None
 nobody-turns flat history mark limit shelf s m = ap turn_of (s.world m) ∙ nobody-behind history

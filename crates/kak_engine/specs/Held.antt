@@ -1,5 +1,5 @@
 -- What an engine holds, and which events it refuses.
-use Rattle.std.specs.Prelude.{◌≡◌, ◌≤◌, ◌<◌, ◌+◌, ℕ, true, false, not, ◌&&◌, nat_le, if◌then◌else◌, List, [], ◌∷◌, ◌++◌, length, IfSome, None, Some, Err}
+use Rattle.std.specs.Prelude.{◌≡◌, ◌≤◌, ◌<◌, ◌+◌, ℕ, Bool, true, false, not, ◌&&◌, nat_le, if◌then◌else◌, List, [], ◌∷◌, ◌++◌, length, IfSome, None, Some, Err}
 use Rattle.std.specs.declared.option.Option.{Option}
 use Rattle.std.specs.declared.result.Result.{Result}
 use Rattle.session_events.specs.declared.event.Event.{Event}
@@ -35,16 +35,24 @@ pub record HeldEngine : Type 0 where
   pub inside : Flat
   -- the selection lists on each buffer, as they are stored
   pub stored : List (Option Stored)
+  -- whether its texts were rescued
+  pub rescued : Bool
+
+-- the files of an engine, where its history tells all that was exchanged with them: a rescue stands in no history
+abbrev pub files_told : Bool → Shelf → Option Shelf
+files_told true shelf = None
+files_told false shelf = Some shelf
 
 -- An engine that isn't broken has the world that its history leads to, in which those clients are, and have joined, that
 -- have come and not gone, and no more than there may be. What was exchanged with its files in its history is what led to
--- what they hold. Its history is one that there can be. One that is broken has the number of its entries as its mark.
-pub record EngineStands (flat : Flat) (history : List Entry) (mark : Option ℕ) (limit : ℕ) (shelf : Shelf) : Type 0 where
+-- what they hold, where its history tells all of them. Its history is one that there can be. One that is broken has the number of
+-- its entries as its mark.
+pub record EngineStands (flat : Flat) (history : List Entry) (mark : Option ℕ) (limit : ℕ) (shelf : Option Shelf) : Type 0 where
   pub world : mark ≡ None → flat ≡ run history
   pub known : mark ≡ None → (who : ℕ) → is_joined who flat ≡ is_here (presence_from who Away history)
   pub here : mark ≡ None → (who : ℕ) → is_among who flat.clients ≡ is_here (presence_from who Away history)
   pub few : mark ≡ None → length flat.clients ≤ MAX_CLIENTS
-  pub kept : mark ≡ None → IsKept (exchanges history) shelf
+  pub kept : mark ≡ None → IfSome shelf (IsKept (exchanges history))
   pub legal : IsLegal limit history
   pub asked : AllAsked history
   pub marked : IfSome mark (λ at. at ≡ length history)
@@ -101,7 +109,7 @@ pub record TakesEvent (who : ℕ) (event : Event) (old new : HeldEngine) (output
 
 -- an engine to which nothing happened
 abbrev pub new_engine : Outside → ℕ → HeldEngine
-new_engine outside limit = record { history = []; mark = None; limit = limit; outside = outside; inside = opening; stored = first_stored }
+new_engine outside limit = record { history = []; mark = None; limit = limit; outside = outside; inside = opening; stored = first_stored; rescued = false }
 
 -- an event of a client was begun, and memory was wanting: the world inside is left by it
 abbrev pub LeavesInside : ℕ → Event → HeldEngine → HeldEngine → Type 0

@@ -8,7 +8,10 @@ pub mod Steps
 pub mod Honesty
 pub mod Seen
 pub mod Held
+pub mod Rescue
 pub mod Joined
 pub mod Seating
 pub mod Laws
 pub mod Examples
+pub mod RescueExamples
+pub mod MouseExamples

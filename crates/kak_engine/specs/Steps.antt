@@ -1,8 +1,9 @@
 -- The steps of a session: what each entry of its history does to the world, and what it gives its client.
-use Rattle.std.specs.Prelude.{◌≡◌, ◌⊎◌, ℕ, Bool, true, false, not, ◌&&◌, nat_le, if◌then◌else◌, List, [], ◌∷◌, ◌++◌, length, Some, None, ⊤}
+use Rattle.std.specs.Prelude.{◌≡◌, ◌⊎◌, ℕ, ℤ, Bool, true, false, not, ◌&&◌, nat_le, if◌then◌else◌, List, [], ◌∷◌, ◌++◌, length, Some, None, ⊤}
 use Rattle.kak_files.specs.Exchanges.{Exchange}
 use Rattle.session_turns.specs.Growth.{Begins}
 use Rattle.key_names.specs.declared.key.Key.{Key}
+use Rattle.mouse_events.specs.declared.mouse.Mouse.{Mouse}
 use Rattle.kak_world.specs.declared.own.Mode.{Mode}
 use Rattle.kak_world.specs.declared.own.Mode.TheVariants.{Normal, Insert, Prompt}
 use Rattle.kak_world.specs.declared.own.StatusText.TheVariants.{Quiet, Refused}
@@ -10,16 +11,16 @@ use Rattle.kak_world.specs.declared.world.TheConstants.{MAX_CLIENTS}
 use Rattle.kak_world.specs.Flat.{Flat, opening, joined_by, left_by_client, mode_of, is_client_leaving, with_own, with_units, takes_turn, step_ended}
 use Rattle.kak_world.specs.Changing.{commits}
 use Rattle.window_view.specs.Sizes.{Dimensions}
+use Rattle.pointer_rows.specs.Pointing.{pointed}
+use Rattle.pointer_rows.specs.Scrolling.{scrolled}
 use Rattle.draw_model.specs.Boxes.{with_drawn}
-use Rattle.draw_model.specs.Drawings.{drawing_of, after_following}
+use Rattle.draw_model.specs.Drawings.{drawing_of, after_following, gutter_for}
 use Rattle.kak_engine.specs.declared.engine.TheConstants.{MAX_UNITS}
 use Rattle.session_events.specs.declared.event.Event.{Event}
-use Rattle.session_events.specs.declared.event.Event.TheVariants.{Join, Key as Struck, Resize, Refresh, Leave}
+use Rattle.session_events.specs.declared.event.Event.TheVariants.{Join, Key as Struck, Resize, Scroll, Mouse as Pointed, Refresh, Leave}
 use Rattle.session_events.specs.declared.event.Answered.{Answered}
 use Rattle.session_events.specs.declared.event.Entry.{Entry}
 use Rattle.session_events.specs.declared.event.Output.{Output}
-use Rattle.session_events.specs.Entries.{is_join}
-use Rattle.session_events.specs.Legal.{Away, is_here, presence_from}
 use Rattle.session_events.specs.Meaning.{no_output}
 use Rattle.kak_engine.specs.Asking.{Asked, files_in}
 use Rattle.kak_engine.specs.Course.{Happened, asks_in}
@@ -37,9 +38,10 @@ told who Fine flat = flat
 told who (Failed text) flat = refused who text flat
 told who (GivenUp text) flat = refused who text flat
 
--- the world when a key begins: its client has no status and no box, the step has all of its units, and it is the client's turn
+-- the world when a key begins: its client has no status and no box, and is dragging no more; the step has all of its units, and it
+-- is the client's turn
 abbrev pub begun : ℕ → Flat → Flat
-begun who flat = takes_turn who (with_units MAX_UNITS (with_own who (λ o. record o { status = Quiet; info = None }) flat))
+begun who flat = takes_turn who (with_units MAX_UNITS (with_own who (λ o. record o { status = Quiet; info = None; dragging = false }) flat))
 
 -- the moment when a key begins
 abbrev pub first_moment : ℕ → Flat → List Answered → Moment
@@ -93,11 +95,26 @@ noted_drawn who flat = step_ended (with_drawn who flat)
 abbrev pub resized : ℕ → Dimensions → Flat → Flat
 resized who size flat = with_own who (λ o. record o { size = size }) flat
 
+-- the world behind scrolling in a client's window: it is the client's turn meanwhile. No unit is there to be taken, and the
+-- status, the box, the count and what is pending stay
+abbrev pub after_scroll : ℕ → ℤ → Flat → Flat
+after_scroll who lines flat = step_ended (scrolled who lines (takes_turn who flat))
+
+-- what a mouse did over a client's window, behind the cells of numbers that stand there before the text
+abbrev pub pointed_by : ℕ → Mouse → Flat → Flat
+pointed_by who mouse flat = pointed who (gutter_for who flat) mouse flat
+
+-- the world behind that, in the same way
+abbrev pub after_mouse : ℕ → Mouse → Flat → Flat
+after_mouse who mouse flat = step_ended (pointed_by who mouse (takes_turn who flat))
+
 -- the world after an event of a client
 abbrev pub after_event : ℕ → Event → List Answered → Flat → Flat
 after_event who Join answers flat = joined_by who flat
 after_event who (Struck key) answers flat = after_key who key answers flat
 after_event who (Resize size) answers flat = resized who size flat
+after_event who (Scroll lines) answers flat = after_scroll who lines flat
+after_event who (Pointed mouse) answers flat = after_mouse who mouse flat
 after_event who (Refresh asked) answers flat = noted_drawn who (shown_to who flat)
 after_event who Leave answers flat = left_by_client who flat
 
@@ -110,6 +127,8 @@ abbrev pub output_of : ℕ → Event → List Answered → Flat → Output
 output_of who Join answers flat = no_output
 output_of who (Struck key) answers flat = record no_output { leaving = may_leave_by who key answers flat }
 output_of who (Resize size) answers flat = no_output
+output_of who (Scroll lines) answers flat = no_output
+output_of who (Pointed mouse) answers flat = no_output
 output_of who (Refresh asked) answers flat = record no_output { drawing = Some (drawing_of who (shown_to who flat)) }
 output_of who Leave answers flat = no_output
 
@@ -199,11 +218,3 @@ pub record IsStepLeft (who : ℕ) (event : Event) (old new : Flat) (before now :
   pub begins : Begins (course_of who event answers old) course
   pub honest : IsHonest answers (asks_in course) before now
   pub left : IsLeftByEvent event who course old new ⊎ ((course ≡ course_of who event answers old) × (new ≡ after_event who event answers old))
-
--- Behind a history an event was begun that has no entry, since memory was wanting for it: of a client that is here then, or a
--- coming. (A coming asks for nothing, so that it stands for none, too.)
-pub record IsBegunBehind (history : List Entry) (before now : Outside) : Type 0 where
-  pub who : ℕ
-  pub event : Event
-  pub here : is_join event ≡ false → is_here (presence_from who Away history) ≡ true
-  pub cut : IsStepCutShort who event (run history) before now

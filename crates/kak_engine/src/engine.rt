@@ -9,7 +9,7 @@ ghost use Rattle.kak_world.specs.Flat.{is_here, is_joined, acts, is_client_leavi
 ghost use Rattle.kak_world.specs.Settled.{AllListsSettled};
 ghost use Rattle.kak_world.specs.Stored.{IsStepOf, LeavesOthersOf};
 ghost use Rattle.kak_world.specs.declared.world.TheConstants.{MAX_CLIENTS};
-ghost use Rattle.kak_engine.specs.Steps.{after_key, may_leave_by, after_event, output_of, asked_by, exchanges, run, begun, told, refused, group_ended, shown_to, noted_drawn, resized, AreAskedFor, AllAsked, IsStepLeft};
+ghost use Rattle.kak_engine.specs.Steps.{after_key, may_leave_by, after_event, output_of, asked_by, exchanges, run, begun, told, refused, group_ended, shown_to, noted_drawn, resized, after_scroll, after_mouse, AreAskedFor, AllAsked, IsStepLeft};
 ghost use Rattle.kak_engine.specs.Seen.{end_seen};
 ghost use Rattle.kak_engine.specs.Honesty.{IsUntouched, IsHonest, IsKept};
 ghost use Rattle.kak_engine.specs.Held.{new_engine, event_refusal, refused_by, marked_after, marked_by, CanRun, TakesEvent, CutsEvent, LeavesInside};
@@ -23,11 +23,12 @@ use crate::doing::{Ending, strike};
 use crate::joined::{is_known, note_coming};
 use crate::outside::Outside;
 use crate::resting::{RestingWorld, leave_in_step, run_in_step};
-use draw_model::note_drawn;
+use draw_model::{gutter_of, note_drawn};
 use drawings::Drawing;
 use kak_text::Chars;
 use kak_world::{AnyTurn, EditError, MAX_CLIENTS, Mode, StatusText, Turn, World};
 use key_names::Key;
+use mouse_events::Mouse;
 use regex_ports::Pattern;
 use session_events::{Answers, Entry, Event, Output, StepFault, is_join, is_leave};
 use std::alloc::{AllocError, Global};
@@ -44,28 +45,29 @@ pub struct NoEngine<O> {
     pub outside: O,
 }
 
-/// The engine. Contracts see its history, its mark, its limit, what its outside is seen as, and the world inside it, which
-/// follows from the history where the engine isn't broken.
+/// The engine. Contracts see its history, its mark, its limit, what its outside is seen as, the world inside it, which
+/// follows from the history where the engine isn't broken, and whether its texts were rescued.
 #[derive(Drop)]
 pub struct Engine<O: Outside> {
-    world: RestingWorld<O::P>,
-    outside: O,
+    pub(crate) world: RestingWorld<O::P>,
+    pub(crate) outside: O,
     history: Vec<Entry>,
     joined: BTreeSet<u32>,
     limit: u64,
-    mark: Option<u64>,
+    pub(crate) mark: Option<u64>,
+    pub(crate) rescued: bool,
 }
 
 impl<O: Outside> Model for Engine<O> {
     ghost use Rattle.std.specs.Prelude.{vec_len, vec_capacity};
-    ghost use Rattle.kak_engine.specs.Held.{HeldEngine, EngineStands, KeepsPlaces};
+    ghost use Rattle.kak_engine.specs.Held.{HeldEngine, EngineStands, KeepsPlaces, files_told};
     ghost use Rattle.kak_engine.specs.Joined.{KnowsJoined};
 
     ghost Value = { HeldEngine };
 
-    ghost view = { λ e. record { history = e.history.items; mark = e.mark; limit = e.limit; outside = O.seen e.outside; inside = e.world.flat; stored = e.world.stored } };
+    ghost view = { λ e. record { history = e.history.items; mark = e.mark; limit = e.limit; outside = O.seen e.outside; inside = e.world.flat; stored = e.world.stored; rescued = e.rescued } };
 
-    ghost invariant = { λ e. EngineStands e.world.flat e.history.items e.mark e.limit (O.seen e.outside).shelf × KeepsPlaces e.mark e.world.flat (vec_len e.history) (vec_capacity e.history) × KnowsJoined e.mark e.joined e.history.items };
+    ghost invariant = { λ e. EngineStands e.world.flat e.history.items e.mark e.limit (files_told e.rescued (O.seen e.outside).shelf) × KeepsPlaces e.mark e.world.flat (vec_len e.history) (vec_capacity e.history) × KnowsJoined e.mark e.joined e.history.items };
 }
 
 // Tells a client why its key was refused.
@@ -121,6 +123,7 @@ fn begin<P: Pattern, T: Turn>(world: &mut World<P, T>, who: u32)
     let own = world.own_mut(who);
     own.status = StatusText::Quiet;
     own.info = None;
+    own.dragging = false;
     world.set_units(MAX_UNITS);
     world.enter(who);
 }
@@ -186,6 +189,29 @@ fn resize<P: Pattern, T: Turn>(world: &mut World<P, T>, who: u32, size: Size)
     world.own_mut(who).size = size;
 }
 
+// Lets a client's window go so many lines on, or back. It is its turn meanwhile. Takes no memory.
+fn scroll<P: Pattern, T: Turn>(alloc: Global, world: &mut World<P, T>, who: u32, lines: i32)
+    requires own { IsStepOf who T.began }
+    requires joined { is_joined who world.old.flat ≡ true }
+    ensures { world.new.flat ≡ after_scroll who lines world.old.flat }
+{
+    world.enter(who);
+    pointer_rows::scroll(alloc, world, who, lines);
+    world.end_step();
+}
+
+// Does to a client what a mouse did over its window. It is its turn meanwhile. Takes no memory.
+fn point<P: Pattern, T: Turn>(alloc: Global, world: &mut World<P, T>, who: u32, mouse: Mouse)
+    requires own { IsStepOf who T.began }
+    requires joined { is_joined who world.old.flat ≡ true }
+    ensures { world.new.flat ≡ after_mouse who mouse world.old.flat }
+{
+    world.enter(who);
+    let gutter = gutter_of(world, who, world.tabstop(who));
+    pointer_rows::point(alloc, world, who, gutter, mouse);
+    world.end_step();
+}
+
 // Lets a client's window follow its cursor, and gives what it is shown. It is its turn meanwhile.
 fn redraw<P: Pattern, T: Turn>(
     alloc: Global,
@@ -235,6 +261,14 @@ fn run_event<O: Outside, T: Turn>(
         }),
         Event::Resize(size) => {
             resize(world, who, *size);
+            Ok(Output::nothing())
+        }
+        Event::Scroll(lines) => {
+            scroll(alloc, world, who, *lines);
+            Ok(Output::nothing())
+        }
+        Event::Mouse(mouse) => {
+            point(alloc, world, who, *mouse);
             Ok(Output::nothing())
         }
         Event::Refresh(_) => Ok(Output {
@@ -346,6 +380,7 @@ impl<O: Outside> Engine<O> {
                 joined: BTreeSet::new(alloc),
                 limit,
                 mark: None,
+                rescued: false,
             }),
             Err(_) => Err(NoEngine { outside }),
         }
@@ -356,7 +391,7 @@ impl<O: Outside> Engine<O> {
     /// don't tell it, nor of what a later call of it answers beyond what its own contract says.
     pub fn into_outside(self) -> O
         ensures outside { O.seen result ≡ self.outside }
-        ensures kept { self.mark ≡ None → IsKept (exchanges self.history) self.outside.shelf }
+        ensures kept { self.mark ≡ None → self.rescued ≡ false → IsKept (exchanges self.history) self.outside.shelf }
         ensures asked { AllAsked self.history }
     {
         let Engine {
@@ -366,6 +401,7 @@ impl<O: Outside> Engine<O> {
             joined: _,
             limit: _,
             mark: _,
+            rescued: _,
         } = self;
         outside
     }
@@ -382,10 +418,10 @@ impl<O: Outside> Engine<O> {
         self.history.as_slice()
     }
 
-    /// A law: where the engine isn't broken, what was exchanged with the files in its history led from what they held when they
-    /// were made to what they hold, where they tell it.
+    /// A law: where the engine isn't broken, and its texts weren't rescued, what was exchanged with the files in its history led
+    /// from what they held when they were made to what they hold, where they tell it.
     pub fn files_are_kept(&self)
-        ensures { self.now.mark ≡ None → IsKept (exchanges self.now.history) self.now.outside.shelf }
+        ensures { self.now.mark ≡ None → self.now.rescued ≡ false → IsKept (exchanges self.now.history) self.now.outside.shelf }
     {
         let _ = &self.world;
     }
@@ -472,6 +508,7 @@ impl<O: Outside> Engine<O> {
         ensures leaves { is_leave event.now ≡ true → IsOk result }
         ensures others { LeavesOthersOf who self.old.stored self.new.stored }
         ensures limit { self.new.limit ≡ self.old.limit }
+        ensures rescued { self.new.rescued ≡ self.old.rescued }
         ensures legal { IsLegal self.new.limit self.new.history }
     {
         if is_leave(event) {
@@ -525,6 +562,7 @@ impl<O: Outside> Engine<O> {
         ensures others { LeavesOthersOf who self.old.stored self.new.stored }
         ensures mark { self.new.mark ≡ marked_after result self.old }
         ensures limit { self.new.limit ≡ self.old.limit }
+        ensures rescued { self.new.rescued ≡ self.old.rescued }
         ensures legal { IsLegal self.new.limit self.new.history }
     {
         if let Some(fault) = self.refusal(who, event) {

@@ -1,6 +1,8 @@
 //! The laws of the definitions: each is the contract of a function that does nothing.
 ghost use Rattle.std.specs.Prelude.{◌≡◌};
 ghost use Rattle.kak_engine.specs.Examples.{Examples, SizeExamples};
+ghost use Rattle.kak_engine.specs.MouseExamples.{MouseExamples};
+ghost use Rattle.kak_engine.specs.RescueExamples.{RescueExamples};
 ghost use Rattle.kak_engine.specs.declared.engine.TheConstants.{MAX_UNITS};
 ghost use Rattle.kak_engine.specs.Laws.{BoundEndsNoStep, KeysKeepClients, OtherClientsStay, ResizesChangeSizes, StepsEnd};
 
@@ -44,4 +46,14 @@ pub fn worked_examples()
 #[tactic(auto, unfolding(kak_world::specs::Flat::client_of, kak_world::specs::Flat::shown_of, kak_world::specs::Flat::buffer_of, kak_world::specs::Flat::list_of, kak_world::specs::Flat::own_of, kak_world::specs::Flat::view_of, kak_world::specs::Flat::with_own, kak_world::specs::Flat::joined_by))]
 pub fn size_examples()
     ensures { SizeExamples }
+{}
+
+/// Worked examples of the mouse and of scrolling.
+pub fn mouse_examples()
+    ensures { MouseExamples }
+{}
+
+/// Worked examples of what a rescue writes.
+pub fn rescue_examples()
+    ensures { RescueExamples }
 {}

@@ -9,6 +9,7 @@ mod joined;
 pub mod laws;
 pub mod none;
 pub mod outside;
+mod rescue;
 mod resting;
 pub mod seat;
 pub mod trace;

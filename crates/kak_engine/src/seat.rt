@@ -1,9 +1,9 @@
 //! The seats of an engine that nobody else uses.
 
 ghost use Rattle.std.specs.Prelude.{◌≡◌, IfOk, IfErr, None};
-ghost use Rattle.kak_engine.specs.Honesty.{IsUntouched, IsKept};
-ghost use Rattle.kak_engine.specs.Seating.{new_seats, WasHonest};
-ghost use Rattle.kak_engine.specs.Steps.{exchanges, AllAsked};
+ghost use Rattle.kak_engine.specs.Honesty.{IsUntouched, IsHonest, IsKept};
+ghost use Rattle.kak_engine.specs.Seating.{new_seats, WasLost};
+ghost use Rattle.kak_engine.specs.Steps.{answers_in, asked_in, exchanges, AllAsked};
 
 use crate::engine::{Engine, NoEngine};
 use crate::outside::Outside;
@@ -28,7 +28,7 @@ impl<O: Outside> Model for EngineSeats<O> {
 
     ghost view = { λ s. record { engine = s.engine; who = s.who; first = s.first.value.outside } };
 
-    ghost invariant = { λ s. WasHonest s.engine.history s.engine.mark s.first.value.outside s.engine.outside };
+    ghost invariant = { λ s. WasHonest s.engine s.first.value.outside };
 }
 
 impl<O: Outside> EngineSeats<O> {
@@ -49,12 +49,13 @@ impl<O: Outside> EngineSeats<O> {
         Ok(EngineSeats { engine, who, first })
     }
 
-    /// The outside. In each entry it answered what it was asked for, it was asked for nothing else, and it was honest in all of
-    /// them: what was exchanged with the files led from what they held when the seats were made to what they hold where they
-    /// tell it, and their failures and the maker's refusals were counted.
+    /// Ends a session whose engine isn't broken, and gives the outside. In each entry it answered what it was asked for, it was asked
+    /// for nothing else, and it was honest in all of them: what was exchanged with the files led from what they held when the
+    /// seats were made to what they hold where they tell it, and their failures and the maker's refusals were counted.
     pub fn into_outside(self) -> O
-        ensures honest { WasHonest self.engine.history self.engine.mark self.first (O.seen result) }
-        ensures kept { self.engine.mark ≡ None → IsKept (exchanges self.engine.history) (O.seen result).shelf }
+        requires whole { self.engine.mark ≡ None }
+        ensures honest { IsHonest (answers_in self.engine.history) (asked_in self.engine.history) self.first (O.seen result) }
+        ensures kept { IsKept (exchanges self.engine.history) (O.seen result).shelf }
         ensures asked { AllAsked self.engine.history }
     {
         let EngineSeats {
@@ -62,6 +63,23 @@ impl<O: Outside> EngineSeats<O> {
             who: _,
             first: _,
         } = self;
+        engine.into_outside()
+    }
+
+    /// Ends a session for which memory was wanting: the texts of the engine are rescued, each that may differ from what was saved. If
+    /// it is broken, they are those that its last step left. Gives the outside, which was asked for what the history says, for a
+    /// beginning of what that step asks for, and for this, and for nothing else; and it was honest in all of that.
+    pub fn rescue(self, alloc: Global) -> O
+        ensures lost { WasLost self.engine.history self.engine.mark self.engine.inside self.first (O.seen result) }
+        ensures asked { AllAsked self.engine.history }
+    {
+        let EngineSeats {
+            mut engine,
+            who: _,
+            first: _,
+        } = self;
+        engine.inside_is_run();
+        let _tried = engine.rescue(alloc);
         engine.into_outside()
     }
 }

@@ -33,7 +33,7 @@ returns-then-is_leave-clause-legal g c =
 
 pub invariant_of-self-in-Ok-ran : goal.invariant_of-self-in-Ok-ran
 invariant_of-self-in-Ok-ran g c = (
-  stands-more _ _ _ _ _ _ _ _ c.args.who c.args.event.now c.run_in_step-ran.new.answers c.self.invariant.0 (subst (λ (h : HeldEngine). refused_at h.mark h.history h.limit c.args.who c.args.event.now ≡ None) (sym c.self.view_is) c.requires.allowed)
+  stands-more _ _ _ _ _ _ _ _ _ c.args.who c.args.event.now c.run_in_step-ran.new.answers c.self.invariant.0 (subst (λ (h : HeldEngine). refused_at h.mark h.history h.limit c.args.who c.args.event.now ≡ None) (sym c.self.view_is) c.requires.allowed)
       c.in-Ok-ran.ensures.joined c.in-Ok-ran.ensures.leads c.in-Ok-ran.ensures.asked c.in-Ok-ran.ensures.honest (c.push_reserved.ensures.items ∙ ap (λ h. h ++ entry_with c.args.who c.args.event.now c.run_in_step-ran.new.answers ∷ []) c.run_in_step-ran.ensures.same),
   λ m. omega (arith, c.in-Ok-ran.ensures.places, c.push_reserved.ensures.len, c.push_reserved.ensures.capacity),
   knows-more _ _ c.self.inside.joined c.note_coming.new.joined _ _ c.args.who c.args.event.now (entry_with c.args.who c.args.event.now c.run_in_step-ran.new.answers) (mark-none _ _ _ c.args.who c.args.event.now (subst (λ (h : HeldEngine). refused_at h.mark h.history h.limit c.args.who c.args.event.now ≡ None) (sym c.self.view_is) c.requires.allowed)) c.self.invariant.2 c.in-Ok.ensures.notes (λ q. refl)

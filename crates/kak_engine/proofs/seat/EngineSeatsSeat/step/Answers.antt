@@ -8,7 +8,7 @@ use Rattle.kak_engine.proofs.WhyLemmas.{alone-why}
 use Rattle.kak_engine.proofs.seat.EngineSeatsSeat.step.Goals as goal
 
 pub invariant_of-self : goal.invariant_of-self
-invariant_of-self g c = step-honest _ _ c.args.event.now _ _ c.self.invariant c.step.result c.step.ensures.refused c.step.ensures.answered c.step.ensures.takes c.step.ensures.err c.step.ensures.cut c.step.ensures.mark
+invariant_of-self g c = step-honest _ _ c.args.event.now _ _ c.self.invariant c.step.result c.step.ensures.refused c.step.ensures.stays c.step.ensures.answered c.step.ensures.takes c.step.ensures.err c.step.ensures.left c.step.ensures.mark c.step.ensures.rescued
 
 pub returns-clause-meaning : goal.returns-clause-meaning
 returns-clause-meaning g c = given-meaning
