@@ -10,7 +10,7 @@ use Rattle.session_events.specs.Entries.{kind_of, is_join, entry_with}
 use Rattle.session_events.specs.Missing.{has_news, has_missed}
 use Rattle.kak_world.specs.declared.world.TheConstants.{MAX_CLIENTS}
 use Rattle.kak_engine.specs.Honesty.{Outside}
-use Rattle.kak_engine.specs.Held.{HeldEngine, refused_at, refused_by}
+use Rattle.kak_engine.specs.Held.{HeldEngine, new_engine, refused_at, refused_by}
 use Rattle.kak_engine.specs.Seating.{WasHonest}
 use Rattle.kak_engine.proofs.SeatingLemmas.{honest-first}
 use Rattle.kak_engine.proofs.HereLemmas.{here-count}
@@ -68,9 +68,9 @@ module _ (x y : HeldEngine) (here : List ℕ) (room joins : ℕ) (mark : Option 
   }
 
 -- what an engine at a desk keeps, as it is made
-pub new-keeps : (outside : Outside) (limit : ℕ) (x first : HeldEngine) (here : List ℕ) (room : ℕ) → x ≡ (new_shared outside limit).engine → first ≡ x → here ≡ [] → MAX_CLIENTS ≤ room → WasHonest x.history x.mark first.outside x.outside × IsBeside x here room 0 None
+pub new-keeps : (outside : Outside) (limit : ℕ) (x first : HeldEngine) (here : List ℕ) (room : ℕ) → x ≡ (new_shared outside limit).engine → first ≡ x → here ≡ [] → MAX_CLIENTS ≤ room → WasHonest x first.outside × IsBeside x here room 0 None
 new-keeps outside limit x first here room new same empty fits = (
-  subst (λ (h : HeldEngine). WasHonest h.history h.mark first.outside h.outside) (sym new) (subst (λ (o : Outside). WasHonest [] None o outside) (sym (ap (λ (h : HeldEngine). h.outside) (same ∙ new))) (honest-first outside)),
+  subst (λ (h : HeldEngine). WasHonest h first.outside) (sym new) (subst (λ (o : Outside). WasHonest (new_engine outside limit) o) (sym (ap (λ (h : HeldEngine). h.outside) (same ∙ new))) (honest-first outside limit)),
   record {
     here_is = ap (λ (h : HeldEngine). here_among h.history) new ∙ sym empty;
     joins_is = ap (λ (h : HeldEngine). comings h.history) new;

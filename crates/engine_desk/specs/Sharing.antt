@@ -1,5 +1,5 @@
 -- An engine that is played at a desk: what it is seen as, what a move on it answers, and what a look at it shows.
-use Rattle.std.specs.Prelude.{◌≡◌, ◌≤◌, ℕ, true, false, List, [], ◌∷◌, ◌++◌, length, IfSome, None, Ok, Err}
+use Rattle.std.specs.Prelude.{◌≡◌, ◌≤◌, ℕ, true, false, is_some, List, [], ◌∷◌, ◌++◌, length, IfSome, None, Ok, Err}
 use Rattle.std.specs.declared.option.Option.{Option}
 use Rattle.std.specs.declared.result.Result.{Result}
 use Rattle.session_events.specs.declared.event.Event.{Event}
@@ -14,7 +14,7 @@ use Rattle.session_events.specs.Missing.{has_missed}
 use Rattle.kak_world.specs.declared.world.TheConstants.{MAX_CLIENTS}
 use Rattle.kak_engine.specs.Honesty.{Outside}
 use Rattle.kak_engine.specs.Held.{HeldEngine, new_engine, refused_at, marked_by}
-use Rattle.kak_engine.specs.Seating.{WasHonest}
+use Rattle.kak_engine.specs.Seating.{WasClosed}
 use Rattle.kak_engine.specs.Steps.{run, given_by, AreAskedFor}
 use Rattle.engine_desk.specs.declared.glimpse.Glimpse.{Glimpse}
 use Rattle.session_events.specs.Counting.{here_among, joined_among, comings}
@@ -39,9 +39,14 @@ new_shared outside limit = record {
   first = outside;
 }
 
--- since an engine at a desk was made, its outside was asked for what its history says and for nothing else, and was honest
+-- since an engine was made whose session is over, its outside was asked for what its history says and was honest, and for nothing
+-- else, but where it broke: then for a beginning of what one event more asks for, and that its texts be rescued
 abbrev pub WasAskedJustThat : Shared → Type 0
-WasAskedJustThat shared = WasHonest shared.engine.history shared.engine.mark shared.first shared.engine.outside
+WasAskedJustThat shared = WasClosed shared.engine.history shared.engine.mark shared.engine.inside shared.first shared.engine.outside
+
+-- the texts of an engine were rescued where it broke, and only there
+abbrev pub IsRescuedWhereBroken : Shared → Type 0
+IsRescuedWhereBroken shared = shared.engine.rescued ≡ is_some shared.engine.mark
 
 -- What stands beside an engine is as its history and its mark say, with room for the numbers of all that may be here.
 pub record IsBeside (held : HeldEngine) (here : List ℕ) (room joins : ℕ) (mark : Option ℕ) : Type 0 where

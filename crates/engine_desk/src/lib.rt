@@ -4,12 +4,14 @@
 //! call that waits may wait for ever, and nothing is said of fairness.
 #![tactic(auto)]
 
+pub mod closed;
 pub mod examples;
 pub mod frame;
 pub mod glimpse;
 pub mod seat;
 pub mod shared;
 
+pub use closed::ClosedEngine;
 pub use frame::EngineFrame;
 pub use glimpse::Glimpse;
 pub use seat::DeskSeat;

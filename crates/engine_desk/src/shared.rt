@@ -5,12 +5,13 @@ ghost use Rattle.std.specs.List.{list_any};
 ghost use Rattle.session_events.specs.Entries.{is_coming};
 ghost use Rattle.session_events.specs.Legal.{IsLegal};
 ghost use Rattle.session_events.specs.Missing.{has_news};
-ghost use Rattle.kak_engine.specs.Honesty.{IsUntouched, IsKept};
-ghost use Rattle.kak_engine.specs.Seating.{WasHonest};
-ghost use Rattle.kak_engine.specs.Steps.{exchanges, AllAsked};
+ghost use Rattle.kak_engine.specs.Honesty.{IsUntouched};
+ghost use Rattle.kak_engine.specs.Seating.{IsRescuedIf};
+ghost use Rattle.kak_engine.specs.Steps.{AllAsked};
 ghost use Rattle.session_events.specs.Counting.{here_after};
-ghost use Rattle.engine_desk.specs.Sharing.{new_shared, marked_behind, WasAskedJustThat};
+ghost use Rattle.engine_desk.specs.Sharing.{new_shared, frame_of, marked_behind};
 
+use crate::closed::ClosedEngine;
 use crate::frame::EngineFrame;
 use crate::glimpse::Glimpse;
 use kak_engine::{Engine, NoEngine, Outside};
@@ -40,7 +41,7 @@ impl<O: Outside> Model for SharedEngine<O> {
 
     ghost view = { λ s. record { engine = s.engine; first = s.first.value.outside } };
 
-    ghost invariant = { λ s. WasHonest s.engine.history s.engine.mark s.first.value.outside s.engine.outside × IsBeside s.engine s.here.items (vec_capacity s.here) s.joins s.mark };
+    ghost invariant = { λ s. WasHonest s.engine s.first.value.outside × IsBeside s.engine s.here.items (vec_capacity s.here) s.joins s.mark };
 }
 
 // Notes who is here, and how many have come, behind an event of some kind that was taken.
@@ -101,30 +102,22 @@ impl<O: Outside> SharedEngine<O> {
         })
     }
 
-    /// The outside. In each entry it answered what it was asked for, it was asked for nothing else, and it was honest in all of
-    /// them: what was exchanged with the files led from what they held when the engine was made to what they hold where they
-    /// tell it, and their failures and the maker's refusals were counted.
-    pub fn into_outside(self) -> O
-        ensures honest { WasHonest self.engine.history self.engine.mark self.first (O.seen result) }
-        ensures kept { self.engine.mark ≡ None → IsKept (exchanges self.engine.history) (O.seen result).shelf }
-        ensures asked { AllAsked self.engine.history }
+    /// Ends the session: nobody plays it on. Where the engine is broken, the texts that its last step left are rescued, each that
+    /// may differ from what was saved; its history and its mark stay.
+    pub fn close(self, alloc: Global) -> ClosedEngine<O>
+        ensures rescued { IsRescuedIf self.engine.mark self.engine result.engine }
+        ensures history { result.engine.history ≡ self.engine.history }
+        ensures mark { result.engine.mark ≡ self.engine.mark }
+        ensures frame { frame_of result ≡ frame_of self }
     {
         let SharedEngine {
             engine,
-            first: _,
+            first,
             here: _,
             joins: _,
             mark: _,
         } = self;
-        engine.into_outside()
-    }
-
-    /// A law: since the engine was made, its outside was asked for just what the entries of its history ask for, and then, where
-    /// the engine is broken, for a beginning of what one event more asks for; and it was honest.
-    pub fn outside_was_asked(&self)
-        ensures { WasAskedJustThat self.now }
-    {
-        let _ = &self.engine;
+        ClosedEngine::of(alloc, engine, first)
     }
 
     /// The entries, in order. Each client comes first and once, and makes nothing behind its going; behind as many entries

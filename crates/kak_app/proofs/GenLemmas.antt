@@ -1,6 +1,6 @@
 -- How a generated session is played, move by move, and what its statuses say then.
 use Rattle.std.proofs.Common.{◌≡◌, ℕ, zero, suc, ◌+◌, ◌-◌, ◌<◌, ◌≤◌, ◌⊎◌, inl, inr, Bool, true, false, List, [], ◌∷◌, ◌++◌, Ok, Err, Some, None, refl, sym, ap, ap₂, ◌∙◌, subst, arith, append_assoc, append-nil, add-one}
-use Rattle.std.specs.Prelude.{◌==◌, ◌||◌, is_some, IfOk, OnOk, OnErr}
+use Rattle.std.specs.Prelude.{◌==◌, ◌||◌, is_some, is_err, IfOk, OnOk, OnErr}
 use Rattle.std.specs.declared.option.Option.{Option}
 use Rattle.std.specs.declared.result.Result.{Result}
 use Rattle.std.proofs.lemmas.Bool.{cases_lt}
@@ -24,17 +24,17 @@ use Rattle.session_events.specs.Legal.{Away, is_here, presence_from}
 use Rattle.kak_engine.specs.Steps.{asked_in, answers_in, AllAsked}
 use Rattle.kak_engine.specs.Honesty.{Outside, IsHonest}
 use Rattle.kak_engine.specs.Held.{HeldEngine, new_engine}
-use Rattle.kak_engine.specs.Seating.{WasHonest}
-use Rattle.kak_engine.proofs.HonestLemmas.{honest-none, none-begun}
+use Rattle.kak_world.specs.Flat.{Flat}
+use Rattle.kak_engine.specs.Seating.{WasHonest, WasLost}
 use Rattle.kak_engine.proofs.LegalLemmas.{presence-more}
 use Rattle.kak_engine.proofs.PresenceLemmas.{there_after, presence-after}
 use Rattle.kak_engine.proofs.SeatingLemmas.{honest-first}
 use Rattle.kak_app.specs.declared.program.Status.{Status}
 use Rattle.kak_app.specs.declared.program.Status.TheVariants.{Done, Usage, ReadFault, WriteFault, NoMemory, HistoryFull, InputFull, BadClient}
-use Rattle.kak_app.specs.Runs.{Around, is_client_call}
+use Rattle.kak_app.specs.Runs.{Around, WasHonestBefore, is_client_call}
 use Rattle.kak_app.specs.Generated.{Move, made_by, move_of, moves_of, each_makes, comings, goings, struck_by, drawn_moves, generated, generated_whole, summary_of, GenPlayed, GenLost, GenAnswers, is_call}
 use Rattle.kak_app.specs.Generating.{Adds, AddsSome, AddsDrawn, AllStay, AreHere, IsSummed, Writes}
-use Rattle.kak_app.proofs.RunLemmas.{before, whole}
+use Rattle.kak_app.proofs.RunLemmas.{lost-first}
 
 -- words that name a generated session are the program's, and others are where they are those for a client
 pub named-taken : (session : GenWords) (words : List (List ℕ)) → Some session ≡ gen_words words → is_call words ≡ false → ⊥
@@ -194,15 +194,15 @@ nothing-generated session a = record {
   history = [];
   moves = (generated_whole session, refl);
   asked = tt;
-  honest = record { behind = a.outside; honest = honest-none a.outside; begun = none-begun [] a.outside a.outside refl };
+  honest = lost-first a.outside;
   unwritten = refl;
   unread = refl;
 }
 
 -- what the statuses say
-put-played : (session : GenWords) (answer : Put) (text : List ℕ) (h : List Entry) (mark : Option ℕ) (old new : Around) → IsSummed session text h → mark ≡ None → AllAsked h → WasHonest h mark old.outside new.outside
+put-played : (session : GenWords) (answer : Put) (text : List ℕ) (h : List Entry) (old new : Around) → IsSummed session text h → AllAsked h → IsHonest (answers_in h) (asked_in h) old.outside new.outside
     → Puts answer old.outlet new.outlet text → PutIsCounted answer old.outlet new.outlet → new.inlet ≡ old.inlet → GenPlayed session answer old new
-put-played session answer text h mark old new s none a w p n i = record {
+put-played session answer text h old new s a w p n i = record {
   history = s.history;
   parting = s.parting;
   moves = s.moves;
@@ -210,35 +210,35 @@ put-played session answer text h mark old new s none a w p n i = record {
   written = subst (λ (t : List ℕ). Puts answer old.outlet new.outlet t) s.text_is p;
   counted = n;
   asked = subst AllAsked s.is a;
-  honest = subst (λ (e : List Entry). IsHonest (answers_in e) (asked_in e) old.outside new.outside) s.is (whole h mark old.outside new.outside w none);
+  honest = subst (λ (e : List Entry). IsHonest (answers_in e) (asked_in e) old.outside new.outside) s.is w;
   unread = i;
 }
 
-written-answers : (session : GenWords) (text : List ℕ) (status : Status) (h : List Entry) (mark : Option ℕ) (old new : Around) → IsSummed session text h → mark ≡ None → AllAsked h → WasHonest h mark old.outside new.outside
+written-answers : (session : GenWords) (text : List ℕ) (status : Status) (h : List Entry) (old new : Around) → IsSummed session text h → AllAsked h → IsHonest (answers_in h) (asked_in h) old.outside new.outside
     → Writes text status old.outlet new.outlet → new.inlet ≡ old.inlet → GenAnswers session status old new
-written-answers session text Done h mark old new s none a w p i = put-played session put.Done text h mark old new s none a w p.0 p.1 i
-written-answers session text WriteFault h mark old new s none a w p i = put-played session put.Failed text h mark old new s none a w p.0 p.1 i
-written-answers session text Usage h mark old new s none a w p i = absurd p
-written-answers session text ReadFault h mark old new s none a w p i = absurd p
-written-answers session text NoMemory h mark old new s none a w p i = absurd p
-written-answers session text HistoryFull h mark old new s none a w p i = absurd p
-written-answers session text InputFull h mark old new s none a w p i = absurd p
-written-answers session text BadClient h mark old new s none a w p i = absurd p
+written-answers session text Done h old new s a w p i = put-played session put.Done text h old new s a w p.0 p.1 i
+written-answers session text WriteFault h old new s a w p i = put-played session put.Failed text h old new s a w p.0 p.1 i
+written-answers session text Usage h old new s a w p i = absurd p
+written-answers session text ReadFault h old new s a w p i = absurd p
+written-answers session text NoMemory h old new s a w p i = absurd p
+written-answers session text HistoryFull h old new s a w p i = absurd p
+written-answers session text InputFull h old new s a w p i = absurd p
+written-answers session text BadClient h old new s a w p i = absurd p
 
-pub session-answers : {T E : Type 0} (bytes : T → List ℕ) (session : GenWords) (r : Result T E) (status : Status) (h : List Entry) (mark : Option ℕ) (old new : Around) → IfOk r (λ text. IsSummed session (bytes text) h) → OnErr r (AddsSome (generated_whole session) [] h) → OnOk r (mark ≡ None)
-    → AllAsked h → WasHonest h mark old.outside new.outside → IfOk r (λ text. Writes (bytes text) status old.outlet new.outlet) → OnErr r (status ≡ NoMemory) → OnErr r (new.outlet ≡ old.outlet) → new.inlet ≡ old.inlet → GenAnswers session status old new
-session-answers bytes session (Ok text) status h mark old new s l none a w p e u i = written-answers session (bytes text) status h mark old new s none a w p i
-session-answers bytes session (Err error) status h mark old new s l none a w p e u i =
+pub session-answers : {T E : Type 0} (bytes : T → List ℕ) (session : GenWords) (r : Result T E) (status : Status) (h : List Entry) (old new : Around) → IfOk r (λ text. IsSummed session (bytes text) h) → OnErr r (AddsSome (generated_whole session) [] h)
+    → AllAsked h → OnErr r (WasHonestBefore h old.outside new.outside) → OnOk r (IsHonest (answers_in h) (asked_in h) old.outside new.outside) → IfOk r (λ text. Writes (bytes text) status old.outlet new.outlet) → OnErr r (status ≡ NoMemory) → OnErr r (new.outlet ≡ old.outlet) → new.inlet ≡ old.inlet → GenAnswers session status old new
+session-answers bytes session (Ok text) status h old new s l a lost w p e u i = written-answers session (bytes text) status h old new s a w p i
+session-answers bytes session (Err error) status h old new s l a lost w p e u i =
     let front : moves_of h ≡ l.front = ap moves_of l.adds.keeps ∙ l.adds.are in
-    let lost : GenLost session old new = record {
+    let wanting : GenLost session old new = record {
       history = h;
       moves = (l.begins.0, l.begins.1 ∙ ap (λ (m : List Move). m ++ l.begins.0) (sym front));
       asked = a;
-      honest = before h mark old.outside new.outside w;
+      honest = lost;
       unwritten = u;
       unread = i;
     } in
-    subst (λ (t : Status). GenAnswers session t old new) (sym e) lost
+    subst (λ (t : Status). GenAnswers session t old new) (sym e) wanting
 
 -- a session that was written or lost isn't one of other words
 used-none : (text : List ℕ) (status : Status) (b n : Outlet) → Writes text status b n → status ≡ Usage → ⊥
@@ -256,9 +256,17 @@ session-used bytes (Ok text) status b n p e u = used-none (bytes text) status b 
 session-used bytes (Err error) status b n p e u = let no : NoMemory ≡ Usage = sym e ∙ u in cc
 
 -- an engine that was just made
-pub honest-new : (limit : ℕ) (first : Outside) (engine : HeldEngine) → engine ≡ new_engine first limit → WasHonest engine.history engine.mark first engine.outside
-honest-new limit first engine new =
-    subst (λ (e : HeldEngine). WasHonest e.history e.mark first e.outside) (sym new) (honest-first first)
+pub honest-new : (limit : ℕ) (first : Outside) (engine : HeldEngine) → engine ≡ new_engine first limit → WasHonest engine first
+honest-new limit first engine new = subst (λ (e : HeldEngine). WasHonest e first) (sym new) (honest-first first limit)
+
+-- how its outside was left, by whether memory was wanting
+pub left-lost : {T E : Type 0} (r : Result T E) (mark : Option ℕ) (inside : Flat) (h : List Entry) (first last : Outside) → (is_err r ≡ true → WasLost h mark inside first last) → OnErr r (WasHonestBefore h first last)
+left-lost (Ok x) mark inside h first last lost = tt
+left-lost (Err e) mark inside h first last lost = record { mark = mark; inside = inside; lost = lost refl }
+
+pub left-whole : {T E : Type 0} (r : Result T E) (M P : Type 0) → OnOk r M → (is_err r ≡ false → M → P) → OnOk r P
+left-whole (Ok x) M P m whole = whole refl m
+left-whole (Err e) M P m whole = tt
 
 -- what holds at any rate holds where there is an error
 pub on-err : {T E P : Type 0} (r : Result T E) → P → OnErr r P

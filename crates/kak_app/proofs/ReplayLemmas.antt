@@ -20,15 +20,11 @@ use Rattle.session_replay.specs.Replays.{WasReplayed, IsReplayed, Replay, Report
 use Rattle.session_replay.proofs.AnswerLemmas.{nothing-replayed}
 use Rattle.session_events.specs.Legal.{IsLegal}
 use Rattle.std.specs.declared.option.Option.{Option}
-use Rattle.session_lines.specs.Stops.{StaysWhole}
 use Rattle.kak_engine.specs.Steps.{given_by, AllAsked}
-use Rattle.kak_engine.specs.Honesty.{Outside}
-use Rattle.kak_engine.specs.Seating.{WasHonest}
-use Rattle.kak_engine.proofs.HonestLemmas.{honest-none, none-begun}
 use Rattle.session_events.specs.declared.limits.TheConstants.{MAX_ENTRIES}
-use Rattle.kak_app.specs.Runs.{Around}
+use Rattle.kak_app.specs.Runs.{Around, OutsideIs}
 use Rattle.kak_app.specs.Replays.{Replayed, says_kind, say_kinds, is_ui_count, is_replay_call}
-use Rattle.kak_app.proofs.RunLemmas.{nothing-legal, outside-is}
+use Rattle.kak_app.proofs.RunLemmas.{nothing-legal, lost-first}
 
 -- nothing was played, since memory was wanting
 pub nothing-played : (kinds : List Kind) (boxes : ℕ → Option Shown) (a : Around) → Replayed kinds boxes (Err stop.NoMemory) a a
@@ -37,19 +33,19 @@ nothing-played kinds boxes a = record {
   legal = nothing-legal MAX_ENTRIES;
   replayed = nothing-replayed (setting given_by read_request) MAX_ENTRIES kinds boxes [] a.inlet a.outlet refl;
   asked = tt;
-  honest = record { behind = a.outside; honest = honest-none a.outside; begun = none-begun [] a.outside a.outside refl };
+  honest = lost-first a.outside;
   fault = inl refl;
 }
 
 -- lines were replayed
-pub lines-replayed : (kinds : List Kind) (boxes : ℕ → Option Shown) (r : Result ReplayEnd Stop) (limit after : ℕ) (was mark : Option ℕ) (h : List Entry) (a b : Around) → limit ≡ MAX_ENTRIES → was ≡ None → after ≡ limit → IsLegal after h
-    → WasReplayed (setting given_by read_request) limit kinds boxes h a.inlet b.inlet a.outlet b.outlet r → ReplayFaultIs r a.inlet b.inlet → StaysWhole r was mark → AllAsked h → WasHonest h mark a.outside b.outside → Replayed kinds boxes r a b
-lines-replayed kinds boxes r limit after was mark h a b most none same l w f s asked honest = record {
+pub lines-replayed : (kinds : List Kind) (boxes : ℕ → Option Shown) (r : Result ReplayEnd Stop) (limit after : ℕ) (h : List Entry) (a b : Around) → limit ≡ MAX_ENTRIES → after ≡ limit → IsLegal after h
+    → WasReplayed (setting given_by read_request) limit kinds boxes h a.inlet b.inlet a.outlet b.outlet r → ReplayFaultIs r a.inlet b.inlet → AllAsked h → OutsideIs r h a.outside b.outside → Replayed kinds boxes r a b
+lines-replayed kinds boxes r limit after h a b most same l w f asked honest = record {
   history = h;
   legal = subst (λ n. IsLegal n h) (same ∙ most) l;
   replayed = subst (λ n. WasReplayed (setting given_by read_request) n kinds boxes h a.inlet b.inlet a.outlet b.outlet r) most w;
   asked = asked;
-  honest = outside-is r was mark h a.outside b.outside none s honest;
+  honest = honest;
   fault = f;
 }
 

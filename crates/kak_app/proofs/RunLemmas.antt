@@ -30,10 +30,12 @@ use Rattle.session_lines.proofs.OpeningLemmas.{came-only}
 use Rattle.session_lines.specs.Connections.{WasServed, EndCauses}
 use Rattle.kak_engine.specs.Steps.{given_by, asked_in, answers_in, AllAsked}
 use Rattle.kak_engine.specs.Honesty.{Outside, IsHonest}
-use Rattle.kak_engine.specs.Seating.{WasHonest}
-use Rattle.kak_engine.proofs.HonestLemmas.{honest-none, none-begun}
+use Rattle.kak_world.specs.Flat.{Flat, opening}
+use Rattle.kak_engine.specs.Seating.{WasLost}
+use Rattle.kak_engine.proofs.HonestLemmas.{honest-none}
+use Rattle.kak_engine.proofs.RescueLemmas.{nothing-due}
 use Rattle.session_events.specs.declared.limits.TheConstants.{MAX_ENTRIES}
-use Rattle.kak_app.specs.Runs.{Around, WasHonestBefore, OutsideIs, Ran, IsHistoryFull, ReadsAre, WritesAre}
+use Rattle.kak_app.specs.Runs.{Around, WasHonestBefore, is_lost, OutsideIs, Ran, IsHistoryFull, ReadsAre, WritesAre}
 
 -- without an entry a history is one that there can be
 pub nothing-legal : (limit : ℕ) → IsLegal limit []
@@ -42,6 +44,14 @@ nothing-legal limit = record { lives = λ who. refl; within = none limit; few = 
     none : (n : ℕ) → AreLeavings (drop n [])
     none zero = tt
     none (suc n) = tt
+
+-- nothing happened, and nothing is due
+pub lost-first : (o : Outside) → WasHonestBefore [] o o
+lost-first o = record {
+  mark = None;
+  inside = opening;
+  lost = record { behind = o; honest = honest-none o; rescued = record { now = o; stands = (refl, refl); result = Ok 0; rescues = nothing-due o } };
+}
 
 -- nothing was played
 pub nothing-ran : (keys : List Key) (a : Around) → Ran keys (Err stop.NoMemory) a a
@@ -64,7 +74,7 @@ nothing-ran keys a = record {
     end_is = tt;
   };
   asked = tt;
-  honest = record { behind = a.outside; honest = honest-none a.outside; begun = none-begun [] a.outside a.outside refl };
+  honest = lost-first a.outside;
   full = tt;
   reads = inl refl;
   writes = refl;
@@ -136,30 +146,33 @@ nobody-else x z a b same none = ap told (sym b ∙ same.others ∙ a ∙ ap (λ 
     told (Some entries) = entries
     told None = []
 
+-- an engine that wasn't lost isn't broken
+pub whole-mark : {A : Type 0} (r : Result A Stop) (was mark : Option ℕ) → was ≡ None → StaysWhole r was mark → is_lost r ≡ false → mark ≡ None
+whole-mark (Ok end) was mark none s e = s none
+whole-mark (Err stop.HistoryFull) was mark none s e = s none
+whole-mark (Err stop.WriteFault) was mark none s e = s none
+whole-mark (Err (stop.Broken at)) was mark none s e = cc
+whole-mark (Err stop.NoMemory) was mark none s e = cc
+
 -- how the outside was left, by how playing ended
-pub before : (history : List Entry) (mark : Option ℕ) (first last : Outside) → WasHonest history mark first last → WasHonestBefore history first last
-before history mark first last w = record { behind = w.behind; honest = w.honest; begun = w.begun }
-
-pub whole : (history : List Entry) (mark : Option ℕ) (first last : Outside) → WasHonest history mark first last → mark ≡ None → IsHonest (answers_in history) (asked_in history) first last
-whole history mark first last w none = subst (λ (o : Outside). IsHonest (answers_in history) (asked_in history) first o) (sym (w.alone none)) w.honest
-
-pub outside-is : {A : Type 0} (r : Result A Stop) (was mark : Option ℕ) (h : List Entry) (first last : Outside) → was ≡ None → StaysWhole r was mark → WasHonest h mark first last → OutsideIs r h first last
-outside-is (Ok end) was mark h first last none s w = whole h mark first last w (s none)
-outside-is (Err stop.HistoryFull) was mark h first last none s w = whole h mark first last w (s none)
-outside-is (Err (stop.Broken at)) was mark h first last none s w = before h mark first last w
-outside-is (Err stop.NoMemory) was mark h first last none s w = before h mark first last w
-outside-is (Err stop.WriteFault) was mark h first last none s w = whole h mark first last w (s none)
+pub outside-is : {A : Type 0} (r : Result A Stop) (mark : Option ℕ) (inside : Flat) (h : List Entry) (first last : Outside)
+    → (is_lost r ≡ true → WasLost h mark inside first last) → (is_lost r ≡ false → IsHonest (answers_in h) (asked_in h) first last) → OutsideIs r h first last
+outside-is (Ok end) mark inside h first last lost whole = whole refl
+outside-is (Err stop.HistoryFull) mark inside h first last lost whole = whole refl
+outside-is (Err stop.WriteFault) mark inside h first last lost whole = whole refl
+outside-is (Err (stop.Broken at)) mark inside h first last lost whole = record { mark = mark; inside = inside; lost = lost refl }
+outside-is (Err stop.NoMemory) mark inside h first last lost whole = record { mark = mark; inside = inside; lost = lost refl }
 
 -- client 0 was served
 pub served-ran : (keys : List Key) (r : Result InputEnd Stop) (x z : Seated) (a b : Around) → x.number ≡ 0 → x.limit ≡ MAX_ENTRIES → x.mark ≡ None → IsSameSeat x z → others_of z.number z.seen ≡ [] → IsLegal z.limit z.seen
-    → WasServed false (service given_by read_request keys) x.number z.seen a.outlet b.outlet a.inlet b.inlet r → FaultIs r a.inlet b.inlet → EndCauses r z a.outlet b.outlet → StaysWhole r x.mark z.mark → AllAsked z.seen → WasHonest z.seen z.mark a.outside b.outside → Ran keys r a b
-served-ran keys r x z a b first most none same o l s f c w asked honest = record {
+    → WasServed false (service given_by read_request keys) x.number z.seen a.outlet b.outlet a.inlet b.inlet r → FaultIs r a.inlet b.inlet → EndCauses r z a.outlet b.outlet → AllAsked z.seen → OutsideIs r z.seen a.outside b.outside → Ran keys r a b
+served-ran keys r x z a b first most none same o l s f c asked honest = record {
   history = z.seen;
   alone = mine;
   legal = subst (λ n. IsLegal n z.seen) (same.limit ∙ most) l;
   served = subst (λ n. WasServed false (service given_by read_request keys) n z.seen a.outlet b.outlet a.inlet b.inlet r) first s;
   asked = asked;
-  honest = outside-is r x.mark z.mark z.seen a.outside b.outside none w honest;
+  honest = honest;
   full = full-length r z a.outlet b.outlet (same.limit ∙ most) mine l c;
   reads = reads-are r a.inlet b.inlet f;
   writes = writes-are r z a.outlet b.outlet c;

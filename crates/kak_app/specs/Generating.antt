@@ -41,7 +41,7 @@ AllStay old new = (k : ℕ) → is_here (presence_from k Away old) ≡ true → 
 
 -- where the outside was honest since some moment, it was so still
 abbrev pub StaysHonest : HeldEngine → HeldEngine → Type 0
-StaysHonest old new = (first : Outside) → WasHonest old.history old.mark first old.outside → WasHonest new.history new.mark first new.outside
+StaysHonest old new = (first : Outside) → WasHonest old first → WasHonest new first
 
 -- A session was played to its end, behind an empty history, and this is its summary.
 pub record IsSummed (session : GenWords) (text : List ℕ) (new : List Entry) : Type 0 where

@@ -1,6 +1,7 @@
 -- What a run of the program for a client did: the promise of `kak -ui json`.
-use Rattle.std.specs.Prelude.{◌≡◌, ℕ, ◌+◌, ◌⊎◌, Bool, false, ◌&&◌, List, [], ◌∷◌, length, codes, ⊤, Ok, Err}
+use Rattle.std.specs.Prelude.{◌≡◌, ℕ, ◌+◌, ◌⊎◌, Bool, true, false, ◌&&◌, List, [], ◌∷◌, length, codes, ⊤, Ok, Err}
 use Rattle.std.specs.Str.{bytes_eq, chars}
+use Rattle.std.specs.declared.option.Option.{Option}
 use Rattle.std.specs.declared.result.Result.{Result}
 use Rattle.kak_ports.specs.Ports.{Inlet, Outlet, Rose}
 use Rattle.key_names.specs.declared.key.Key.{Key}
@@ -16,7 +17,9 @@ use Rattle.session_lines.specs.declared.reading.InputEnd.TheVariants as ending
 use Rattle.session_lines.specs.Serving.{service}
 use Rattle.session_lines.specs.Stops.{NoneFailed}
 use Rattle.session_lines.specs.Connections.{WasServed}
-use Rattle.kak_engine.specs.Steps.{given_by, asked_in, answers_in, AllAsked, IsBegunBehind}
+use Rattle.kak_world.specs.Flat.{Flat}
+use Rattle.kak_engine.specs.Steps.{given_by, asked_in, answers_in, AllAsked}
+use Rattle.kak_engine.specs.Seating.{WasLost}
 use Rattle.kak_engine.specs.Honesty.{Outside, IsHonest}
 use Rattle.session_events.specs.declared.limits.TheConstants.{MAX_ENTRIES}
 use Rattle.kak_app.specs.declared.program.Status.{Status}
@@ -75,15 +78,22 @@ pub record Around : Type 0 where
 abbrev pub around_run : Inlet → Outlet → Outside → Around
 around_run inlet outlet outside = record { inlet = inlet; outlet = outlet; outside = outside }
 
--- The outside was asked for what a history says, and was honest, as far as to a step that memory was wanting for: that step has
--- no entry, and in it the outside was asked for a beginning of what the step asks for.
+-- The outside was asked for what a history says, and was honest, as far as memory went. A step that it was wanting for has no entry: in
+-- it the outside was asked for a beginning of what the step asks for. Then it was asked that each text be rescued which may differ
+-- from what was saved, of the world that the history leads to, or that such a step left; and for nothing else.
 pub record WasHonestBefore (history : List Entry) (first last : Outside) : Type 0 where
-  pub behind : Outside
-  pub honest : IsHonest (answers_in history) (asked_in history) first behind
-  pub begun : IsBegunBehind history behind last
+  pub mark : Option ℕ
+  pub inside : Flat
+  pub lost : WasLost history mark inside first last
+
+-- whether memory was wanting, as how serving or playing ended tells
+abbrev pub is_lost : {A : Type 0} → Result A Stop → Bool
+is_lost (Err stop.NoMemory) = true
+is_lost (Err (stop.Broken at)) = true
+is_lost _ = false
 
 -- how the outside was left: it was asked for what the whole history says and was honest, or where memory was wanting, as far as
--- to that step
+-- that went, and for its texts to be rescued
 abbrev pub OutsideIs : {A : Type 0} → Result A Stop → List Entry → Outside → Outside → Type 0
 OutsideIs (Err stop.NoMemory) history first last = WasHonestBefore history first last
 OutsideIs (Err (stop.Broken at)) history first last = WasHonestBefore history first last

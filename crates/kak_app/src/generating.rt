@@ -4,7 +4,9 @@ ghost use Rattle.std.specs.Prelude.{◌≡◌, ◌<◌, [], ◌∷◌, true, fal
 ghost use Rattle.kak_ports.specs.Ports.{Inlet};
 ghost use Rattle.session_events.specs.Entries.{is_leave};
 ghost use Rattle.session_events.specs.Legal.{Away, is_here, presence_from};
-ghost use Rattle.kak_engine.specs.Honesty.{IsUntouched};
+ghost use Rattle.kak_engine.specs.Honesty.{Outside as Seen, IsUntouched};
+ghost use Rattle.kak_engine.specs.Seating.{WasHonest, WasLost};
+ghost use Rattle.kak_engine.specs.Steps.{AllAsked};
 ghost use Rattle.kak_app.specs.Runs.{around_run};
 ghost use Rattle.kak_app.specs.Generated.{made_by, comings, goings, drawn_moves, generated_whole, summary_of, GenAnswers};
 ghost use Rattle.kak_app.specs.Generating.{Adds, AddsSome, AllStay, AreHere, StaysHonest, IsSummed, Writes};
@@ -156,8 +158,32 @@ fn write_summary<K: Sink>(output: &mut K, played: Result<String, AllocError>) ->
     }
 }
 
+// Rescues the texts of an engine whose session was lost, since memory was wanting, and gives its outside.
+fn rescue_engine<O: Outside>(alloc: Global, engine: Engine<O>) -> O
+    ensures lost { (first : Seen) → WasHonest engine first → WasLost engine.history engine.mark engine.inside first (O.seen result) }
+    ensures asked { AllAsked engine.history }
+{
+    let mut engine = engine;
+    engine.inside_is_run();
+    let _tried = engine.rescue(alloc);
+    engine.into_outside()
+}
+
+// Ends an engine, and gives its outside. Where its session was lost, its texts are rescued.
+fn part_engine<O: Outside>(alloc: Global, engine: Engine<O>, lost: bool) -> O
+    ensures lost { lost ≡ true → (first : Seen) → WasHonest engine first → WasLost engine.history engine.mark engine.inside first (O.seen result) }
+    ensures whole { lost ≡ false → O.seen result ≡ engine.outside }
+    ensures asked { AllAsked engine.history }
+{
+    if lost {
+        return rescue_engine(alloc, engine);
+    }
+    engine.into_outside()
+}
+
 /// Plays the session that the words of a generated session name, and writes its summary. The outside is given back as what the
-/// history says of it left it: it was asked for that and for nothing else.
+/// history says of it left it: it was asked for that and for nothing else. Where memory ran out, the texts are rescued which may
+/// differ from what was saved.
 pub fn generate<K: Sink, O: Outside>(
     alloc: Global,
     session: GenWords,
@@ -172,8 +198,9 @@ pub fn generate<K: Sink, O: Outside>(
     match Engine::new(alloc, outside, MAX_ENTRIES) {
         Ok(mut engine) => {
             let played = play_session(alloc, &mut engine, session);
+            let outside = part_engine(alloc, engine, played.is_err());
             let status = write_summary(output, played);
-            (status, engine.into_outside())
+            (status, outside)
         }
         Err(NoEngine { outside }) => (Status::NoMemory, outside),
     }

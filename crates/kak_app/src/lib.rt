@@ -4,7 +4,9 @@
 
 pub mod examples;
 pub mod generating;
+pub mod laws;
 pub mod limits;
+mod parting;
 pub mod program;
 pub mod replaying;
 

@@ -14,6 +14,7 @@ ghost use Rattle.kak_app.specs.Runs.{Around, around_run, Ran, code_of, is_ui_jso
 ghost use Rattle.kak_app.specs.Generated.{is_call, CallAnswers};
 
 use crate::generating::generate;
+use crate::parting::{is_lost, part};
 use json_ui::JsonReader;
 use kak_engine::{EngineSeats, NoEngine, Outside};
 use kak_ports::{Sink, Source};
@@ -34,7 +35,7 @@ pub enum Status {
     ReadFault,
     /// The output failed.
     WriteFault,
-    /// Memory ran out.
+    /// Memory ran out. Each text that may differ from what was saved was to be written to its rescue file.
     NoMemory,
     /// The history has all entries that it may have. What was played before is answered.
     HistoryFull,
@@ -115,7 +116,7 @@ fn attend<S: Seat, I: Source, K: Sink>(
     }
 }
 
-// Serves the one client of a new session, with keys before its first drawing. Gives back the outside.
+// Serves the one client of a new session, with keys before its first drawing, and ends the session. Gives back the outside.
 fn serve_client<I: Source, K: Sink, O: Outside>(
     alloc: Global,
     keys: &[Key],
@@ -129,7 +130,8 @@ fn serve_client<I: Source, K: Sink, O: Outside>(
     match EngineSeats::new(alloc, outside, MAX_ENTRIES, 0) {
         Ok(mut seats) => {
             let ended = attend(alloc, &mut seats, input, output, keys);
-            (ended, seats.into_outside())
+            let outside = part(alloc, seats, is_lost(&ended));
+            (ended, outside)
         }
         Err(NoEngine { outside }) => (Err(Stop::NoMemory), outside),
     }
@@ -181,7 +183,8 @@ fn run_client<I: Source, K: Sink, O: Outside>(
 /// input has the client's lines, and its output is sent what the client is shown and refused. The client has the number 0. Or
 /// they are `gen` and three numbers: then a generated session is played, of which its output is sent the summary, and nothing
 /// is read. The outside, whose files hold what they held when they were made where they tell it, is given back as what the
-/// history says of it left it: it was asked for that and for nothing else.
+/// history says of it left it: it was asked for that and for nothing else. Where memory ran out, the texts are rescued which may
+/// differ from what was saved.
 pub fn run<I: Source, K: Sink, O: Outside>(
     alloc: Global,
     words: &[String],

@@ -8,6 +8,7 @@ ghost use Rattle.kak_engine.specs.Honesty.{IsUntouched};
 ghost use Rattle.kak_app.specs.Runs.{around_run};
 ghost use Rattle.kak_app.specs.Replays.{says_kind, say_kinds, is_ui_count, is_call_for, ReplayAnswers, StatusSays};
 
+use crate::parting::{is_lost, part};
 use crate::program::Status;
 use json_ui::JsonReader;
 use kak_engine::{EngineSeats, NoEngine, Outside};
@@ -107,7 +108,7 @@ fn replay_status(ended: Result<ReplayEnd, Stop>) -> Status
 /// output is sent the reports of all of them, in that order. Where they are of other kinds than the words say, or one was told
 /// something before, the answer is `Usage`. The board at which they sit at the end is given back, unless memory was wanting;
 /// where the answer is `Usage` it is empty. The outside is given back as what the history says of it left it: it was asked for
-/// that and for nothing else.
+/// that and for nothing else. Where memory ran out, the texts are rescued which may differ from what was saved.
 pub fn replay<I: Source, K: Sink, O: Outside, U: Ui>(
     alloc: Global,
     words: &[String],
@@ -134,7 +135,8 @@ pub fn replay<I: Source, K: Sink, O: Outside, U: Ui>(
             let (ended, seats, board) = replay_session::<JsonReader, EngineSeats<O>, U, I, K>(
                 alloc, seats, uis, input, output,
             );
-            (replay_status(ended), seats.into_outside(), board)
+            let outside = part(alloc, seats, is_lost(&ended));
+            (replay_status(ended), outside, board)
         }
         Err(NoEngine { outside }) => (Status::NoMemory, outside, Board::new(alloc)),
     }

@@ -1,3 +1,4 @@
+pub mod ClosedLemmas
 pub mod RowLemmas
 pub mod GoneLemmas
 pub mod SessionLemmas

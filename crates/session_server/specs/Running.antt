@@ -5,7 +5,7 @@ use Rattle.client_links.specs.Wires.{Wire}
 use Rattle.client_links.specs.Doors.{Door, NoneCame}
 use Rattle.link_lines.specs.declared.ended.Ended.{Ended}
 use Rattle.kak_engine.specs.Honesty.{Outside}
-use Rattle.engine_desk.specs.Sharing.{Frame, Shared, WasAskedJustThat}
+use Rattle.engine_desk.specs.Sharing.{Frame, Shared, WasAskedJustThat, IsRescuedWhereBroken}
 use Rattle.session_server.specs.declared.status.ServerStatus.{ServerStatus}
 use Rattle.session_server.specs.declared.status.ServerStatus.TheVariants.{Ended as AllLeft, Usage, AcceptFault, SpawnFault, NoMemory, Broken, LinksFull, BindFault}
 use Rattle.session_events.specs.declared.limits.TheConstants.{MAX_ENTRIES}
@@ -36,11 +36,13 @@ HasNone NoMemory old new before now = (new.came ≡ old.came) × (new.faults ≡
 HasNone _ old new before now = ⊥
 
 -- A session was run with such an engine, whose first client opened the file, if one was named: why it ended, as the status
--- tells, and what is left of it. The outside was asked for what its history says and for nothing else.
+-- tells, and what is left of it. The outside was asked for what its history says and for nothing else, but where the engine broke;
+-- then its texts were rescued.
 pub record WasRun {S : Type 0} (closed : S → Wire) (frame : Frame) (file : Option (List ℕ)) (old new : Door) (before now : ℕ) (status : ServerStatus) (engine : Option Shared) (ends : List (Ended × S)) : Type 0 where
   pub given : IfServed status (IsSome engine)
   pub stands : IfSome engine (SessionStands closed frame file old.to_come new.to_come status ends)
   pub outside : IfSome engine WasAskedJustThat
+  pub rescued : IfSome engine IsRescuedWhereBroken
   pub cause : IfSome engine (SessionCausedBy status (length ends))
   pub most : length ends ≤ MAX_LINKS
   pub came : HaveCome status (length ends) old.came new.came

@@ -1,6 +1,6 @@
 //! The passes of a session, given back to the keeper of its desk once they aren't used any more.
 
-ghost use Rattle.std.specs.Prelude.{◌≡◌, ◌++◌, map, All, OnOk, IfOk, IfSome};
+ghost use Rattle.std.specs.Prelude.{◌≡◌, ◌∷◌, ◌++◌, [], map, All, IfOk, IsOkAnd, IfSome};
 ghost use Rattle.session_turns.specs.Growth.{Begins};
 ghost use Rattle.session_desk.specs.Tokens.{IsOf};
 ghost use Rattle.session_server.specs.Hosting.{noted, serving_end, passes_back, KeepsMark};
@@ -12,7 +12,20 @@ use regex_ports::RegexPattern;
 use session_desk::{Desk, Keeper, Pass};
 use std::alloc::{AllocError, Global};
 
-/// Gives the passes of links that were served back to the keeper. What is left are the ends of the links, in the same order.
+// Ends of links, with one more behind them, unless memory is wanting, or was before.
+fn with_end<S: Drop>(
+    ends: Result<Vec<(Ended, S)>, AllocError>,
+    end: (Ended, S),
+) -> Result<Vec<(Ended, S)>, AllocError>
+    ensures { IfOk result (λ all. IsOkAnd ends (λ before. all.items ≡ before.items ++ end ∷ [])) }
+{
+    let mut ends = ends?;
+    ends.push(end)?;
+    Ok(ends)
+}
+
+/// Gives the passes of links that were served back to the keeper, each of them, also where memory is wanting for what is left: the
+/// ends of the links, in the same order.
 pub(crate) fn take_back<O: Outside<P = RegexPattern> + Drop, S: Drop>(
     alloc: Global,
     desk: &Desk<SharedEngine<O>>,
@@ -23,17 +36,17 @@ pub(crate) fn take_back<O: Outside<P = RegexPattern> + Drop, S: Drop>(
     requires places { All (λ result. result.1.place ≡ keeper.old.place) results.items }
     ensures place { keeper.new.place ≡ keeper.old.place }
     ensures made { keeper.new.made ≡ keeper.old.made }
-    ensures begins { OnOk result (Begins keeper.new.seen keeper.old.seen) }
-    ensures mark { OnOk result (KeepsMark keeper.old.mark keeper.new.mark) }
-    ensures given { OnOk result (keeper.new.given ≡ keeper.old.given ++ map noted results.items) }
+    ensures begins { Begins keeper.new.seen keeper.old.seen }
+    ensures mark { KeepsMark keeper.old.mark keeper.new.mark }
+    ensures given { keeper.new.given ≡ keeper.old.given ++ map noted results.items }
     ensures ends { IfOk result (λ ends. ends.items ≡ map serving_end results.items) }
 {
-    let mut ends = Vec::new(alloc);
+    let mut ends = Ok(Vec::new(alloc));
     for (ended, pass, closed) in results {
         desk.leave(keeper, pass);
-        ends.push((ended, closed))?;
+        ends = with_end(ends, (ended, closed));
     }
-    Ok(ends)
+    ends
 }
 
 /// Gives the pass of a link that isn't served back to the keeper, if there is one.

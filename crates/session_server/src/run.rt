@@ -22,7 +22,8 @@ use std::sync::Wait;
 
 /// Runs a server: its words are to be `-s` and a session's name, with a file's name behind them where the first client is to
 /// open one. It listens for the session, and serves it to its end. The outside's files hold what they held when they were made,
-/// where they tell it. The outside of the engine that is left was asked for just what the history of the session says.
+/// where they tell it. The outside of the engine that is left was asked for just what the history of the session says; where the
+/// engine broke, its texts were rescued.
 pub fn run_server<
     R: Wait,
     A: Acceptor,

@@ -1,7 +1,7 @@
 //! A session, served to its end.
 
 ghost use Rattle.std.specs.Prelude.{◌≡◌, ◌≤◌, [], length, IsSome, IfSome, None, option_map, string_bytes};
-ghost use Rattle.engine_desk.specs.Sharing.{frame_of, WasAskedJustThat};
+ghost use Rattle.engine_desk.specs.Sharing.{frame_of, WasAskedJustThat, IsRescuedWhereBroken};
 ghost use Rattle.session_server.specs.Sessions.{IfServed, HaveCome, NoneWaits, AcceptsFor, SpawnsFor, SessionStands, SessionCausedBy};
 
 use crate::accepting::accept_all;
@@ -37,7 +37,8 @@ fn out_of_memory<O: Outside<P = RegexPattern> + Drop, T: Drop>(
 /// Serves a session in which nothing has happened yet: each link that comes is served under a pass of its own, as the spawner
 /// runs it, and the first client opens the file, if one is named. It waits until all have ended, and gives what is left. By a
 /// front of the history of the engine that it gives, the row of each link holds, in the order in which they came; its outside
-/// was asked for just what that history says; what else holds of the files the engine says itself (`into_outside`).
+/// was asked for just what that history says, and where the engine broke, for a beginning of what one event more asks for, and then
+/// that the texts be rescued which that left. What else holds of the files the engine says itself (`into_outside`).
 pub fn serve<
     R: Wait,
     A: Acceptor,
@@ -62,6 +63,7 @@ pub fn serve<
     ensures engine { IfServed result.0 (IsSome result.1.engine) }
     ensures stands { IfSome result.1.engine (SessionStands A.Link.spent (frame_of engine) (option_map (λ name. string_bytes name) file) (A.door acceptor.old).to_come (A.door acceptor.new).to_come result.0 result.1.ends.items) }
     ensures outside { IfSome result.1.engine WasAskedJustThat }
+    ensures rescued { IfSome result.1.engine IsRescuedWhereBroken }
     ensures cause { IfSome result.1.engine (SessionCausedBy result.0 (length result.1.ends.items)) }
     ensures most { length result.1.ends.items ≤ 1000000 }
     ensures came { HaveCome result.0 (length result.1.ends.items) (A.door acceptor.old).came (A.door acceptor.new).came }
@@ -78,15 +80,17 @@ pub fn serve<
     let Ok(results) = spawner.gather(rt) else {
         return out_of_memory(alloc);
     };
-    let Ok(ends) = take_back(alloc, &desk, &mut keeper, results) else {
-        return out_of_memory(alloc);
-    };
+    let ends = take_back(alloc, &desk, &mut keeper, results);
     take_rest(&desk, &mut keeper, stopped.back);
     let Ok(engine) = desk.close(keeper) else {
         unreachable!()
     };
     engine.history();
+    let engine = engine.close(alloc);
     engine.outside_was_asked();
+    let Ok(ends) = ends else {
+        return out_of_memory(alloc);
+    };
     let session = Session {
         engine: Some(engine),
         ends,

@@ -1,9 +1,10 @@
-use Rattle.std.proofs.Common.{◌≡◌, string_bytes, refl, sym, ap, subst}
-use Rattle.kak_engine.specs.Honesty.{Outside}
+use Rattle.std.proofs.Common.{◌≡◌, string_bytes, None, refl, ap, ◌∙◌}
+use Rattle.kak_engine.specs.Honesty.{Outside, IsHonest}
+use Rattle.kak_engine.specs.Steps.{answers_in, asked_in}
 use Rattle.kak_engine.specs.Held.{HeldEngine}
-use Rattle.kak_engine.specs.Seating.{WasHonest}
+use Rattle.kak_engine.proofs.SeatingLemmas.{honest-whole}
 use Rattle.kak_app.specs.Runs.{Around}
-use Rattle.kak_app.proofs.GenLemmas.{honest-new, nothing-generated, session-answers, session-used}
+use Rattle.kak_app.proofs.GenLemmas.{honest-new, left-lost, left-whole, nothing-generated, session-answers, session-used}
 use Rattle.kak_app.proofs.generating.generate.Goals as goal
 
 pub play_session-played-requires-clause-whole : goal.play_session-played-requires-clause-whole
@@ -16,14 +17,15 @@ pub returns-in-Ok-clause-answers : goal.returns-in-Ok-clause-answers
 returns-in-Ok-clause-answers g c = λ inlet.
     let engine : HeldEngine = c.play_session-played.new.engine in
     let first : Outside = g.O.Outside.seen c.args.outside in
-    let last : Outside = g.O.Outside.seen c.into_outside.result in
+    let last : Outside = g.O.Outside.seen c.part_engine-outside.result in
     let old : Around = record { inlet = inlet; outlet = g.K.Sink.outlet c.args.output.now; outside = first } in
     let new : Around = record { inlet = inlet; outlet = g.K.Sink.outlet c.write_summary-status.new.output; outside = last } in
     let honest = c.play_session-played.ensures.honest first (honest-new _ first _ c.in-Ok.ensures.new) in
-    let same : engine.outside ≡ last = sym c.into_outside.ensures.outside in
-    session-answers (λ text. string_bytes text) c.args.session c.play_session-played.result c.write_summary-status.result engine.history engine.mark old new
-    c.play_session-played.ensures.summed c.play_session-played.ensures.lost c.play_session-played.ensures.whole c.into_outside.ensures.asked
-    (subst (λ (o : Outside). WasHonest engine.history engine.mark first o) same honest)
+    session-answers (λ text. string_bytes text) c.args.session c.play_session-played.result c.write_summary-status.result engine.history old new
+    c.play_session-played.ensures.summed c.play_session-played.ensures.lost c.part_engine-outside.ensures.asked
+    (left-lost c.play_session-played.result engine.mark engine.inside engine.history first last (λ e. c.part_engine-outside.ensures.lost (c.is_err.ensures.value ∙ e) first honest))
+    (left-whole c.play_session-played.result (engine.mark ≡ None) (IsHonest (answers_in engine.history) (asked_in engine.history) first last) c.play_session-played.ensures.whole
+    (λ e m. honest-whole engine first last honest m (c.part_engine-outside.ensures.whole (c.is_err.ensures.value ∙ e))))
     c.write_summary-status.ensures.written c.write_summary-status.ensures.lost c.write_summary-status.ensures.unwritten refl
 
 pub returns-in-Ok-clause-used : goal.returns-in-Ok-clause-used

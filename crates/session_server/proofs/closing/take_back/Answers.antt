@@ -1,5 +1,8 @@
 use Rattle.std.proofs.Common.{rules, ◌≡◌, ◌++◌, List, [], ◌∷◌, length, map, refl, sym, ◌∙◌, ap, subst, arith, append-nil}
+use Rattle.std.specs.Prelude.{IfOk, IsOkAnd, Ok, Err}
+use Rattle.std.specs.declared.result.Result.{Result}
 use Rattle.std.specs.Vec.Iter.{into_iter_items}
+use Rattle.std.proofs.lemmas.List.{map-append}
 use Rattle.std.proofs.lemmas.List.Elements.{All-rest, All-same}
 use Rattle.jobs.proofs.MeetLemmas.{grows}
 use Rattle.session_desk.specs.Tokens.{DeskPlace, IsOf, PassView}
@@ -15,8 +18,14 @@ all-done : {B : Type 0} (done rest all : List B) → done ++ rest ≡ all → le
 all-done done [] all e none = sym (append-nil done) ∙ e
 all-done done (next ∷ rest) all e none = absurd (omega (arith, none))
 
+-- ends with one more behind them
+ends-more : {V E A : Type 0} (items : V → List A) (old new : Result V E) (before now : List A) (one : A) → IfOk new (λ all. IsOkAnd old (λ some. items all ≡ items some ++ one ∷ [])) → IfOk old (λ some. items some ≡ before) → now ≡ before ++ one ∷ [] → IfOk new (λ all. items all ≡ now)
+ends-more items (Ok some) (Ok all) before now one e i same = e ∙ ap (λ q. q ++ one ∷ []) i ∙ sym same
+ends-more items (Err error) (Ok all) before now one e i same = absurd e
+ends-more items old (Err error) before now one e i same = tt
+
 pub loop-ended-init : goal.loop-ended-init
-loop-ended-init g c = record { place = refl; made = refl; begins = starts_itself _; mark = keeps-itself _; results = refl; left = search rules; given = sym (append-nil _); ends = c.new-ends.ensures.items; places = All-same (λ r. r.1.place ≡ c.args.keeper.now.place) _ _ c.into_iter-ended-iterator.ensures.into_iter_gives.0 c.requires.places }
+loop-ended-init g c = record { place = refl; made = refl; begins = starts_itself _; mark = keeps-itself _; results = refl; left = search rules; given = sym (append-nil _); ends = c.new.ensures.items; places = All-same (λ r. r.1.place ≡ c.args.keeper.now.place) _ _ c.into_iter-ended-iterator.ensures.into_iter_gives.0 c.requires.places }
 
 pub leave-requires-clause-pass : goal.leave-requires-clause-pass
 leave-requires-clause-pass g c =
@@ -34,7 +43,7 @@ loop-ended-preserved g c =
       results = grows _ _ _ _ one i.results step;
       left = omega (arith, i.left, ap length step, c.in-Some.ensures.steps.1);
       given = noted-one (noted {S = g.row.S.Denot}) _ _ _ c.loop-ended.yielded one e.given i.given;
-      ends = noted-one (serving_end {S = g.row.S.Denot}) _ _ [] c.loop-ended.yielded one c.in_ok-push.ensures.items i.ends;
+      ends = ends-more (λ all. all.items) c.loop-ended.ends c.with_end-ends.result _ _ (serving_end {S = g.row.S.Denot} one) c.with_end-ends.ensures i.ends (map-append (serving_end {S = g.row.S.Denot}) c.loop-ended.yielded (one ∷ []));
       places = All-rest (λ r. r.1.place ≡ c.args.keeper.now.place) one _ _ step i.places;
     }
 
