@@ -1,5 +1,6 @@
 //! Trials of the engine, event by event, of what its outside is asked for, of what a client is drawn of a world, of what
-//! refusals print, of whole runs for one client and of generated sessions, of a client's JSON lines, and of lines of a replay.
+//! refusals print, of texts that are rescued, of whole runs for one client and of generated sessions, of a client's JSON lines, and of
+//! lines of a replay.
 //! What they play and what is to come of it is data; what lines of input can say is played by the end-to-end checks.
 #![tactic(auto)]
 
@@ -12,6 +13,8 @@ mod engine_scripts;
 #[cfg(test)]
 mod engine_tests;
 #[cfg(test)]
+mod fault_tests;
+#[cfg(test)]
 mod gen_tests;
 #[cfg(test)]
 mod json_tests;
@@ -21,6 +24,8 @@ mod lagging_tests;
 mod outside_tests;
 #[cfg(test)]
 mod refusal_tests;
+#[cfg(test)]
+mod rescue_tests;
 #[cfg(test)]
 mod run_tests;
 #[cfg(test)]
