@@ -326,9 +326,7 @@ def methods(report):
     """What is sent is what the page of the protocol says is played."""
     from table_checks import page
     told = page("PROTOCOL.md").partition("\n## Requests\n")[2].partition("\n## ")[0]
-    played, _, others = told.partition("\nThe others tell what is done with a mouse, with a wheel and in a menu:\n")
-    all_methods = ("keys", "resize", "scroll", "mouse_move", "mouse_press", "mouse_release", "menu_select")
-    named = [method for method in all_methods if f"`{method}`" in played]
-    unplayed = [method for method in all_methods if f"`{method}`" in others.partition("play nothing")[0]]
-    report.check("front end: docs/PROTOCOL.md names the methods that are sent", sorted(requests.PLAYED), sorted(named))
-    report.check("front end: docs/PROTOCOL.md says that the other methods play nothing", sorted(set(all_methods) - set(named)), sorted(unplayed))
+    named = set(re.findall(r"`(\w+)`", told)) & {"keys", "resize", "scroll", "mouse_move", "mouse_press", "mouse_release", "menu_select"}
+    idle = re.findall(r'"method":"(\w+)"[^`]*` isn\'t answered at all', told)
+    report.check("front end: docs/PROTOCOL.md names the method that plays nothing", ["menu_select"], idle)
+    report.check("front end: docs/PROTOCOL.md names the methods that are sent", sorted(requests.PLAYED), sorted(named - set(idle)))

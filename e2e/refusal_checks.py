@@ -177,6 +177,9 @@ def run(program, report):
     check("all refused lines in one session",
           FIRST + b"".join(line + b"\n" for _, line, _ in everything) + SECOND,
           OPENING + BEFORE + b"".join(refusal for _, _, refusal in everything) + BEHIND)
+    cut = [line[:count] for line in (GOOD, with_id(b'[{"a":[1.5e3,null,true]}]')) for count in range(1, len(line))]
+    check("requests that are cut behind each of their bytes", FIRST + b"".join(line + b"\n" for line in cut) + SECOND,
+          OPENING + BEFORE + PARSE * len(cut) + BEHIND)
     answered_at_once(program, report)
 
 

@@ -16,13 +16,6 @@ from styles import told
 EXAMPLES = pathlib.Path(__file__).resolve().parent.parent / "examples"
 FRONT_END = [sys.executable, str(EXAMPLES / "terminal.py")]
 ESC = "\x1b"
-# the front end for a server that plays more than keys
-ALL_METHODS = f"""import sys
-sys.path.insert(0, {str(EXAMPLES)!r})
-from terminal import command, requests
-command.Requests = lambda: requests.Requests(["keys", "resize", "scroll", "mouse_move", "mouse_press", "mouse_release"])
-sys.exit(command.main(sys.argv[1:], ""))
-"""
 # a shell around the front end: the terminal must be left as it was found
 AROUND = "echo before; stty -g | cksum; {}; echo status $?; stty -g | cksum; cat -v"
 
@@ -35,7 +28,7 @@ def run(program, server, report):
     with tmux.Tmux() as windows:
         opened = Opener(windows, {"KAK": str(program), "KAKD": str(server)})
         for checks in (
-                an_editor, the_builder, two_windows, keys, real_faces, all_faces, a_box, all_requests, sizes, wide_characters, pastes, killed_server, killed_editor,
+                an_editor, the_builder, two_windows, keys, real_faces, all_faces, a_box, all_requests, the_mouse, two_mice, sizes, wide_characters, pastes, killed_server, killed_editor,
                 ways_out, faults):
             play(server, report, checks, opened, name=f"terminal: {checks.__name__}", files={"notes.txt": b"milk\nbread\n"})
 
@@ -266,7 +259,7 @@ def a_box(place, report, opened):
 def all_requests(place, report, opened):
     """A server that plays all methods is asked for a window of the terminal's size, and told what the mouse does."""
     server = Pretended(place, "all")
-    front = opened(place, "-s", "all", rows=10, columns=40, command=[sys.executable, "-c", ALL_METHODS])
+    front = opened(place, "-s", "all", rows=10, columns=40)
     server.draw(opening(drawing([[atom("text\n", DEFAULT)]], "f 1:1 normal 1/1 - client0", (0, 0))))
     front.shows("text")
     report.check("terminal: the size is asked for", [("resize", 8, 40)], server.asked(1))
@@ -282,6 +275,54 @@ def all_requests(place, report, opened):
     report.check("terminal: but for keys", [("keys", "c")], server.asked(1))
     server.close()
     report.check("terminal: after all requests", ("0", "", True), front.ended())
+
+
+def the_mouse(place, report, opened):
+    """What is pointed at is selected, and the wheel scrolls."""
+    place.folder.joinpath("long.txt").write_text("".join(f"line {number}\n" for number in range(1, 41)))
+    front = opened(place, "long.txt", rows=12, columns=40)
+    front.shows("long.txt 1:1 normal")
+    cursor = lambda line, column: front.shows(f"long.txt {line}:{column} normal 1/1 - client0")
+    front.type("\x1b[<0;3;2M")
+    report.check("terminal: a press selects", (True, (1, 2)), (cursor(2, 3), front.cursor()))
+    front.type("\x1b[<32;6;4M")
+    report.check("terminal: a drag extends", (True, (3, 5)), (cursor(4, 6), front.cursor()))
+    front.type("\x1b[<0;1;3m")
+    report.check("terminal: a release extends", True, cursor(3, 1))
+    front.type("\x1b[<32;6;4M\x1b[<2;2;1M")
+    report.check("terminal: the right button extends", True, cursor(1, 2))
+    front.type(":echo %val{selection}\r")
+    report.check("terminal: from where it was pressed", True, front.shows("ine 1"))
+    front.type("\x1b[<0;30;1M")
+    report.check("terminal: behind a line is its newline", True, cursor(1, 7))
+    front.type("\x1b[<65;1;1M")
+    report.check("terminal: the wheel scrolls", (True, ["line 4", "line 5"]), (cursor(4, 7), front.lines(2)))
+    front.type("\x1b[<64;1;1M")
+    report.check("terminal: and back", (True, ["line 1", "line 2"]), (front.shows("line 1"), front.lines(2)))
+    front.type("i\x1b[<0;3;9M")
+    report.check("terminal: not in insert mode", True, front.shows("long.txt 4:7 insert"))
+    front.leave()
+    front.type(":q\r")
+    report.check("terminal: after the mouse", ("0", "", True), front.ended())
+
+
+def two_mice(place, report, opened):
+    """Each window of a session is pointed and scrolled by itself, and a drag in one is none in the other."""
+    place.folder.joinpath("long.txt").write_text("".join(f"line {number}\n" for number in range(1, 41)))
+    fronts = [opened(place, "-s", "work", "long.txt", rows=12, columns=40) for _ in range(2)]
+    for number, front in enumerate(fronts):
+        report.check(f"terminal: window {number} shows the long file", True, front.shows("long.txt 1:1 normal 1/1 - client"))
+    fronts[0].type("\x1b[<0;3;2M")
+    report.check("terminal: a press in one window", True, fronts[0].shows("long.txt 2:3 normal"))
+    fronts[0].type("\x1b[<65;1;1M")
+    report.check("terminal: one window is scrolled", (True, ["line 4", "line 5"]), (fronts[0].shows("long.txt 4:3 normal"), fronts[0].lines(2)))
+    fronts[1].type("\x1b[<32;6;4M")
+    fronts[1].type("l")
+    report.check("terminal: the other one isn't", (True, ["line 1", "line 2"]), (fronts[1].shows("long.txt 1:2 normal"), fronts[1].lines(2)))
+    for number, front in enumerate(fronts):
+        front.type(":q\r")
+        report.check(f"terminal: window {number} quits after the mouse", ("0", "", True), front.ended())
+    report.check("terminal: the server of the mice ends", True, fronts[1].terminal.awaits(lambda: "work.kak" not in place.names()))
 
 
 def sizes(place, report, opened):

@@ -1,10 +1,8 @@
 """What a front end asks of a server, as lines."""
 import json
 
-# The methods that are sent. `kak` and `kakd` play `keys` and `resize` today, and read the others without playing anything
-# (docs/PROTOCOL.md); a server that plays `scroll`, `mouse_move`, `mouse_press` and `mouse_release` is sent these too as soon as they
-# are named here.
-PLAYED = ("keys", "resize")
+# The methods that are sent, which `kak` and `kakd` play (docs/PROTOCOL.md); a server may refuse any but `keys` with `Method`.
+PLAYED = ("keys", "resize", "scroll", "mouse_move", "mouse_press", "mouse_release")
 # the size of a window until a `resize`
 ROWS, COLUMNS = 24, 80
 # the code by which a server refuses a method that it doesn't play
