@@ -94,6 +94,14 @@ def replay_rescued(replayer, report):
         report.check("rescue: of a replay: the files", with_rescues(AFTER, RESCUES), files_in(folder))
 
 
+def send_until_hung_up(client, given):
+    """Sends what a server may take a part of, before it hangs up."""
+    try:
+        client.send(given)
+    except (BrokenPipeError, ConnectionResetError):
+        pass
+
+
 def server_rescued(place, report):
     """The session of a server breaks: its clients are hung up on, and its texts are rescued."""
     server = place.serve(confine=lambda: resource.setrlimit(resource.RLIMIT_AS, (SERVER_MEMORY, SERVER_MEMORY)))
@@ -101,10 +109,10 @@ def server_rescued(place, report):
     for number, keys in enumerate(CHANGES):
         (first, second)[number % 2].play(keys)
     settle([first, second])
-    first.send(MANY)
+    send_until_hung_up(first, MANY)
     while not first.has_ended:
         first.take()
-    second.send(keys_line("l"))
+    send_until_hung_up(second, keys_line("l"))
     second.rest()
     report.check("rescue: of a server: status", (5, b""), server.end())
     report.check("rescue: of a server: the files", with_rescues(AFTER, RESCUES), place.files())
