@@ -20,7 +20,7 @@ class Line:
 
 
 class Session:
-    def __init__(self, name, program, words, lines, files=None, every=1, clients=1):
+    def __init__(self, name, program, words, lines, files=None, every=1, clients=1, shown=None):
         self.name = name
         self.program = program
         self.words = words
@@ -29,6 +29,8 @@ class Session:
         # of its growths each of this number is refused, unless all are asked for
         self.every = every
         self.clients = clients
+        # of a server, what is drawn of a buffer once it differs from what was saved, which it does from then on
+        self.shown = shown or {}
 
     def input(self):
         """What the program reads."""
@@ -140,9 +142,9 @@ def patterns():
     ])
 
 
-def two_windows(name="two clients", program="kakreplay", words=("json", "json")):
+def two_windows():
     """Two clients on one text, each of whom types, and one takes its own back."""
-    return Session(name, program, list(words), [
+    return Session("two clients", "kakreplay", ["json", "json"], [
         Line("iab<esc>gg", {SCRATCH: typed(b"", "ab", b"")}, {SCRATCH}, who=0),
         Line("ggl", who=1),
         Line("ix", {SCRATCH: [b"xab\n"]}, who=0),
@@ -155,8 +157,15 @@ def two_windows(name="two clients", program="kakreplay", words=("json", "json"))
 
 
 def served():
-    """The same, of a server; and who goes last leaves what is typed."""
-    return two_windows("two links", "kakd", [])
+    """Two links to a server, each of which types into a text of its own. Which of two lines is played first nobody knows."""
+    return Session("two links", "kakd", [], [
+        Line("imark<esc>", {SCRATCH: typed(b"", "mark", b"")}, {SCRATCH}, who=0),
+        Line(":edit other<ret>", {"other": [b"\n"]}, who=1),
+        Line("iown<esc>", {"other": typed(b"", "own", b"")}, {SCRATCH, "other"}, who=1),
+        Line("ob<esc>", {SCRATCH: [b"mark\n\n", b"mark\nb\n"]}, who=0),
+        Line("gg", who=1),
+        Line("ggl", who=0),
+    ], clients=2, shown={SCRATCH: b'"mark', "other": b'"own'})
 
 
 COUNT = 2000
