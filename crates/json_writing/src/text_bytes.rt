@@ -169,16 +169,13 @@ fn is_plain(c: char) -> bool
     (c >= ' ') & (c <= '~') & (c != '"') & (c != '\\')
 }
 
-// Whether each character stands for itself. Each is looked at, in a loop that has no other way out.
+// Whether each character stands for itself. All of them are looked at, and many at once.
 fn are_plain(text: &[char]) -> bool
     ensures { result ≡ true → ArePlain text.now }
 {
     let mut plain = true;
     for c in text {
-        if is_plain(*c) {
-            continue;
-        }
-        plain = false;
+        plain &= is_plain(*c);
     }
     plain
 }

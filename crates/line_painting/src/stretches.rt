@@ -34,16 +34,22 @@ fn is_plain(c: char) -> bool
     c == '\n'
 }
 
+// Whether so far all were plain characters, where no signs are drawn, and a further one is too. No way branches by what was
+// found, so that many can be looked at at once.
+#[inline]
+fn is_plain_too(plain: bool, c: char) -> bool
+    ensures { result ≡ true → (plain ≡ true) × IsPlainChar false c }
+{
+    plain & is_plain(c)
+}
+
 // Whether all bytes are plain characters, where no signs are drawn. All of them are looked at, and many at once.
 fn are_plain(bytes: &[u8]) -> bool
     ensures { result ≡ true → AllByRecursion (IsPlainChar false) bytes.now }
 {
     let mut plain = true;
     for i in 0..bytes.len() {
-        if is_plain(bytes[i] as char) {
-            continue;
-        }
-        plain = false;
+        plain = is_plain_too(plain, bytes[i] as char);
     }
     plain
 }
