@@ -1,14 +1,14 @@
 -- Switches that are compared.
-use Rattle.std.proofs.Common.{◌≡◌, List, [], ◌∷◌, get_or, true, refl, ap, sym, ◌∙◌}
+use Rattle.std.proofs.Common.{◌≡◌, ℕ, List, [], ◌∷◌, get_or, true, refl, ap, sym, ◌∙◌}
 use Rattle.std.proofs.lemmas.Bool.{eq-eqb, eqb-true}
 use Rattle.command_forms.specs.declared.switches.Switch.{Switch}
-use Rattle.command_forms.specs.declared.switches.Switch.TheVariants.{Hidden, Docstring, Add, Codepoint, Title, Override, HlCursor, Separator}
+use Rattle.command_forms.specs.declared.switches.Switch.TheVariants.{Hidden, Docstring, Add, Codepoint, Title, Override, HlCursor, Separator, Params, WithHooks, WithMaps}
 use Rattle.command_forms.specs.Switches.{switch_number, is_same_switch}
 
 -- all switches, in the order of their numbers
 abbrev all : List Switch
 all =
-    Hidden ∷ Docstring ∷ Add ∷ Codepoint ∷ Title ∷ Override ∷ HlCursor ∷ Separator ∷ []
+    Hidden ∷ Docstring ∷ Add ∷ Codepoint ∷ Title ∷ Override ∷ HlCursor ∷ Separator ∷ Params ∷ WithHooks ∷ WithMaps ∷ []
 
 back : (s : Switch) → get_or all (switch_number s) Hidden ≡ s
 back Hidden = refl
@@ -19,6 +19,9 @@ back Title = refl
 back Override = refl
 back HlCursor = refl
 back Separator = refl
+back Params = refl
+back WithHooks = refl
+back WithMaps = refl
 
 pub switch-same : (s : Switch) → is_same_switch s s ≡ true
 switch-same s = eq-eqb (switch_number s) (switch_number s) refl

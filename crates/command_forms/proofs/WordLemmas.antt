@@ -9,9 +9,10 @@ use Rattle.command_forms.specs.declared.switches.Owner.{Owner}
 use Rattle.command_forms.specs.declared.switches.Switch.{Switch}
 use Rattle.command_forms.specs.declared.switches.Given.{Given}
 use Rattle.command_forms.specs.declared.error.OrderError.{OrderError}
+use Rattle.command_forms.specs.declared.error.OrderError.TheVariants.{BadValue}
 use Rattle.command_forms.specs.Parting.{Parts, parted}
 use Rattle.command_forms.specs.Results.{then_as}
-use Rattle.command_forms.specs.Switches.{TakenSwitches, begins_dash, switch_named, takes_word, behind_switches, after_one_switch, by_switch, taken}
+use Rattle.command_forms.specs.Switches.{TakenSwitches, begins_dash, switch_named, takes_word, is_good, behind_switches, after_one_switch, by_switch, taken}
 
 behind-one : (old : List Given) (g : Given) (rest : Result TakenSwitches OrderError) → then_as (behind_switches old) (after_one_switch g rest) ≡ then_as (behind_switches (old ++ g ∷ [])) rest
 behind-one old g (Ok t) = ap (λ gs. Ok (record { given = gs; words = t.words })) (sym (append_assoc old (g ∷ []) t.given))
@@ -23,11 +24,12 @@ map-word f xs i x w inside here is =
 
 module _ {A : Type 0} (f : A → List ℕ) (xs : List A) (i : ℕ) (x : A) (w : List ℕ) (owner : Owner) (waiting : Option Switch) (switch : Switch) (old new : List Given) (all : Result TakenSwitches OrderError) where
   -- the word of a switch that waits for it
-  pub switch-word : i < length xs → x ≡ get_or xs i x → w ≡ f x → waiting ≡ Some switch → new ≡ old ++ record { switch = switch; word = w } ∷ [] → then_as (behind_switches old) (taken owner waiting (map f (drop i xs))) ≡ all → then_as (behind_switches new) (taken owner None (map f (drop (i + 1) xs))) ≡ all
-  switch-word inside here is waits pushed h =
+  pub switch-word : i < length xs → x ≡ get_or xs i x → w ≡ f x → waiting ≡ Some switch → is_good switch w ≡ true → new ≡ old ++ record { switch = switch; word = w } ∷ [] → then_as (behind_switches old) (taken owner waiting (map f (drop i xs))) ≡ all → then_as (behind_switches new) (taken owner None (map f (drop (i + 1) xs))) ≡ all
+  switch-word inside here is waits good pushed h =
       let rest : List (List ℕ) = map f (drop (i + 1) xs) in
       ap (λ gs. then_as (behind_switches gs) (taken owner None rest)) pushed
       ∙ sym (behind-one old (record { switch = switch; word = w }) (taken owner None rest))
+      ∙ ap (λ b. then_as (behind_switches old) (cond b (after_one_switch (record { switch = switch; word = w }) (taken owner None rest)) (Err BadValue))) (sym good)
       ∙ ap (λ v. then_as (behind_switches old) (taken owner v (w ∷ rest))) (sym waits)
       ∙ ap (λ ws. then_as (behind_switches old) (taken owner waiting ws)) (sym (map-word f xs i x w inside here is)) ∙ h
 

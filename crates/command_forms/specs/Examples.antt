@@ -2,6 +2,7 @@
 use Rattle.std.specs.Prelude.{◌≡◌, ℕ, ◌==◌, Bool, List, [], ◌∷◌, true, false, if◌then◌else◌, Option, Some, None, option_map, Result, Ok, Err, codes}
 use Rattle.scope_options.specs.declared.value.OptionType.{OptionType}
 use Rattle.scope_options.specs.declared.value.OptionType.TheVariants as kind
+use Rattle.command_forms.specs.declared.names.CommandName.{CommandName}
 use Rattle.command_forms.specs.declared.names.CommandName.TheVariants as name
 use Rattle.command_forms.specs.declared.places.Columns.{Columns}
 use Rattle.command_forms.specs.declared.places.Columns.TheVariants.{Bytes, Characters}
@@ -13,8 +14,11 @@ use Rattle.command_forms.specs.declared.error.OrderError.TheVariants.{WrongArgum
 use Rattle.command_forms.specs.declared.painters.HighlighterOrder.TheVariants.{Add as AddHighlighter, Remove as RemoveHighlighter}
 use Rattle.command_forms.specs.declared.painters.PainterWords.{PainterWords}
 use Rattle.command_forms.specs.declared.painters.PainterWords.TheVariants as paints
+use Rattle.command_forms.specs.declared.table_orders.TableOrder.{TableOrder}
+use Rattle.command_forms.specs.declared.table_orders.TableOrder.TheVariants as table
 use Rattle.command_forms.specs.Names.{named}
 use Rattle.command_forms.specs.Orders.{order_after}
+use Rattle.command_forms.specs.Parameters.{allowed}
 
 -- a text of words with a space between each two
 abbrev pub onto_first_word : ℕ → List (List ℕ) → List (List ℕ)
@@ -49,7 +53,7 @@ described al ac cl cc = record { anchor = record { line = al; column = ac }; cur
 abbrev pub selecting_order : Columns → List Described → Option (Result Order OrderError)
 selecting_order columns ranges = reads (order.Select (record { columns = columns; ranges = ranges }))
 
--- a box and a highlighter
+-- a box, a highlighter, a change of a table, and what is run
 abbrev pub info_of : List ℕ → Option (List ℕ) → Option (Result Order OrderError)
 info_of title text = reads (order.Info (record { title = title; text = text }))
 
@@ -59,6 +63,19 @@ highlighter_of replace path words painter =
 
 abbrev pub numbering : Bool → List ℕ → PainterWords
 numbering marked separator = paints.NumberLines (record { marked = marked; separator = separator })
+
+abbrev pub tables_to : TableOrder → Option (Result Order OrderError)
+tables_to change = reads (order.Table change)
+
+abbrev pub defining_order : ℕ → ℕ → List ℕ → List ℕ → Option (Result Order OrderError)
+defining_order least most name commands =
+    tables_to (table.Define (record { name = name; allowed = allowed least most; commands = commands }))
+
+abbrev pub playing_order : Bool → Bool → Option (Result Order OrderError)
+playing_order hooks maps = reads (order.Play (record { keys = codes "l"; hooks = hooks; maps = maps }))
+
+abbrev pub trying_order : List ℕ → Option (Result Order OrderError)
+trying_order catching = reads (order.Try (record { first = codes "a"; catching = catching }))
 
 -- the table of examples
 pub record WorkedExamples : Type 0 where
@@ -162,6 +179,43 @@ pub record WorkedExamples : Type 0 where
   pub switch_before_type : order_in (codes "addhl -hlcursor g/ fills") ≡ refuses (UnknownSwitch (codes "-hlcursor"))
   pub removed : order_in (codes "rmhl global/a") ≡ reads (order.Highlighter (RemoveHighlighter (codes "global/a")))
   pub removed_of_none : order_in (codes "remove-highlighter") ≡ refuses WrongArgumentCount
+  -- maps and aliases
+  pub map : order_in (codes "map -docstring d global normal a <ret>") ≡ tables_to (table.Map (record { scope = codes "global"; mode = codes "normal"; key = codes "a"; keys = codes "<ret>" }))
+  pub map_of_three : order_in (codes "map global normal a") ≡ refuses WrongArgumentCount
+  pub unmap : order_in (codes "unmap buffer prompt a") ≡ tables_to (table.Unmap (record { scope = codes "buffer"; mode = codes "prompt"; key = codes "a" }))
+  pub unmap_of_four : order_in (codes "unmap buffer prompt a b") ≡ refuses WrongArgumentCount
+  pub alias : order_in (codes "alias window x exec") ≡ tables_to (table.Alias (record { scope = codes "window"; word = codes "x"; command = codes "exec" }))
+  pub alias_of_four : order_in (codes "alias window x exec y") ≡ refuses WrongArgumentCount
+  pub unalias : order_in (codes "unalias window x") ≡ tables_to (table.Unalias (record { scope = codes "window"; word = codes "x" }))
+  pub unalias_of_three : order_in (codes "unalias window x exec") ≡ refuses WrongArgumentCount
+  -- defined commands
+  pub define : order_in (codes "def -hidden -override -docstring d x y") ≡ defining_order 0 0 (codes "x") (codes "y")
+  pub parameters : order_in (codes "def -params 02 x y") ≡ defining_order 2 2 (codes "x") (codes "y")
+  pub parameter_range : order_in (codes "define-command -params 2..10 x y") ≡ defining_order 2 10 (codes "x") (codes "y")
+  pub parameters_to : order_in (codes "def -params ..3 x y") ≡ defining_order 0 3 (codes "x") (codes "y")
+  pub fits_none : order_in (codes "def -params 2..1 x y") ≡ defining_order 2 1 (codes "x") (codes "y")
+  pub last_parameters : order_in (codes "def -params 1 -params 2 x y") ≡ defining_order 2 2 (codes "x") (codes "y")
+  pub parameters_from : order_in (codes "def -params 1.. x y") ≡ refuses BadValue
+  pub parameters_of_dots : order_in (codes "def -params .. x y") ≡ refuses BadValue
+  pub parameters_of_three_dots : order_in (codes "def -params 1...2 x y") ≡ refuses BadValue
+  pub parameters_of_one_dot : order_in (codes "def -params 1.2 x y") ≡ refuses BadValue
+  pub parameters_of_word : order_in (codes "def -params x -y") ≡ refuses BadValue
+  pub parameters_lack : order_in (codes "def -params") ≡ refuses WrongArgumentCount
+  pub define_of_one : order_in (codes "def x") ≡ refuses WrongArgumentCount
+  -- what is run
+  pub keys : order_in (codes "exec l") ≡ playing_order false false
+  pub keys_with_maps : order_in (codes "execute-keys -with-maps l") ≡ playing_order false true
+  pub keys_with_hooks : order_in (codes "exec -with-hooks l") ≡ playing_order true false
+  pub keys_of_two : order_in (codes "exec l l") ≡ refuses WrongArgumentCount
+  pub keys_of_none : order_in (codes "exec -with-maps") ≡ refuses WrongArgumentCount
+  pub evaluated : order_in (codes "eval nop") ≡ reads (order.Eval (codes "nop"))
+  pub hooks_of_text : order_in (codes "eval -with-hooks nop") ≡ refuses (UnknownSwitch (codes "-with-hooks"))
+  pub evaluated_of_two : order_in (codes "eval nop nop") ≡ refuses WrongArgumentCount
+  pub tried : order_in (codes "try a") ≡ trying_order []
+  pub caught : order_in (codes "try a catch b") ≡ trying_order (codes "b")
+  pub caught_by_another : order_in (codes "try a except b") ≡ refuses WrongArgumentCount
+  pub tried_of_two : order_in (codes "try a catch") ≡ refuses WrongArgumentCount
+  pub tried_of_four : order_in (codes "try a catch b c") ≡ refuses WrongArgumentCount
   -- commands without a short name of that kind
   pub no_short_names : named (codes "exe") ≡ None
   pub forced_name : named (codes "write!") ≡ None

@@ -4,10 +4,13 @@ pub mod Lookup
 pub mod Names
 pub mod Numbers
 pub mod Parting
+pub mod Parameters
 pub mod Switches
 pub mod Arguments
 pub mod Places
 pub mod Painters
+pub mod TableOrders
+pub mod Runs
 pub mod Orders
 pub mod Laws
 pub mod Examples

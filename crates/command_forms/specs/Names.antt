@@ -28,6 +28,14 @@ full_names =
     ∷ row (codes "unset-face") name.UnsetFace
     ∷ row (codes "add-highlighter") name.AddHighlighter
     ∷ row (codes "remove-highlighter") name.RemoveHighlighter
+    ∷ row (codes "map") name.Map
+    ∷ row (codes "unmap") name.Unmap
+    ∷ row (codes "alias") name.Alias
+    ∷ row (codes "unalias") name.Unalias
+    ∷ row (codes "define-command") name.Define
+    ∷ row (codes "execute-keys") name.ExecuteKeys
+    ∷ row (codes "evaluate-commands") name.Evaluate
+    ∷ row (codes "try") name.Try
     ∷ []
 
 -- the short names
@@ -48,6 +56,9 @@ short_names =
     ∷ row (codes "face") name.SetFace
     ∷ row (codes "addhl") name.AddHighlighter
     ∷ row (codes "rmhl") name.RemoveHighlighter
+    ∷ row (codes "def") name.Define
+    ∷ row (codes "exec") name.ExecuteKeys
+    ∷ row (codes "eval") name.Evaluate
     ∷ []
 
 -- the command of a whole name, and of a short one

@@ -19,6 +19,8 @@ use Rattle.command_forms.specs.Switches.{TakenSwitches, is_given, word_or_empty,
 use Rattle.command_forms.specs.Arguments.{Headed, Paired, no_words, one_word, optional_word, headed, paired}
 use Rattle.command_forms.specs.Places.{descriptions}
 use Rattle.command_forms.specs.Painters.{highlighter_added, highlighter_removed}
+use Rattle.command_forms.specs.TableOrders.{mapping, unmapping, aliasing, unaliasing, defining}
+use Rattle.command_forms.specs.Runs.{playing, trying}
 
 -- the type that a word names
 abbrev pub type_named : List ℕ → Option OptionType
@@ -107,6 +109,14 @@ order_by name.SetFace given ws = face_set ws
 order_by name.UnsetFace given ws = face_unset ws
 order_by name.AddHighlighter given ws = highlighter_added given ws
 order_by name.RemoveHighlighter given ws = highlighter_removed ws
+order_by name.Map given ws = then_as order.Table (mapping ws)
+order_by name.Unmap given ws = then_as order.Table (unmapping ws)
+order_by name.Alias given ws = then_as order.Table (aliasing ws)
+order_by name.Unalias given ws = then_as order.Table (unaliasing ws)
+order_by name.Define given ws = then_as order.Table (defining given ws)
+order_by name.ExecuteKeys given ws = playing given ws
+order_by name.Evaluate given ws = then_as order.Eval (one_word ws)
+order_by name.Try given ws = trying ws
 
 -- the order of a command by the words behind its name: the switches are judged first
 abbrev pub order_after : CommandName → List (List ℕ) → Result Order OrderError

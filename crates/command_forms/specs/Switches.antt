@@ -1,5 +1,5 @@
 -- The switches of commands, and of highlighters that number lines: words before all others that begin with a dash.
-use Rattle.std.specs.Prelude.{◌≡◌, ℕ, ◌==◌, not, Bool, true, false, List, [], ◌∷◌, ◌++◌, if◌then◌else◌, Option, Some, None, unwrap_or, Result, Ok, Err, slice_index, codes}
+use Rattle.std.specs.Prelude.{◌≡◌, ℕ, ◌==◌, not, Bool, true, false, List, [], ◌∷◌, ◌++◌, if◌then◌else◌, Option, Some, None, is_some, unwrap_or, Result, Ok, Err, slice_index, codes}
 use Rattle.std.specs.List.{list_any}
 use Rattle.std.specs.Option.{option_or}
 use Rattle.std.specs.Str.{bytes_eq}
@@ -11,8 +11,9 @@ use Rattle.command_forms.specs.declared.switches.Owner.{Owner}
 use Rattle.command_forms.specs.declared.switches.Owner.TheVariants as owner
 use Rattle.command_forms.specs.declared.switches.Given.{Given}
 use Rattle.command_forms.specs.declared.error.OrderError.{OrderError}
-use Rattle.command_forms.specs.declared.error.OrderError.TheVariants.{UnknownSwitch, WrongArgumentCount}
-use Rattle.command_forms.specs.Lookup.{row, looked_up}
+use Rattle.command_forms.specs.declared.error.OrderError.TheVariants.{UnknownSwitch, WrongArgumentCount, BadValue}
+use Rattle.command_forms.specs.Lookup.{Row, row, looked_up}
+use Rattle.command_forms.specs.Parameters.{allowed_of}
 use Rattle.command_forms.specs.Results.{then_as}
 
 -- whether a word begins with a dash (45)
@@ -23,6 +24,20 @@ begins_dash word = slice_index word 0 == 45
 abbrev pub declare_switch : List ℕ → Option Switch
 declare_switch word = looked_up word (row (codes "-hidden") switch.Hidden ∷ row (codes "-docstring") switch.Docstring ∷ [])
 
+-- of the one that defines commands
+abbrev pub define_switch : List ℕ → Option Switch
+define_switch word =
+    looked_up word
+    (row (codes "-override") switch.Override ∷ row (codes "-hidden") switch.Hidden ∷ row (codes "-docstring") switch.Docstring
+    ∷ row (codes "-params") switch.Params ∷ [])
+
+-- of the one that runs keys
+abbrev pub keys_switch : List ℕ → Option Switch
+keys_switch word =
+    looked_up word
+    (row (codes "-with-hooks") switch.WithHooks
+    ∷ row (codes "-with-maps") switch.WithMaps ∷ [])
+
 -- of highlighters that number lines
 abbrev pub number_switch : List ℕ → Option Switch
 number_switch word = looked_up word (row (codes "-hlcursor") switch.HlCursor ∷ row (codes "-separator") switch.Separator ∷ [])
@@ -30,10 +45,13 @@ number_switch word = looked_up word (row (codes "-hlcursor") switch.HlCursor ∷
 -- the switch that a word is for a command, if it has that one
 abbrev pub command_switch : CommandName → List ℕ → Option Switch
 command_switch name.Declare word = declare_switch word
+command_switch name.Define word = define_switch word
+command_switch name.ExecuteKeys word = keys_switch word
 command_switch name.Set word = looked_up word (row (codes "-add") switch.Add ∷ [])
 command_switch name.Select word = looked_up word (row (codes "-codepoint") switch.Codepoint ∷ [])
 command_switch name.Info word = looked_up word (row (codes "-title") switch.Title ∷ [])
 command_switch name.AddHighlighter word = looked_up word (row (codes "-override") switch.Override ∷ [])
+command_switch name.Map word = looked_up word (row (codes "-docstring") switch.Docstring ∷ [])
 command_switch _ word = None
 
 -- the switch that a word is, if there is that one
@@ -46,7 +64,13 @@ abbrev pub takes_word : Switch → Bool
 takes_word switch.Docstring = true
 takes_word switch.Title = true
 takes_word switch.Separator = true
+takes_word switch.Params = true
 takes_word _ = false
+
+-- whether a word may go with a switch: as numbers of parameters, only what says some
+abbrev pub is_good : Switch → List ℕ → Bool
+is_good switch.Params word = is_some (allowed_of word)
+is_good _ word = true
 
 -- the number of a switch
 abbrev pub switch_number : Switch → ℕ
@@ -58,6 +82,9 @@ switch_number switch.Title = 4
 switch_number switch.Override = 5
 switch_number switch.HlCursor = 6
 switch_number switch.Separator = 7
+switch_number switch.Params = 8
+switch_number switch.WithHooks = 9
+switch_number switch.WithMaps = 10
 
 -- whether two switches are one
 abbrev pub is_same_switch : Switch → Switch → Bool
@@ -100,7 +127,8 @@ by_switch (Some switch) word next =
 abbrev pub taken : Owner → Option Switch → List (List ℕ) → Result TakenSwitches OrderError
 taken owner None [] = Ok (record { given = []; words = [] })
 taken owner (Some switch) [] = Err WrongArgumentCount
-taken owner (Some switch) (w ∷ ws) = after_one_switch (record { switch = switch; word = w }) (taken owner None ws)
+taken owner (Some switch) (w ∷ ws) =
+    if is_good switch w then after_one_switch (record { switch = switch; word = w }) (taken owner None ws) else Err BadValue
 taken owner None (w ∷ ws) =
     if not (begins_dash w) then Ok (record { given = []; words = w ∷ ws }) else
     (if bytes_eq w (codes "--") then Ok (record { given = []; words = ws }) else

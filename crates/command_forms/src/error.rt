@@ -16,7 +16,7 @@ pub enum OrderError {
     /// The command has no switch of this name, which is told with its dash.
     #[error("unknown switch: {0}")]
     UnknownSwitch(Utf8Text),
-    /// A word that names a type names none.
+    /// A word that names a type names none, or one that says numbers of parameters says none.
     #[error("bad value")]
     BadValue,
     /// No highlighters have this type.

@@ -10,10 +10,13 @@ pub mod names;
 pub mod numbers;
 pub mod order;
 pub mod painters;
+pub mod parameters;
 pub mod parting;
 pub mod places;
 pub mod reading;
+pub mod runs;
 pub mod switches;
+pub mod table_orders;
 
 pub use error::OrderError;
 pub use laws::{switches_are_apart, worked_examples};
@@ -25,6 +28,9 @@ pub use order::{
 pub use painters::{
     HighlighterOrder, HighlighterWords, LineNumbers, MatchWords, PainterWords, PlaceFace,
 };
+pub use parameters::Allowed;
 pub use parting::parted;
 pub use places::{ArgumentPlace, Columns, Described, Descriptions, Selection};
 pub use reading::read_order_of;
+pub use runs::{PlayOrder, TryOrder};
+pub use table_orders::{AliasName, AliasWords, CommandTexts, KeyMapping, KeyName, TableOrder};

@@ -27,6 +27,14 @@ pub enum CommandName {
     UnsetFace,
     AddHighlighter,
     RemoveHighlighter,
+    Map,
+    Unmap,
+    Alias,
+    Unalias,
+    Define,
+    ExecuteKeys,
+    Evaluate,
+    Try,
 }
 
 // The command of a whole name.
@@ -55,6 +63,14 @@ fn full_name(word: &str) -> Option<CommandName>
         "unset-face" => Some(CommandName::UnsetFace),
         "add-highlighter" => Some(CommandName::AddHighlighter),
         "remove-highlighter" => Some(CommandName::RemoveHighlighter),
+        "map" => Some(CommandName::Map),
+        "unmap" => Some(CommandName::Unmap),
+        "alias" => Some(CommandName::Alias),
+        "unalias" => Some(CommandName::Unalias),
+        "define-command" => Some(CommandName::Define),
+        "execute-keys" => Some(CommandName::ExecuteKeys),
+        "evaluate-commands" => Some(CommandName::Evaluate),
+        "try" => Some(CommandName::Try),
         _ => None,
     }
 }
@@ -79,6 +95,9 @@ fn alias_of(word: &str) -> Option<CommandName>
         "face" => Some(CommandName::SetFace),
         "addhl" => Some(CommandName::AddHighlighter),
         "rmhl" => Some(CommandName::RemoveHighlighter),
+        "def" => Some(CommandName::Define),
+        "exec" => Some(CommandName::ExecuteKeys),
+        "eval" => Some(CommandName::Evaluate),
         _ => None,
     }
 }

@@ -2,6 +2,8 @@
 
 use crate::painters::HighlighterOrder;
 use crate::places::Selection;
+use crate::runs::{PlayOrder, TryOrder};
+use crate::table_orders::TableOrder;
 use byte_texts::{Utf8Text, Words};
 use scope_options::OptionType;
 
@@ -48,6 +50,14 @@ pub enum Order {
     UnsetFace(FaceName),
     /// Add or remove a highlighter.
     Highlighter(HighlighterOrder),
+    /// Change a table of maps, aliases or defined commands.
+    Table(TableOrder),
+    /// Run keys.
+    Play(PlayOrder),
+    /// Run a text as commands.
+    Eval(Utf8Text),
+    /// Run a text as commands, and, where that fails, another one.
+    Try(TryOrder),
 }
 
 /// An option that is to be declared, with the words of its value. Where the command had none, these are `0`, `false`,

@@ -13,7 +13,9 @@ use crate::order::{
 };
 use crate::painters::{highlighter_added, highlighter_removed};
 use crate::places::{Columns, Selection};
+use crate::runs::{playing, trying};
 use crate::switches::{Given, Owner, Switch, is_given, take_switches, word_or_empty};
+use crate::table_orders::{aliasing, defining, mapping, unaliasing, unmapping};
 use byte_texts::Words;
 use scope_options::OptionType;
 use std::alloc::{AllocError, Global};
@@ -206,12 +208,20 @@ fn order_by(
         CommandName::UnsetFace => face_unset(alloc, words),
         CommandName::AddHighlighter => highlighter_added(alloc, given, words),
         CommandName::RemoveHighlighter => highlighter_removed(alloc, words),
+        CommandName::Map => Ok(Order::Table(mapping(alloc, words)?)),
+        CommandName::Unmap => Ok(Order::Table(unmapping(alloc, words)?)),
+        CommandName::Alias => Ok(Order::Table(aliasing(alloc, words)?)),
+        CommandName::Unalias => Ok(Order::Table(unaliasing(alloc, words)?)),
+        CommandName::Define => Ok(Order::Table(defining(alloc, given, words)?)),
+        CommandName::ExecuteKeys => playing(alloc, given, words),
+        CommandName::Evaluate => Ok(Order::Eval(one_word(alloc, words)?)),
+        CommandName::Try => trying(alloc, words),
     }
 }
 
 /// The order of a command, by the words behind its name. A word before the others that begins with a dash is a switch, and
-/// `--` ends the switches. The errors are, in this order, `UnknownSwitch` or `WrongArgumentCount` for the first switch
-/// that is wrong, `WrongArgumentCount` for the number of other words, and `BadValue`, `NoSuchHighlighter` or
+/// `--` ends the switches. The errors are, in this order, `UnknownSwitch`, `WrongArgumentCount` or `BadValue` for the first
+/// switch that is wrong, `WrongArgumentCount` for the number of other words, and `BadValue`, `NoSuchHighlighter` or
 /// `BadSelection` for what these are. Of a highlighter the type is judged first, and then what stands behind it in the same
 /// way. `NoMemory` may come at any time.
 pub fn read_order_of(

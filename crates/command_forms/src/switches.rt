@@ -3,11 +3,12 @@
 ghost use Rattle.std.specs.Prelude.{◌≡◌, ◌==◌, ◌++◌, ◌∷◌, [], map, string_bytes, slice_index, unwrap_or, Ok, None, IfOk, IfErr, OnOk};
 ghost use Rattle.std.specs.Option.{option_copied};
 ghost use Rattle.std.specs.List.{list_any};
-ghost use Rattle.command_forms.specs.Switches.{begins_dash, switch_named, declare_switch, number_switch, command_switch, takes_word, switch_number, is_same_switch, is_given, word_given, word_or_empty, taken, AreSwitchesTaken};
+ghost use Rattle.command_forms.specs.Switches.{begins_dash, switch_named, declare_switch, define_switch, keys_switch, number_switch, command_switch, takes_word, is_good, switch_number, is_same_switch, is_given, word_given, word_or_empty, taken, AreSwitchesTaken};
 ghost use Rattle.command_forms.specs.Errors.{IsDue};
 
 use crate::error::OrderError;
 use crate::names::CommandName;
+use crate::parameters::allowed_of;
 use byte_texts::Utf8Text;
 use std::alloc::{AllocError, Global};
 
@@ -22,6 +23,9 @@ pub enum Switch {
     Override,
     HlCursor,
     Separator,
+    Params,
+    WithHooks,
+    WithMaps,
 }
 
 /// What has switches: a command, or the type of highlighters that number lines.
@@ -66,6 +70,30 @@ fn declare_switch(word: &str) -> Option<Switch>
     }
 }
 
+// The switch of the command that defines commands.
+fn define_switch(word: &str) -> Option<Switch>
+    ensures { result ≡ define_switch word.now }
+{
+    match word {
+        "-override" => Some(Switch::Override),
+        "-hidden" => Some(Switch::Hidden),
+        "-docstring" => Some(Switch::Docstring),
+        "-params" => Some(Switch::Params),
+        _ => None,
+    }
+}
+
+// The switch of the command that runs keys.
+fn keys_switch(word: &str) -> Option<Switch>
+    ensures { result ≡ keys_switch word.now }
+{
+    match word {
+        "-with-hooks" => Some(Switch::WithHooks),
+        "-with-maps" => Some(Switch::WithMaps),
+        _ => None,
+    }
+}
+
 // The switch of highlighters that number lines.
 fn number_switch(word: &str) -> Option<Switch>
     ensures { result ≡ number_switch word.now }
@@ -83,10 +111,13 @@ fn command_switch(name: CommandName, word: &str) -> Option<Switch>
 {
     match name {
         CommandName::Declare => declare_switch(word),
+        CommandName::Define => define_switch(word),
+        CommandName::ExecuteKeys => keys_switch(word),
         CommandName::Set if word == "-add" => Some(Switch::Add),
         CommandName::Select if word == "-codepoint" => Some(Switch::Codepoint),
         CommandName::Info if word == "-title" => Some(Switch::Title),
         CommandName::AddHighlighter if word == "-override" => Some(Switch::Override),
+        CommandName::Map if word == "-docstring" => Some(Switch::Docstring),
         _ => None,
     }
 }
@@ -107,8 +138,18 @@ fn takes_word(switch: Switch) -> bool
 {
     matches!(
         switch,
-        Switch::Docstring | Switch::Title | Switch::Separator
+        Switch::Docstring | Switch::Title | Switch::Separator | Switch::Params
     )
+}
+
+// Whether a word may go with a switch.
+fn is_good(switch: Switch, word: &str) -> bool
+    ensures { result ≡ is_good switch word.now }
+{
+    match switch {
+        Switch::Params => allowed_of(word).is_some(),
+        _ => true,
+    }
 }
 
 // The number of a switch.
@@ -124,6 +165,9 @@ fn switch_number(switch: Switch) -> u8
         Switch::Override => 5,
         Switch::HlCursor => 6,
         Switch::Separator => 7,
+        Switch::Params => 8,
+        Switch::WithHooks => 9,
+        Switch::WithMaps => 10,
     }
 }
 
@@ -182,8 +226,8 @@ fn push_switch(
     Ok(())
 }
 
-/// Takes the switches off words. `UnknownSwitch` and `WrongArgumentCount`, where a switch lacks its word, come for the first
-/// switch that is wrong.
+/// Takes the switches off words. The first switch that is wrong is refused: by `UnknownSwitch`, by `WrongArgumentCount`,
+/// where it lacks its word, or by `BadValue`, where that word may not go with it.
 pub(crate) fn take_switches<'a>(
     alloc: Global,
     owner: Owner,
@@ -196,6 +240,9 @@ pub(crate) fn take_switches<'a>(
     let mut waiting: Option<Switch> = None;
     for (i, word) in words.iter().enumerate() {
         if let Some(switch) = waiting {
+            if !is_good(switch, word.as_str()) {
+                return Err(OrderError::BadValue);
+            }
             push_switch(alloc, &mut given, switch, word.as_str())?;
             waiting = None;
             continue;

@@ -1,4 +1,4 @@
-use Rattle.std.proofs.Common.{◌≡◌, ◌+◌, ◌-◌, ◌*◌, min, get_or, refl, sym, ◌∙◌, arith}
+use Rattle.std.proofs.Common.{◌≡◌, ◌+◌, ◌-◌, ◌*◌, ◌<◌, min, get_or, refl, sym, ◌∙◌, arith}
 use Rattle.command_forms.specs.Numbers.{greatest_number, whole_on}
 use Rattle.command_forms.proofs.NumberLemmas.{number-more, number-end, whole-some}
 use Rattle.command_forms.proofs.numbers.whole_number.Goals as goal

@@ -1,16 +1,17 @@
 use Rattle.std.proofs.Common.{◌≡◌, true, false, None, Some, map, string_bytes, ◌++◌, ◌∷◌, [], refl, ap, sym, ◌∙◌, rules}
 use Rattle.std.specs.Prelude.{codes}
 use Rattle.std.specs.Str.{bytes_eq}
-use Rattle.command_forms.specs.Switches.{begins_dash, switch_named, takes_word, taken}
+use Rattle.command_forms.specs.Switches.{begins_dash, switch_named, takes_word, is_good, taken}
 use Rattle.command_forms.proofs.WordLemmas.{switch-word, switch-alone}
 use Rattle.command_forms.proofs.switches.take_switches.Goals as goal
 
 pub loop-i-preserved-in-Some : goal.loop-i-preserved-in-Some
 loop-i-preserved-in-Some c =
     let w = string_bytes c.index-words-i.result in
+    let good : is_good c.in-Some.switch w ≡ true = search rules in
     let pushed : c.push_switch.new.given.items ≡ c.loop-i.given.items ++ record { switch = c.in-Some.switch; word = w } ∷ [] = search rules in
     switch-word (λ w. string_bytes w) c.args.words.now c.loop-i.i c.index-words-i.result w c.args.owner c.loop-i.waiting c.in-Some.switch c.loop-i.given.items c.push_switch.new.given.items (taken c.args.owner None (map (λ w. string_bytes w) c.args.words.now))
-    c.loop-i-test.true c.index-words-i.is refl c.in-Some.is pushed c.loop-i.invariant
+    c.loop-i-test.true c.index-words-i.is refl c.in-Some.is good pushed c.loop-i.invariant
 
 pub loop-i-preserved : goal.loop-i-preserved
 loop-i-preserved c =
