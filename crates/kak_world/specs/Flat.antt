@@ -81,15 +81,15 @@ scratch = made_buffer (codes "*scratch*") false (10 ∷ [])
 
 -- what a client that has just come has of its own
 abbrev pub first_own : Own
-first_own = record { mode = Normal; count = 0; register = None; pending = None; status = Quiet; appending = false; purpose = Commands; prompt = empty; leaving = false; drawn = false; dragging = false; size = first_size; info = None; sent = None }
+first_own = record { mode = Normal; count = 0; register = None; pending = None; status = Quiet; appending = false; purpose = Commands; prompt = empty; recording = None; leaving = false; drawn = false; dragging = false; size = first_size; info = None; sent = None }
 
 -- a client that has just come: its number in the history, the number in its name, and that of the buffer that it sees
 abbrev pub newcomer : ℕ → ℕ → ℕ → Client
 newcomer who number shown = record { who = who; number = number; shown = shown; own = first_own }
 
--- no step is under way: it is nobody's turn, and no unit is left
+-- no step is under way: it is nobody's turn, no unit is left, and no defined command runs
 abbrev pub between_steps : Stepping
-between_steps = record { units = 0; turn = None }
+between_steps = record { units = 0; turn = None; arguments = None }
 
 -- what is no buffer's and no client's before anything happened: no register was set, and the options and the faces are those
 -- that are given

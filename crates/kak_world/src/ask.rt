@@ -5,6 +5,7 @@ ghost use Rattle.kak_world.specs.declared.ask.EditError.TheVariants.{NoMemory};
 ghost use Rattle.kak_world.specs.Refusals.{of_edit, of_move, of_register};
 
 use crate::command_error::{CommandError, NO_SUCH_REGISTER};
+use crate::playing::{CallText, PlayKeys, TryTexts};
 use crate::purpose::PatternUse;
 use buffer_store::{BufferError, MoveError};
 use byte_texts::Utf8Text;
@@ -45,6 +46,14 @@ pub enum Ask {
     Nothing,
     /// Run a text as commands.
     Commands(Chars),
+    /// Run keys.
+    Play(PlayKeys),
+    /// Run a text as commands, inside what asks for it.
+    Eval(Chars),
+    /// Run a text as commands, and another one where that fails.
+    Try(TryTexts),
+    /// Run what a command was defined as.
+    Call(CallText),
     /// Make a pattern, and go on with it.
     Make(PatternUse),
     /// Read the file of this name, and show its text as a buffer.

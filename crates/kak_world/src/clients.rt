@@ -171,6 +171,7 @@ impl Clients {
                 appending: false,
                 purpose: Purpose::Commands,
                 prompt: EditLine::new(alloc),
+                recording: None,
                 leaving: false,
                 drawn: false,
                 dragging: false,

@@ -55,6 +55,10 @@ const NO_SUCH_HIGHLIGHTER: &str = "no such highlighter: ";
 
 const HIGHLIGHTER_EXISTS: &str = "highlighter exists: ";
 
+const BAD_KEY_AT: &str = "bad key at ";
+
+const NO_SUCH_MODE: &str = "no such mode: ";
+
 /// Why a command was refused. Its status text is what the user is told.
 #[derive(Drop, Debug, Error)]
 pub enum CommandError {
@@ -121,6 +125,12 @@ pub enum CommandError {
     /// There is a highlighter of this path.
     #[error("{text}{0}", text = HIGHLIGHTER_EXISTS)]
     HighlighterExists(Utf8Text),
+    /// The character of a text, from 0, at which no key can be read.
+    #[error("{text}{0}", text = BAD_KEY_AT)]
+    BadKey(usize),
+    /// There is no mode of this name.
+    #[error("{text}{0}", text = NO_SUCH_MODE)]
+    NoSuchMode(Utf8Text),
     /// It was to fail, with this text.
     #[error("{0}")]
     Failed(Utf8Text),
@@ -192,6 +202,8 @@ impl CommandError {
             CommandError::BadFace(at) => with_number(alloc, BAD_FACE_AT, *at),
             CommandError::NoSuchHighlighter(word) => with_word(alloc, NO_SUCH_HIGHLIGHTER, word),
             CommandError::HighlighterExists(word) => with_word(alloc, HIGHLIGHTER_EXISTS, word),
+            CommandError::BadKey(at) => with_number(alloc, BAD_KEY_AT, *at),
+            CommandError::NoSuchMode(word) => with_word(alloc, NO_SUCH_MODE, word),
             CommandError::Failed(word) => Chars::from_str(alloc, word.as_str()),
         }
     }

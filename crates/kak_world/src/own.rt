@@ -4,7 +4,7 @@ use crate::purpose::Purpose;
 use edit_line::EditLine;
 use kak_faces::Face;
 use kak_text::Chars;
-use key_names::Key;
+use key_names::{Key, Keys};
 use window_view::Size;
 
 /// The mode of a client, by which its keys are read.
@@ -24,6 +24,17 @@ pub enum StatusText {
     Said(Chars),
     /// Why a key or a command was refused.
     Refused(Chars),
+}
+
+/// Keys that a client records, to be run as a macro.
+#[derive(Drop, Debug)]
+pub struct Recording {
+    /// The register that they are for.
+    pub register: char,
+    /// The keys that were struck so far.
+    pub struck: Keys,
+    /// Whether it takes the key that is struck now.
+    pub listens: bool,
 }
 
 /// A box that a client is to be shown: its title, which may be empty, and its content, of lines with newlines between them.
@@ -58,6 +69,8 @@ pub struct Own {
     pub purpose: Purpose,
     /// What was typed into the prompt, with the cursor there.
     pub prompt: EditLine,
+    /// The keys that are recorded, where some are.
+    pub recording: Option<Recording>,
     /// Whether the client was granted to leave.
     pub leaving: bool,
     /// Whether the client was drawn before.

@@ -13,6 +13,7 @@ use crate::buffer::WorldBuffer;
 use crate::clients::Clients;
 use crate::turn::{AnyTurn, Turn};
 use crate::turning::bring_turn_up;
+use byte_texts::Words;
 use face_texts::FaceTable;
 use highlight_paint::Highlighters;
 use kak_registers::Registers;
@@ -34,6 +35,8 @@ pub struct Stepping {
     pub units: u32,
     /// Whose step it is: the number of a client in the history.
     pub turn: Option<u32>,
+    /// The words that the innermost defined command was given, where one runs.
+    pub arguments: Option<Words>,
 }
 
 /// What is no buffer's and no client's.
@@ -92,6 +95,7 @@ fn between_steps() -> Stepping
     Stepping {
         units: 0,
         turn: None,
+        arguments: None,
     }
 }
 

@@ -84,3 +84,11 @@ returns-in-NoSuchHighlighter c = rw c.in-NoSuchHighlighter.is c.with_word-in-NoS
 pub returns-in-HighlighterExists : goal.returns-in-HighlighterExists
 unfolding chars
 returns-in-HighlighterExists c = rw c.in-HighlighterExists.is c.with_word-in-HighlighterExists.ensures
+
+pub returns-in-BadKey : goal.returns-in-BadKey
+unfolding chars
+returns-in-BadKey c = rw c.in-BadKey.is c.with_number-in-BadKey.ensures
+
+pub returns-in-NoSuchMode : goal.returns-in-NoSuchMode
+unfolding chars
+returns-in-NoSuchMode c = rw c.in-NoSuchMode.is c.with_word-in-NoSuchMode.ensures
