@@ -2,3 +2,4 @@ pub mod KeepingLaws
 pub mod TypedLemmas
 pub mod AcceptLemmas
 pub mod WaitingLemmas
+pub mod RowLaws

@@ -14,3 +14,5 @@ pub mod OwnLemmas
 pub mod KeepingLaws
 pub mod EndLemmas
 pub mod WantingLemmas
+pub mod PlayingLaws
+pub mod RowLaws

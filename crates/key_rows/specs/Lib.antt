@@ -3,6 +3,7 @@ pub mod Each
 pub mod Naming
 pub mod Reading
 pub mod Patterns
+pub mod Playing
 pub mod Edits
 pub mod Entering
 pub mod Handing

@@ -8,6 +8,7 @@ pub mod laws;
 pub mod leaving;
 pub mod naming;
 pub mod patterns;
+pub mod playing;
 pub mod reading;
 pub mod shapes;
 
@@ -17,5 +18,6 @@ pub use entries::{InsertEntry, enter_insert};
 pub use leaving::edit_leaving;
 pub use naming::register_named;
 pub use patterns::{Bounds, ask_for_last, remember_main};
+pub use playing::{play_text, run_macro};
 pub use reading::{joined_text, keep, register_puts, register_strings, register_text, string_of};
 pub use shapes::Shape;

@@ -7,8 +7,9 @@ use Rattle.std.proofs.lemmas.List.{length-map}
 use Rattle.list_model.specs.Ranges.{Range, Selected}
 use Rattle.list_model.specs.Settling.{placed, sorted, swept, ranges, each_settled}
 use Rattle.list_model.proofs.EmbedLemmas.{swept_no_longer}
+use Rattle.kak_world.specs.declared.own.Own.{Own}
 use Rattle.kak_world.specs.Flat.{Flat, is_joined, acts, sels_of, view_of, tabstop_of, text_of, units_of, with_units}
-use Rattle.kak_world.proofs.WorldLaws.{sels_sels, sels_own, sels_rest, acts_joined}
+use Rattle.kak_world.proofs.WorldLaws.{own_own, sels_sels, sels_own, sels_rest, acts_joined}
 use Rattle.kak_world.proofs.KeepingLaws.{acts_kept, keeps_units}
 use Rattle.list_keys.specs.declared.changes.ListChange.{ListChange}
 use Rattle.list_keys.specs.declared.changes.ListChange.TheVariants.{WholeText, MainAlone, WithoutMain, Cut, Split, Copied}
@@ -16,6 +17,7 @@ use Rattle.list_keys.specs.Cuts.{cut_by}
 use Rattle.list_keys.specs.Rows.{main_turned}
 use Rattle.list_keys.specs.Changes.{change_adds, made_count}
 use Rattle.list_keys.proofs.RowLemmas.{made-few}
+use Rattle.normal_keys.specs.Recording.{recording_of}
 use Rattle.normal_keys.specs.Rows.{client_cleared}
 use Rattle.normal_keys.specs.declared.actions.Repeated.{Repeated}
 use Rattle.normal_keys.specs.declared.actions.Repeated.TheVariants.{Moves, TurnsMain, Travels, GoesToNode, Puts}
@@ -75,6 +77,11 @@ unit-stays who before after e j = ap (acts who) e ∙ acts_kept who before _ (ke
 
 pub cleared-few : (who : ℕ) (before after : Flat) → after ≡ client_cleared who before → length (sels_of who before).list ≤ 4 → length (sels_of who after).list ≤ 4
 cleared-few who before after e h = omega (arith, h, ap (λ (w : Flat). length (sels_of who w).list) e, ap (λ (s : Selected). length s.list) (sels_own who who (λ o. record o { count = 0; register = None; pending = None }) before))
+
+-- nor is what the client records
+pub cleared-records : (who : ℕ) (before after : Flat) → acts who before ≡ true → after ≡ client_cleared who before → recording_of who after ≡ recording_of who before
+cleared-records who before after j e =
+    ap (recording_of who) e ∙ ap (λ (o : Own). o.recording) (own_own who (λ o. record o { count = 0; register = None; pending = None }) before (acts_joined who before j))
 
 -- a change that adds none makes no more than there were, or one
 pub unadding-few : (change : ListChange) (text : List ℕ) (s : Selected) → change_adds change ≡ false → length s.list ≤ 4 → made_count change text s ≤ 4

@@ -121,6 +121,8 @@ signs =
     ∷ (code "n", action.StepsToMatch Forward)
     ∷ (code "N", action.AddsMatch Forward)
     ∷ (code "*", action.Remembers AtWordEnds)
+    ∷ (code "Q", action.Records)
+    ∷ (code "q", action.Plays)
     ∷ []
 
 -- the same with alt
@@ -200,6 +202,7 @@ abbrev pub plain_action : Base → Action
 plain_action (base.Char c) = character_action c
 plain_action base.PageDown = action.MovesOnce (Page Forward) Select
 plain_action base.PageUp = action.MovesOnce (Page Backward) Select
+plain_action base.Esc = action.EndsRecording
 plain_action key = arrow_action key Select
 
 -- a key with control alone

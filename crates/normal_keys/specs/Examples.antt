@@ -191,7 +191,8 @@ pub record HistoryExamples : Type 0 where
 pub record ModeExamples : Type 0 where
   pub i_enters_insert_mode : mode_after (keys (codes "i")) ≡ Insert
   pub colon_opens_the_prompt : mode_after (keys (codes ":")) ≡ Prompt
-  pub others_do_nothing : list_after (key Esc ∷ []) (codes "ab\n") (only 1) ≡ one (only 1)
+  pub escape_leaves_the_selections : list_after (key Esc ∷ []) (codes "ab\n") (only 1) ≡ one (only 1)
+  pub others_do_nothing : list_after (keys (codes "v")) (codes "ab\n") (only 1) ≡ one (only 1)
 
 -- all of them
 pub record Examples : Type 0 where

@@ -2,6 +2,7 @@ pub mod Actions
 pub mod Listing
 pub mod Running
 pub mod Repeating
+pub mod Recording
 pub mod Rows
 pub mod Growing
 pub mod Wanting
@@ -10,3 +11,4 @@ pub mod EditExamples
 pub mod ObjectExamples
 pub mod Laws
 pub mod PatternExamples
+pub mod MacroExamples

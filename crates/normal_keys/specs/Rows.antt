@@ -25,6 +25,7 @@ use Rattle.key_rows.specs.Naming.{register_named}
 use Rattle.key_rows.specs.Patterns.{asks_for_last, main_remembered}
 use Rattle.key_rows.specs.Edits.{fill_row, edit_done}
 use Rattle.key_rows.specs.Entering.{enter_row}
+use Rattle.key_rows.specs.Playing.{row_macro}
 use Rattle.normal_keys.specs.declared.prefixes.Prefix.{Prefix}
 use Rattle.normal_keys.specs.declared.actions.Action.{Action}
 use Rattle.normal_keys.specs.declared.actions.Action.TheVariants as action
@@ -33,6 +34,7 @@ use Rattle.normal_keys.specs.Running.{runs}
 use Rattle.normal_keys.specs.Listing.{list_changed}
 use Rattle.normal_keys.specs.declared.actions.Repeated.TheVariants.{Moves}
 use Rattle.normal_keys.specs.Repeating.{once}
+use Rattle.normal_keys.specs.Recording.{macro_of, recording_of, recording_ended, recording_turned}
 
 -- a count with one more digit, at most 999,999
 abbrev pub with_digit : ℕ → ℕ → ℕ
@@ -83,6 +85,9 @@ acted key (action.Prompts purpose) prefix who flat = does (open_prompt purpose w
 acted key (action.StepsToMatch direction) prefix who flat = asks_for_last (Step direction (prefix.count - 1)) flat
 acted key (action.AddsMatch direction) prefix who flat = asks_for_last (Add direction (prefix.count - 1)) flat
 acted key (action.Remembers bounds) prefix who flat = main_remembered bounds who flat
+acted key action.Records prefix who flat = recording_turned (recording_of who flat) prefix.register who flat
+acted key action.EndsRecording prefix who flat = recording_ended (recording_of who flat) who flat
+acted key action.Plays prefix who flat = row_macro (macro_of prefix) who flat
 
 -- the character that a key without modifiers stands for
 abbrev pub base_character : Base → Option ℕ

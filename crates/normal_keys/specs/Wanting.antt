@@ -18,6 +18,7 @@ use Rattle.normal_keys.specs.declared.actions.Action.TheVariants as action
 use Rattle.normal_keys.specs.declared.actions.Repeated.{Repeated}
 use Rattle.normal_keys.specs.declared.actions.Repeated.TheVariants as repeated
 use Rattle.normal_keys.specs.Actions.{action_of}
+use Rattle.normal_keys.specs.Recording.{not_recording}
 use Rattle.normal_keys.specs.Repeating.{once}
 use Rattle.normal_keys.specs.Rows.{character_of, prefix_of, client_cleared}
 
@@ -51,11 +52,13 @@ is_part_of_once _ register who old new = new ≡ old
 abbrev pub ArePartOfKey : Repeated → ℕ → Option ℕ → ℕ → Flat → Flat → Type 0
 ArePartOfKey what count register who old new = ArePartOfRuns count (once what register who) (is_part_of_once what register who) old new
 
--- an action came part of the way; those that don't change the text leave the world
+-- an action came part of the way; a recording is over then, and those that don't change the text leave the world
 abbrev pub IsPartOfAction : Action → Prefix → ℕ → Flat → Flat → Type 0
 IsPartOfAction (action.Repeats what) prefix who old new = ArePartOfKey what prefix.count prefix.register who old new
 IsPartOfAction (action.Edits edit) prefix who old new = IsPartOfEdit edit prefix.register who old new
 IsPartOfAction (action.Inserts entry) prefix who old new = IsPartOfEntry entry prefix.register who old new
+IsPartOfAction action.Records prefix who old new = new ≡ not_recording who old
+IsPartOfAction action.EndsRecording prefix who old new = new ≡ not_recording who old
 IsPartOfAction _ prefix who old new = new ≡ old
 
 abbrev pub is_part_of_seeking : CharSearch → Reach → ℕ → ℕ → Option ℕ → Flat → Flat → Type 0

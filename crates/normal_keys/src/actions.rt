@@ -64,6 +64,12 @@ pub enum Action {
     AddsMatch(Direction),
     /// The text of the main selection becomes the pattern that was looked for last.
     Remembers(Bounds),
+    /// The keys that are struck from now on are recorded as a macro, or no more.
+    Records,
+    /// They are recorded no more.
+    EndsRecording,
+    /// A macro is run, as often as the count says.
+    Plays,
 }
 
 // A motion of each selection, as often as the count says.
@@ -163,6 +169,8 @@ fn sign_action(c: char) -> Action
         'n' => Action::StepsToMatch(Direction::Forward),
         'N' => Action::AddsMatch(Direction::Forward),
         '*' => Action::Remembers(Bounds::AtWordEnds),
+        'Q' => Action::Records,
+        'q' => Action::Plays,
         _ => Action::Nothing,
     }
 }
@@ -254,6 +262,7 @@ fn plain_action(base: Base) -> Action
         Base::Char(c) => character_action(c),
         Base::PageDown => Action::MovesOnce(Motion::Page(Direction::Forward), Reach::Select),
         Base::PageUp => Action::MovesOnce(Motion::Page(Direction::Backward), Reach::Select),
+        Base::Esc => Action::EndsRecording,
         _ => arrow_action(base, Reach::Select),
     }
 }

@@ -6,6 +6,7 @@ ghost use Rattle.kak_world.specs.Flat.{acts, sels_of, pending_of};
 ghost use Rattle.kak_world.specs.Rows.{GivesRow, does};
 ghost use Rattle.key_rows.specs.Each.{each_changed};
 ghost use Rattle.normal_keys.specs.Rows.{open_prompt, go_to_line, acted, sought_character, chosen_register, answered, row_pending, row_normal};
+ghost use Rattle.normal_keys.specs.Recording.{recording_of};
 ghost use Rattle.normal_keys.specs.Growing.{action_grows, answer_grows, key_grows};
 ghost use Rattle.normal_keys.specs.Wanting.{is_part_of_seeking, IsPartOfAction, IsPartOfAnswer, IsPartOfKey, IsPartOfNormal};
 
@@ -13,12 +14,14 @@ use crate::actions::{Action, Repeated, action_of};
 use crate::awaited::{character_of, object_of, place_of};
 use crate::lists::change_list;
 use crate::prefixes::{Prefix, set_prefix, take_prefix, wait, with_digit};
+use crate::recording::{end_recording, macro_of, turn_recording};
 use crate::runs::run_often;
 use edit_line::EditLine;
 use kak_world::{Ask, EditError, Mode, Purpose, Turn, Use, World};
 use key_names::Key;
 use key_rows::{
     Each, ask_for_last, change_each, edit_texts, enter_insert, fill, register_named, remember_main,
+    run_macro,
 };
 use motion_keys::{CharSearch, Motion, Place, Reach};
 use regex_ports::Pattern;
@@ -90,7 +93,7 @@ fn act<P: Pattern, T: Turn>(
     requires { acts who world.old.flat ≡ true }
     ensures row { GivesRow result world.new.flat (acted key action prefix who world.old.flat) }
     ensures wanting { IsErrOf result EditError.NoMemory → IsPartOfAction action prefix who world.old.flat world.new.flat }
-    ensures few { length (sels_of who world.old.flat).list ≤ 4 → IsErrOf result EditError.NoMemory → action_grows action ≡ true }
+    ensures few { length (sels_of who world.old.flat).list ≤ 4 → IsErrOf result EditError.NoMemory → action_grows (recording_of who world.old.flat) action ≡ true }
 {
     let Prefix { count, register } = prefix;
     match action {
@@ -133,6 +136,9 @@ fn act<P: Pattern, T: Turn>(
             remember_main(alloc, world, who, bounds)?;
             Ok(Ask::Nothing)
         }
+        Action::Records => turn_recording(alloc, world, who, register),
+        Action::EndsRecording => end_recording(alloc, world, who),
+        Action::Plays => Ok(Ask::Play(run_macro(alloc, world, who, macro_of(prefix))?)),
     }
 }
 
@@ -231,7 +237,7 @@ fn run_pending<P: Pattern, T: Turn>(
     requires { acts who world.old.flat ≡ true }
     ensures row { GivesRow result world.new.flat (row_pending pending key prefix who world.old.flat) }
     ensures wanting { IsErrOf result EditError.NoMemory → IsPartOfKey pending key prefix who world.old.flat world.new.flat }
-    ensures few { length (sels_of who world.old.flat).list ≤ 4 → IsErrOf result EditError.NoMemory → key_grows pending key ≡ true }
+    ensures few { length (sels_of who world.old.flat).list ≤ 4 → IsErrOf result EditError.NoMemory → key_grows (recording_of who world.old.flat) pending key ≡ true }
 {
     match pending {
         None => act(alloc, world, who, prefix, key, action_of(key)),
@@ -241,7 +247,8 @@ fn run_pending<P: Pattern, T: Turn>(
 
 /// Runs one key of normal mode, on each selection of a client. A refusal leaves the world behind the runs of the key before
 /// it, and takes what stood before the key away; its text is what the user is told. `BudgetSpent` comes where a further run was
-/// due and no unit was left. For at most four selections, only a key that can change the text or add selections takes memory.
+/// due and no unit was left. For at most four selections, only a key that edits or
+/// keeps texts, moves in the history, can add selections, handles a pattern, runs a macro or ends a recording takes memory.
 #[tactic(auto, unfolding(crate::specs::Rows::row_normal), using(kak_world::proofs::WorldLaws::world_laws))]
 pub fn normal_key<P: Pattern, T: Turn>(
     alloc: Global,
@@ -252,7 +259,7 @@ pub fn normal_key<P: Pattern, T: Turn>(
     requires { acts who world.old.flat ≡ true }
     ensures row { GivesRow result world.new.flat (row_normal key who world.old.flat) }
     ensures wanting { IsErrOf result EditError.NoMemory → IsPartOfNormal key who world.old.flat world.new.flat }
-    ensures few { length (sels_of who world.old.flat).list ≤ 4 → IsErrOf result EditError.NoMemory → key_grows (pending_of who world.old.flat) key ≡ true }
+    ensures few { length (sels_of who world.old.flat).list ≤ 4 → IsErrOf result EditError.NoMemory → key_grows (recording_of who world.old.flat) (pending_of who world.old.flat) key ≡ true }
 {
     let (prefix, pending) = take_prefix(world, who);
     run_pending(alloc, world, who, prefix, pending, key)

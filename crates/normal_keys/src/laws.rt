@@ -4,6 +4,7 @@ ghost use Rattle.normal_keys.specs.Examples.{Examples};
 ghost use Rattle.normal_keys.specs.EditExamples.{AllEditExamples};
 ghost use Rattle.normal_keys.specs.ObjectExamples.{ObjectExamples};
 ghost use Rattle.normal_keys.specs.PatternExamples.{PatternExamples};
+ghost use Rattle.normal_keys.specs.MacroExamples.{MacroExamples};
 ghost use Rattle.normal_keys.specs.Laws.{RowsKeepClients};
 
 /// No key of normal mode makes a client come or go.
@@ -29,4 +30,9 @@ pub fn object_examples()
 /// Worked examples of the rows that handle patterns.
 pub fn pattern_examples()
     ensures { PatternExamples }
+{}
+
+/// Worked examples of the rows that record and run macros.
+pub fn macro_examples()
+    ensures { MacroExamples }
 {}

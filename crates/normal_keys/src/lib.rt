@@ -7,6 +7,7 @@ pub mod keys;
 pub mod laws;
 mod lists;
 pub mod prefixes;
+mod recording;
 mod runs;
 
 pub use keys::normal_key;
