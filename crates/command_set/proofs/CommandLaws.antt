@@ -21,12 +21,14 @@ use Rattle.face_texts.specs.declared.text.FaceText.{FaceText}
 use Rattle.face_texts.specs.declared.rows.NamedFace.{NamedFace}
 use Rattle.face_texts.specs.Tables.{face_set_in, word_text}
 use Rattle.scope_options.specs.declared.scope.Scope.{Scope}
+use Rattle.scope_tables.specs.declared.definitions.Definition.{Definition}
+use Rattle.scope_tables.specs.Definitions.{definition_of}
 use Rattle.scope_options.specs.declared.scope.Scope.TheVariants.{Buffer as InBuffer}
 use Rattle.scope_options.specs.declared.setting.Setting.{Setting}
 use Rattle.scope_options.specs.declared.options.OptionError.{OptionError}
 use Rattle.scope_options.specs.Changes.{declare_in, option_set_in, option_unset_in}
 use Rattle.kak_world.specs.declared.ask.Saving.{Saving}
-use Rattle.kak_world.specs.Flat.{Buffer, Flat, shown_of, name_of, units_of, options_of, faces_of, is_there, with_own, with_sels, with_options, with_faces}
+use Rattle.kak_world.specs.Flat.{Buffer, Flat, shown_of, name_of, units_of, options_of, faces_of, tables_of, is_there, with_own, with_sels, with_options, with_faces}
 use Rattle.kak_world.specs.Registers.{set_unless, set_row}
 use Rattle.kak_world.specs.Dropping.{KeepsJoined, dropped}
 use Rattle.kak_world.specs.Showing.{first_gap, buffer_placed, has_all_buffers, buffer_opened, shows}
@@ -44,11 +46,13 @@ use Rattle.command_set.specs.Options.{scope_named, is_declared, options_row, dec
 use Rattle.command_set.specs.Registers.{register_set, register_row, echo_row}
 use Rattle.command_set.specs.Selecting.{described_selected}
 use Rattle.command_set.specs.Expanding.{table_of}
-use Rattle.command_set.specs.Rows.{row_order, row_read_order, row_named, row_words, row_expanded, row_command}
+use Rattle.command_set.specs.Running.{call_row}
+use Rattle.command_set.specs.Rows.{row_order, row_read_order, meant, row_named, row_words, row_expanded, row_command}
 use Rattle.command_set.specs.Boxes.{info_row}
 use Rattle.command_set.specs.Faces.{faces_row, face_read_row, set_face_row, unset_face_row}
 use Rattle.command_set.specs.Laws.{IsTame}
-use Rattle.command_set.proofs.PaintingLaws.{tame-same, tame-if, tame-highlighter}
+use Rattle.command_set.proofs.PaintingLaws.{tame-same, tame-if, tame-told, tame-highlighter}
+use Rattle.command_set.proofs.TableLaws.{tame-table}
 
 -- a number that is found by a name is a buffer's
 named-from : (k : ℕ) (name : List ℕ) (bs : List (Option Buffer)) (n : ℕ) → buffer_number_from k name bs ≡ Some n → (m : ℕ) × (n ≡ k + m) × (is_there m bs ≡ true)
@@ -185,19 +189,27 @@ tame-order (order.Info i) who flat = tame-info i.title i.text who flat
 tame-order (order.SetFace f) who flat = tame-set_face f.scope f.name f.face flat
 tame-order (order.UnsetFace f) who flat = tame-unset_face f.scope f.name flat
 tame-order (order.Highlighter h) who flat = tame-highlighter h who flat
+tame-order (order.Table t) who flat = tame-table t who flat
+tame-order (order.Play p) who flat = tame-told _ flat _ (λ keys. tame-same flat _)
+tame-order (order.Eval text) who flat = tame-same flat _
+tame-order (order.Try t) who flat = tame-same flat _
 
 tame-read_order : (r : Result Order OrderError) (who : ℕ) (flat : Flat) → IsTame flat (row_read_order r who flat)
 tame-read_order (Ok o) who flat = tame-order o who flat
 tame-read_order (Err e) who flat = tame-same flat _
 
-tame-named : (name : Option CommandName) (word : List ℕ) (words : List (List ℕ)) (who : ℕ) (flat : Flat) → IsTame flat (row_named name word words who flat)
-tame-named None word words who flat = tame-same flat _
-tame-named (Some name) word words who flat = tame-read_order (order_after name words) who flat
+tame-call : (d : Option Definition) (word : List ℕ) (words : List (List ℕ)) (flat : Flat) → IsTame flat (call_row d word words flat)
+tame-call None word words flat = tame-same flat _
+tame-call (Some d) word words flat = tame-if flat _ _ _ (tame-same flat _) (tame-same flat _)
+
+tame-named : (command : Option CommandName) (name word : List ℕ) (words : List (List ℕ)) (who : ℕ) (flat : Flat) → IsTame flat (row_named command name word words who flat)
+tame-named None name word words who flat = tame-call (definition_of name (tables_of flat).definitions) word words flat
+tame-named (Some command) name word words who flat = tame-read_order (order_after command words) who flat
 
 tame-words : (words : List (List ℕ)) (who : ℕ) (flat : Flat) → IsTame flat (row_words words who flat)
 unfolding row_words
 tame-words [] who flat = tame-same flat _
-tame-words (w ∷ ws) who flat = tame-named (command_of w) w ws who flat
+tame-words (w ∷ ws) who flat = tame-named (command_of (meant w who flat)) (meant w who flat) w ws who flat
 
 tame-expanded : (r : Result (List (List ℕ)) (List ℕ)) (who : ℕ) (flat : Flat) → IsTame flat (row_expanded r who flat)
 tame-expanded (Ok words) who flat = tame-words words who flat

@@ -1,6 +1,8 @@
 pub mod NamingLemmas
 pub mod PlainLemmas
+pub mod MappingLemmas
 pub mod PaintingLaws
+pub mod TableLaws
 pub mod CommandLaws
 pub mod ExpandingLemmas
 pub mod FileLaws

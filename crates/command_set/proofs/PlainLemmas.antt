@@ -1,4 +1,4 @@
--- What words of highlighters are refused by is told as a status text.
+-- What words of highlighters and key texts are refused by is told as a status text.
 use Rattle.std.proofs.Common.{◌≡◌, ℕ, List, [], ◌∷◌, refl, ap, subst}
 use Rattle.std.specs.Prelude.{Some, None, Ok, Err, IfSome}
 use Rattle.std.specs.declared.option.Option.{Option}
@@ -10,13 +10,17 @@ use Rattle.face_texts.specs.declared.text.FaceText.{FaceText}
 use Rattle.face_texts.specs.declared.rows.NamedFace.{NamedFace}
 use Rattle.face_texts.specs.Tables.{word_text}
 use Rattle.highlight_paint.specs.declared.painter.GroupFace.{GroupFace}
+use Rattle.std.specs.Str.{chars}
+use Rattle.key_names.specs.declared.key.Key.{Key}
+use Rattle.key_names.specs.Reading.{read_text}
 use Rattle.kak_world.specs.declared.ask.EditError.{EditError}
 use Rattle.kak_world.specs.declared.ask.EditError.TheVariants as error
-use Rattle.kak_world.specs.declared.command_error.CommandError.TheVariants.{BadFace, BadValue}
+use Rattle.kak_world.specs.declared.command_error.CommandError.TheVariants.{BadFace, BadKey, BadValue}
 use Rattle.kak_world.specs.Flat.{Flat}
 use Rattle.kak_world.specs.Rows.{RowEnd, row_of}
 use Rattle.command_set.specs.Painters.{face_told, number_told, group_parted, group_told, groups_told}
 use Rattle.command_set.specs.Painting.{told_row}
+use Rattle.command_set.specs.Tables.{keys_told, only_key, key_told}
 
 -- a refusal by which the step isn't given up
 abbrev IsPlain : EditError → Type 0
@@ -65,6 +69,27 @@ pub plain-groups : (faces : List NamedFace) (words : List (List ℕ)) → ArePla
 plain-groups faces [] e h = absurd (let no : Ok [] ≡ Err e = h in cc)
 plain-groups faces (w ∷ ws) e h =
     plain-with (λ g. then_as (λ gs. g ∷ gs) (groups_told faces ws)) (group_told faces w) (plain-group faces (parted 58 w)) (λ g. plain-as (λ gs. g ∷ gs) (groups_told faces ws) (plain-groups faces ws)) e h
+
+pub plain-keys : (r : Result (List Key) ℕ) → ArePlain (keys_told r)
+plain-keys (Ok keys) e h = absurd (let no : Ok keys ≡ Err e = h in cc)
+plain-keys (Err at) e h =
+    let same : error.Command (BadKey at) ≡ e = cc in
+    subst IsPlain same tt
+
+plain-only : (r : Result (List Key) EditError) → ArePlain r → ArePlain (only_key r)
+plain-only (Ok []) p e h =
+    let same : error.Command (BadKey 0) ≡ e = cc in
+    subst IsPlain same tt
+plain-only (Ok (k ∷ [])) p e h = absurd (let no : Ok k ≡ Err e = h in cc)
+plain-only (Ok (k ∷ l ∷ ks)) p e h =
+    let same : error.Command (BadKey 0) ≡ e = cc in
+    subst IsPlain same tt
+plain-only (Err d) p e h =
+    let same : d ≡ e = cc in
+    subst IsPlain same (p d refl)
+
+pub plain-key : (word : List ℕ) → ArePlain (key_told word)
+plain-key word = plain-only (keys_told (read_text (chars word))) (plain-keys (read_text (chars word)))
 
 -- what wasn't told is the row's refusal
 module _ {A : Type 0} (row : A → RowEnd) (flat : Flat) (r : Result A EditError) where

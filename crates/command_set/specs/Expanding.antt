@@ -1,5 +1,5 @@
 -- The table of expansions, as a client's world gives it.
-use Rattle.std.specs.Prelude.{ℕ, ◌+◌, Bool, true, false, ◌||◌, if◌then◌else◌, List, [], ◌∷◌, ◌++◌, length, codes, decimal, encode_utf8_all, option_map, None, Some}
+use Rattle.std.specs.Prelude.{ℕ, ◌+◌, ◌-◌, ◌==◌, nat_lt, Bool, true, false, ◌||◌, if◌then◌else◌, List, [], ◌∷◌, ◌++◌, length, codes, decimal, encode_utf8_all, option_map, option_and_then, unwrap_or, slice_index_or, None, Some}
 use Rattle.std.specs.declared.option.Option.{Option}
 use Rattle.std.specs.Fmt.{signed_decimal}
 use Rattle.std.specs.Str.{bytes_eq}
@@ -10,8 +10,10 @@ use Rattle.undo_model.specs.Stories.{is_modified}
 use Rattle.list_model.specs.Ranges.{Range, cursor}
 use Rattle.selection_set.specs.Held.{main_of}
 use Rattle.kak_world.specs.Flat.{Flat, option_of, name_of, number_of, text_of, sels_of, story_of}
+use Rattle.kak_world.specs.Running.{arguments_of}
 use Rattle.edit_ops.specs.Reading.{text_of_range}
 use Rattle.key_rows.specs.Reading.{strings_read, own_strings}
+use Rattle.command_forms.specs.Numbers.{whole_number}
 use Rattle.command_forms.specs.declared.places.Columns.{Columns}
 use Rattle.command_forms.specs.declared.places.Columns.TheVariants.{Bytes, Characters}
 use Rattle.command_forms.specs.declared.places.ArgumentPlace.{ArgumentPlace}
@@ -84,9 +86,17 @@ abbrev pub register_strings : Option ℕ → ℕ → Flat → Option (List (List
 register_strings None who flat = None
 register_strings (Some c) who flat = strings_read c who flat
 
--- the arguments of a defined command: there are none, as none runs
-abbrev pub arguments : List ℕ → Option (List (List ℕ))
-arguments name = if bytes_eq name (codes "@") then Some [] else None
+-- the word of a number, from 1, if there is one
+abbrev pub argument_at : ℕ → List (List ℕ) → Option (List (List ℕ))
+argument_at n words = if n == 0 then None else (if nat_lt (n - 1) (length words) then Some (slice_index_or words (n - 1) [] ∷ []) else None)
+
+-- the words that a name says: all, or the one of a number
+abbrev pub arguments : List ℕ → List (List ℕ) → Option (List (List ℕ))
+arguments name words = if bytes_eq name (codes "@") then Some words else option_and_then (λ n. argument_at n words) (whole_number name)
+
+-- the words that the defined command was given that runs; where none does, there are none
+abbrev pub given_words : Flat → List (List ℕ)
+given_words flat = unwrap_or (arguments_of flat) []
 
 -- the strings of an expansion of a kind, by its name
 abbrev pub strings_named : Option Kind → ℕ → Flat → List ℕ → Option (List (List ℕ))
@@ -94,7 +104,7 @@ strings_named None who flat name = None
 strings_named (Some Value) who flat name = option_map (λ v. value_strings v who flat) (value_named name)
 strings_named (Some OfOption) who flat name = option_map option_strings (option_of name who flat)
 strings_named (Some OfRegister) who flat name = register_strings (named name) who flat
-strings_named (Some Argument) who flat name = arguments name
+strings_named (Some Argument) who flat name = arguments name (given_words flat)
 
 -- the table of a client: the strings of an expansion, by its kind and its name
 unfoldable pub table_of : ℕ → Flat → List ℕ → List ℕ → Option (List (List ℕ))

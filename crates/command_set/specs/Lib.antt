@@ -7,6 +7,8 @@ pub mod Boxes
 pub mod Faces
 pub mod Painters
 pub mod Painting
+pub mod Tables
+pub mod Running
 pub mod Expanding
 pub mod Files
 pub mod Wanting
@@ -16,3 +18,4 @@ pub mod Refusing
 pub mod Laws
 pub mod Examples
 pub mod PaintingExamples
+pub mod TableExamples

@@ -10,17 +10,19 @@ ghost use Rattle.command_forms.specs.Names.{named};
 ghost use Rattle.command_set.specs.Reading.{commands_told};
 ghost use Rattle.command_set.specs.Expanding.{table_of};
 ghost use Rattle.command_set.specs.Refusing.{IsUnexpanded};
-ghost use Rattle.command_set.specs.Rows.{row_order, order_refusal, row_named, row_words, row_command};
+ghost use Rattle.command_set.specs.Rows.{row_order, order_refusal, meant, row_meant, row_words, row_command};
 
 use crate::expansions::Expansions;
-use crate::{boxes, buffers, faces, options, painting, registers, selecting};
+use crate::{
+    boxes, buffers, faces, options, painting, registers, running, selecting, session_tables,
+};
 use byte_texts::Utf8Text;
 use command_forms::{Order, OrderError, command_named, read_order_of};
 use kak_words::{Command, WordError, expand, read_commands};
 use kak_world::{Ask, CommandError, EditError, Turn, World};
 use key_rows::string_of;
 use regex_ports::Pattern;
-use std::alloc::Global;
+use std::alloc::{AllocError, Global};
 
 /// The commands of a text. `Unclosed` tells the character, from 0, at which a quote or a bracket opens that isn't closed.
 pub fn read(alloc: Global, text: &[char]) -> Result<Vec<Command>, EditError>
@@ -70,6 +72,10 @@ fn run_order<P: Pattern, T: Turn>(
         Order::SetFace(setting) => faces::set(alloc, world, setting)?,
         Order::UnsetFace(face) => faces::unset(world, face)?,
         Order::Highlighter(order) => return painting::change(alloc, world, who, order),
+        Order::Table(order) => return session_tables::change(alloc, world, who, order),
+        Order::Play(order) => return running::play(alloc, world, &order),
+        Order::Eval(text) => return running::eval(alloc, world, &text),
+        Order::Try(order) => return running::try_texts(alloc, world, &order),
     }
     Ok(Ask::Nothing)
 }
@@ -90,29 +96,46 @@ fn order_refusal(error: OrderError) -> EditError
     }
 }
 
-// Runs the command that a word names, by the words behind it.
+// The command that a word stands for, for a client: the one of its alias, if it has one, and else the word itself.
+fn meant<P: Pattern, T: Turn>(
+    alloc: Global,
+    world: &World<P, T>,
+    who: u32,
+    word: &str,
+) -> Result<Utf8Text, AllocError>
+    requires { acts who world.now.flat ≡ true }
+    ensures { IfOk result (λ name. name ≡ meant word.now who world.now.flat) }
+{
+    match world.tables().alias(world.shown_number(who), who, word) {
+        Some(command) => Utf8Text::from_str(alloc, command),
+        None => Utf8Text::from_str(alloc, word),
+    }
+}
+
+// Runs the command of a name, by the words behind the one that was typed.
 fn run_named<P: Pattern, T: Turn>(
     alloc: Global,
     world: &mut World<P, T>,
     who: u32,
-    word: &str,
+    name: &str,
+    typed: &str,
     words: &[String],
 ) -> Result<Ask, EditError>
     requires { acts who world.old.flat ≡ true }
-    ensures row { GivesRow result world.new.flat (row_named (named word.now) word.now (map (λ w. string_bytes w) words.now) who world.old.flat) }
+    ensures row { GivesRow result world.new.flat (row_meant name.now typed.now (map (λ w. string_bytes w) words.now) who world.old.flat) }
     ensures wanting { IsErrOf result NoMemory → world.new.flat ≡ world.old.flat }
 {
-    let Some(name) = command_named(word) else {
-        let word = Utf8Text::from_str(alloc, word)?;
-        return Err(EditError::Command(CommandError::NoSuchCommand(word)));
+    let Some(command) = command_named(name) else {
+        return running::call(alloc, world, name, typed, words);
     };
-    match read_order_of(alloc, name, words) {
+    match read_order_of(alloc, command, words) {
         Ok(order) => run_order(alloc, world, who, order),
         Err(error) => Err(order_refusal(error)),
     }
 }
 
-/// Runs one command, by its words, of which the first names it: `NoSuchCommand` comes where it doesn't. No words do nothing. A
+/// Runs one command, by its words, of which the first names it, has an alias that does, or was defined: `NoSuchCommand`
+/// comes where none of this holds. No words do nothing. A
 /// refusal leaves the world, and so does want of memory.
 #[tactic(auto, using(kak_world::proofs::WorldLaws::world_laws), unfolding(crate::specs::Rows::row_words))]
 pub fn command<P: Pattern, T: Turn>(
@@ -127,7 +150,11 @@ pub fn command<P: Pattern, T: Turn>(
 {
     match words {
         [] => Ok(Ask::Nothing),
-        [word, ..] => run_named(alloc, world, who, word.as_str(), words.split_at(1).1),
+        [word, ..] => {
+            let name = meant(alloc, world, who, word.as_str())?;
+            let more = words.split_at(1).1;
+            run_named(alloc, world, who, name.as_str(), word.as_str(), more)
+        }
     }
 }
 

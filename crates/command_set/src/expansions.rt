@@ -8,11 +8,11 @@ ghost use Rattle.selection_set.specs.Inside.{IsInside, range_of};
 ghost use Rattle.selection_texts.specs.Telling.{told_text};
 ghost use Rattle.kak_registers.specs.Names.{named};
 ghost use Rattle.kak_world.specs.Flat.{acts, option_of, text_of, story_of};
-ghost use Rattle.command_set.specs.Expanding.{truth, main_selection, main_place, value_strings, value_named, option_strings, register_strings, arguments, table_of};
+ghost use Rattle.command_set.specs.Expanding.{truth, main_selection, main_place, value_strings, value_named, option_strings, register_strings, argument_at, arguments, given_words, table_of};
 
 use crate::value_names::{Kind, ValueName, kind_named, value_named};
 use byte_texts::Words;
-use command_forms::{ArgumentPlace, Columns};
+use command_forms::{ArgumentPlace, Columns, whole_number};
 use kak_registers::register_named;
 use kak_words::Lookup;
 use kak_world::{Turn, World};
@@ -223,14 +223,47 @@ fn named_register<P: Pattern, T: Turn>(
     }
 }
 
-// The arguments of a defined command: there are none, as none runs.
-fn arguments(alloc: Global, name: &str) -> Option<Words>
-    ensures { result ≡ arguments name.now }
+// The word of a number, from 1, if there is one.
+fn argument_at(alloc: Global, words: &Words, n: u32) -> Result<Option<Words>, AllocError>
+    ensures { IfOk result (λ found. found ≡ argument_at n words.now) }
+{
+    if n == 0 {
+        return Ok(None);
+    }
+    let place = (n - 1) as usize;
+    if place >= words.len() {
+        return Ok(None);
+    }
+    let mut found = Words::new(alloc);
+    found.push(String::from_str(alloc, words.get(place))?)?;
+    Ok(Some(found))
+}
+
+// The words that a name says: all, or the one of a number.
+fn arguments(alloc: Global, words: &Words, name: &str) -> Result<Option<Words>, AllocError>
+    ensures { IfOk result (λ found. found ≡ arguments name.now words.now) }
 {
     if name == "@" {
-        return Some(Words::new(alloc));
+        return Ok(Some(words.copy(alloc)?));
     }
-    None
+    match whole_number(name.as_bytes()) {
+        None => Ok(None),
+        Some(n) => argument_at(alloc, words, n),
+    }
+}
+
+// The words that a name says of those that the defined command was given that runs; where none does, there are none.
+fn named_argument<P: Pattern, T: Turn>(
+    alloc: Global,
+    world: &World<P, T>,
+    name: &str,
+) -> Result<Option<Words>, AllocError>
+    ensures { IfOk result (λ found. found ≡ arguments name.now (given_words world.now.flat)) }
+{
+    match world.arguments() {
+        None => arguments(alloc, &Words::new(alloc), name),
+        Some(words) => arguments(alloc, words, name),
+    }
 }
 
 // The strings of an expansion.
@@ -250,7 +283,7 @@ fn strings_of<P: Pattern, T: Turn>(
         Some(Kind::Value) => named_value(alloc, world, who, name),
         Some(Kind::Option) => named_option(alloc, world, who, name),
         Some(Kind::Register) => named_register(alloc, world, who, name),
-        Some(Kind::Argument) => Ok(arguments(alloc, name)),
+        Some(Kind::Argument) => named_argument(alloc, world, name),
     }
 }
 

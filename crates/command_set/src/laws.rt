@@ -2,6 +2,7 @@
 
 ghost use Rattle.command_set.specs.Examples.{Examples};
 ghost use Rattle.command_set.specs.PaintingExamples.{PaintingExamples};
+ghost use Rattle.command_set.specs.TableExamples.{TableExamples};
 ghost use Rattle.command_set.specs.Laws.{CommandsAreTame, FilesAreTame, FinishFalls, FinishKeepsClients};
 
 /// No command takes units, or lets a client come or go.
@@ -32,4 +33,10 @@ pub fn worked_examples()
 /// Faces and highlighters, at given words and worlds. The function does nothing; its clause is the list of them.
 pub fn painting_examples()
     ensures { PaintingExamples }
+{}
+
+/// Key maps, aliases and defined commands, at given words and worlds. The function does nothing; its clause is the list of
+/// them.
+pub fn table_examples()
+    ensures { TableExamples }
 {}

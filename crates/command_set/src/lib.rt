@@ -13,7 +13,9 @@ mod options;
 mod painters;
 mod painting;
 mod registers;
+mod running;
 mod selecting;
+mod session_tables;
 mod value_names;
 
 pub use commands::{command, read, run_command};

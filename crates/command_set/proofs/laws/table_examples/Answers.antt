@@ -1,0 +1,22 @@
+-- The examples hold by computation, with the parts of the world open.
+use Rattle.std.specs.Str.{chars}
+use lib.Utf8.{encode}
+use Rattle.kak_world.specs.Flat.{client_of, shown_of, scoped_of, with_scoped}
+use Rattle.command_set.specs.Rows.{row_words}
+use Rattle.command_set.specs.TableExamples.{KeyExamples, MapExamples, AliasExamples}
+use Rattle.command_set.proofs.laws.table_examples.Goals as goal
+
+keys : KeyExamples
+unfolding chars encode
+keys = search
+
+maps : MapExamples
+unfolding chars encode client_of shown_of
+maps = search
+
+aliases : AliasExamples
+unfolding chars encode client_of shown_of scoped_of with_scoped row_words
+aliases = search
+
+pub returns : goal.returns
+returns c = record { keys = keys; maps = maps; aliases = aliases }
