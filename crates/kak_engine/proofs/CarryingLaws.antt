@@ -1,38 +1,33 @@
--- What every row that is done leaves as it was, is so after all that a row asks for.
-use Rattle.std.proofs.Common.{◌≡◌, ℕ, zero, suc, List, [], ◌∷◌, refl}
+-- What every task that begins in a step leaves as it was, is so after all that a row asks for.
+use Rattle.std.proofs.Common.{◌≡◌, ℕ, zero, suc, Bool, true, false, nat_lt, List, [], ◌∷◌, refl}
 use Rattle.std.specs.Prelude.{Some, None, Ok, Err, encode_utf8_all}
 use Rattle.std.specs.declared.option.Option.{Option}
 use Rattle.std.specs.declared.result.Result.{Result}
-use Rattle.kak_files.specs.declared.files.FileRead.{FileRead}
-use Rattle.kak_ports.specs.declared.sink.Put.{Put}
+use Rattle.key_names.specs.declared.key.Key.{Key}
 use Rattle.kak_words.specs.declared.parts.Command.{Command}
 use Rattle.kak_world.specs.declared.ask.Ask.{Ask}
-use Rattle.kak_world.specs.declared.ask.Ask.TheVariants.{Nothing, Commands, Make, Read, Write, Leave}
+use Rattle.kak_world.specs.declared.ask.Ask.TheVariants.{Nothing, Commands, Play, Eval, Try, Call, Make, Read, Write, Leave}
 use Rattle.kak_world.specs.declared.ask.EditError.{EditError}
-use Rattle.kak_world.specs.declared.ask.Saving.{Saving}
-use Rattle.kak_world.specs.declared.purpose.Wanted.{Wanted}
+use Rattle.kak_world.specs.declared.playing.Macro.{Macro}
+use Rattle.kak_world.specs.declared.playing.PlayKeys.{PlayKeys}
 use Rattle.kak_world.specs.Flat.{Flat, units_of, with_units}
-use Rattle.kak_world.specs.Rows.{Row, Asks, Fails, GivesUp, RowEnd}
+use Rattle.kak_world.specs.Running.{arguments_of, keys_mapped}
+use Rattle.kak_world.specs.Rows.{Row, Asks, Fails, GivesUp}
 use Rattle.command_set.specs.Reading.{commands_told}
-use Rattle.command_set.specs.Rows.{row_command}
-use Rattle.command_set.specs.Files.{row_read, row_saved}
-use Rattle.command_set.specs.Finishing.{row_finish}
 use Rattle.session_events.specs.declared.event.Answered.{Answered}
+use Rattle.kak_engine.specs.declared.place.Place.{Place}
+use Rattle.kak_engine.specs.declared.place.TheConstants.{MAX_DEPTH}
 use Rattle.kak_engine.specs.Answering.{as_read, as_put}
 use Rattle.kak_engine.specs.Asking.{Asked}
-use Rattle.kak_engine.specs.Course.{Task, RunsCommand, UsesPattern, ShowsFile, NotesFile}
-use Rattle.kak_engine.specs.Doing.{DoingEnd, Fine, Failed, GivenUp, Moment, Outcome, Part, DoingPlace, Go, in_world, next_after, and_then, each, unit_of, with_unit, go_on, task_row, beginning, run_task, run_command, run_read, taken_as, next_as, asking, go_back, by_making, by_reading, by_writing, granted, do_ask, row_body, depth_of, do_within, Do}
+use Rattle.kak_engine.specs.Course.{Task, RunsKey, RunsCommand, RunsMacro, UsesPattern, ShowsFile, NotesFile, GrantsLeave, GoesNormal, TakesArguments}
+use Rattle.kak_engine.specs.Doing.{DoingEnd, Fine, Failed, GivenUp, Moment, Outcome, Part, Go, deeper, in_world, next_after, and_then, each, catch_after, or_else, finally, unit_of, with_unit, if_room, nested, task_row, beginning, run_task, task_done, run_command, run_read, run_text, run_deeper, run_with, strike, strike_mapped, play_key, play_once, play_again, taken_as, next_as, asking, go_back, by_making, by_reading, by_writing, do_ask, row_body, depth_of, do_within, Do}
 
--- A relation of worlds before and after that holds of every row which may come in a step behind that of its key.
-pub record IsCarried (who : ℕ) (R : Flat → Flat → Type 0) : Type 0 where
+-- A relation of worlds before and after that holds of every unit that is taken, and of every task's row.
+pub record IsCarried (R : Flat → Flat → Type 0) : Type 0 where
   pub same : (flat : Flat) → R flat flat
   pub behind : (a b c : Flat) → R a b → R b c → R a c
   pub unit : (left : ℕ) (flat : Flat) → units_of flat ≡ suc left → R flat (with_units left flat)
-  pub leave : (flat : Flat) → R flat (granted who flat)
-  pub commands : (command : Command) (flat : Flat) → R flat (row_command command who flat).world
-  pub finishes : (wanted : Wanted) (made : Option (List ℕ)) (flat : Flat) → R flat (row_finish wanted made who flat).world
-  pub reads : (name : List ℕ) (read : FileRead) (flat : Flat) → R flat (row_read name read who flat).world
-  pub saves : (saving : Saving) (put : Put) (flat : Flat) → R flat (row_saved saving put who flat).world
+  pub task : (task : Task) (who : ℕ) (flat : Flat) → R flat (task_row task who flat).world
 
 -- a part of a step over which a relation holds, wherever it begins
 abbrev pub Keeps : (Flat → Flat → Type 0) → Part → Type 0
@@ -40,72 +35,133 @@ Keeps R part = (m : Moment) → R m.world (part m).moment.world
 
 -- a way to do rows over which it holds
 abbrev pub KeepsAll : (Flat → Flat → Type 0) → Go → Type 0
-KeepsAll R go = (p : DoingPlace) (row : Row) → Keeps R (go p row)
+KeepsAll R go = (p : Place) (row : Row) → Keeps R (go p row)
 
-keeps-behind : (who : ℕ) (R : Flat → Flat → Type 0) → IsCarried who R → (e : DoingEnd) (next : Part) → Keeps R next → Keeps R (λ m. next_after e next m)
-keeps-behind who R c Fine next k m = k m
-keeps-behind who R c (Failed text) next k m = c.same m.world
-keeps-behind who R c (GivenUp text) next k m = c.same m.world
+module _ (R : Flat → Flat → Type 0) (c : IsCarried R) where
+  keeps-behind : (e : DoingEnd) (next : Part) → Keeps R next → Keeps R (λ m. next_after e next m)
+  keeps-behind Fine next k m = k m
+  keeps-behind (Failed text) next k m = c.same m.world
+  keeps-behind (GivenUp text) next k m = c.same m.world
 
-keeps-then : (who : ℕ) (R : Flat → Flat → Type 0) → IsCarried who R → (old : Flat) (o : Outcome) (next : Part) → R old o.moment.world → Keeps R next → R old (and_then o next).moment.world
-keeps-then who R c old o next f k = c.behind old o.moment.world (and_then o next).moment.world f (keeps-behind who R c o.end next k o.moment)
+  pub keeps-then : (first next : Part) → Keeps R first → Keeps R next → Keeps R (λ m. and_then (first m) next)
+  keeps-then first next f k m =
+      let o : Outcome = first m in
+      c.behind m.world o.moment.world (and_then o next).moment.world (f m) (keeps-behind o.end next k o.moment)
 
-keeps-units : (who : ℕ) (R : Flat → Flat → Type 0) → IsCarried who R → (units : ℕ) (part : Part) → Keeps R part → (m : Moment) → units_of m.world ≡ units → R m.world (unit_of units part m).moment.world
-keeps-units who R c zero part k m e = c.same m.world
-keeps-units who R c (suc left) part k m e = c.behind m.world (with_units left m.world) (part (in_world (with_units left m.world) m)).moment.world (c.unit left m.world e) (k (in_world (with_units left m.world) m))
+  keeps-catch : (e : DoingEnd) (other : Part) → Keeps R other → Keeps R (λ m. catch_after e other m)
+  keeps-catch Fine other k m = c.same m.world
+  keeps-catch (Failed text) other k m = k m
+  keeps-catch (GivenUp text) other k m = c.same m.world
 
-pub keeps-unit : (who : ℕ) (R : Flat → Flat → Type 0) → IsCarried who R → (part : Part) → Keeps R part → Keeps R (with_unit part)
-keeps-unit who R c part k m = keeps-units who R c (units_of m.world) part k m refl
+  keeps-else : (first other : Part) → Keeps R first → Keeps R other → Keeps R (λ m. or_else (first m) other)
+  keeps-else first other f k m =
+      let o : Outcome = first m in
+      c.behind m.world o.moment.world (or_else o other).moment.world (f m) (keeps-catch o.end other k o.moment)
 
-pub keeps-row : (who : ℕ) (R : Flat → Flat → Type 0) → IsCarried who R → (go : Go) (p : DoingPlace) (end : RowEnd) (m : Moment) → KeepsAll R go → R m.world end.world → R m.world (go_on go p end m).moment.world
-keeps-row who R c go p end m all k = c.behind m.world end.world (go_on go p end m).moment.world k (all p end.row (in_world end.world m))
+  pub keeps-each : {A : Type 0} (f : A → Part) → ((x : A) → Keeps R (f x)) → (xs : List A) → Keeps R (each f xs)
+  keeps-each f k [] m = c.same m.world
+  keeps-each f k (x ∷ xs) m = keeps-then (f x) (each f xs) (k x) (keeps-each f k xs) m
 
-pub keeps-command : (who : ℕ) (R : Flat → Flat → Type 0) → IsCarried who R → (go : Go) (p : DoingPlace) (command : Command) → KeepsAll R go → Keeps R (run_command go who p command)
-keeps-command who R c go p command all m =
-    keeps-unit who R c (run_task go who p (RunsCommand command)) (λ n. keeps-row who R c go p (row_command command who n.world) (beginning who (RunsCommand command) n) all (c.commands command n.world)) m
+  keeps-units : (units : ℕ) (part : Part) → Keeps R part → (m : Moment) → units_of m.world ≡ units → R m.world (unit_of units part m).moment.world
+  keeps-units zero part k m e = c.same m.world
+  keeps-units (suc left) part k m e =
+      c.behind m.world (with_units left m.world) (part (in_world (with_units left m.world) m)).moment.world (c.unit left m.world e) (k (in_world (with_units left m.world) m))
 
-pub keeps-commands : (who : ℕ) (R : Flat → Flat → Type 0) → IsCarried who R → (go : Go) (p : DoingPlace) (commands : List Command) → KeepsAll R go → Keeps R (each (run_command go who p) commands)
-keeps-commands who R c go p [] all m = c.same m.world
-keeps-commands who R c go p (x ∷ xs) all m = keeps-then who R c m.world (run_command go who p x m) (each (run_command go who p) xs) (keeps-command who R c go p x all m) (keeps-commands who R c go p xs all)
+  pub keeps-unit : (part : Part) → Keeps R part → Keeps R (with_unit part)
+  keeps-unit part k m = keeps-units (units_of m.world) part k m refl
 
-keeps-read : (who : ℕ) (R : Flat → Flat → Type 0) → IsCarried who R → (go : Go) (p : DoingPlace) (read : Result (List Command) EditError) → KeepsAll R go → Keeps R (run_read go who p read)
-keeps-read who R c go p (Ok commands) all m = keeps-commands who R c go p commands all m
-keeps-read who R c go p (Err error) all m = c.same m.world
+  keeps-room : (room : Bool) (part : Part) → Keeps R part → Keeps R (λ m. if_room room part m)
+  keeps-room true part k m = k m
+  keeps-room false part k m = c.same m.world
 
-keeps-taken : (who : ℕ) (R : Flat → Flat → Type 0) → IsCarried who R → {A : Type 0} (o : Option A) (part : A → Part) (later : List Answered) → ((x : A) → Keeps R (part x)) → Keeps R (taken_as o part later)
-keeps-taken who R c (Some x) part later k m = k x (record m { answers = later })
-keeps-taken who R c None part later k m = c.same m.world
+  pub keeps-nested : (p : Place) (part : Place → Part) → ((q : Place) → Keeps R (part q)) → Keeps R (λ m. nested p part m)
+  keeps-nested p part k m = keeps-room (nat_lt p.depth MAX_DEPTH) (part (deeper p)) (k (deeper p)) m
 
-keeps-next : (who : ℕ) (R : Flat → Flat → Type 0) → IsCarried who R → {A : Type 0} (kind : Answered → Option A) (part : A → Part) (answers : List Answered) → ((x : A) → Keeps R (part x)) → Keeps R (next_as kind part answers)
-keeps-next who R c kind part [] k m = c.same m.world
-keeps-next who R c kind part (answer ∷ later) k m = keeps-taken who R c (kind answer) part later k m
+  -- a part between two tasks
+  keeps-between : (who : ℕ) (task : Task) (last : Moment → Task) (part : Part) → Keeps R part → Keeps R (λ m. finally (task_done who (last m)) (part (task_done who task m)))
+  keeps-between who task last part k m =
+      let n : Moment = task_done who task m in
+      let o : Outcome = part n in
+      c.behind m.world n.world (task_row (last m) who o.moment.world).world (c.task task who m.world)
+      (c.behind n.world o.moment.world (task_row (last m) who o.moment.world).world (k n) (c.task (last m) who o.moment.world))
 
-keeps-back : (who : ℕ) (R : Flat → Flat → Type 0) → IsCarried who R → {A : Type 0} (go : Go) (p : DoingPlace) (what : A → Flat → Asked) (task : A → Task) → KeepsAll R go → ((x : A) (flat : Flat) → R flat (task_row (task x) who flat).world)
-    → (x : A) → Keeps R (go_back go who p what task x)
-keeps-back who R c go p what task all k x m = keeps-row who R c go p (task_row (task x) who m.world) (beginning who (task x) (asking (what x m.world) m)) all (k x m.world)
+  module _ (go : Go) (all : KeepsAll R go) where
+    pub keeps-task : (p : Place) (task : Task) → Keeps R (run_task go p task)
+    keeps-task p task m =
+        let world : Flat = (task_row task p.who m.world).world in
+        c.behind m.world world (run_task go p task m).moment.world (c.task task p.who m.world) (all p (task_row task p.who m.world).row (in_world world (beginning p.who task m)))
 
-keeps-ask : (who : ℕ) (R : Flat → Flat → Type 0) → IsCarried who R → (go : Go) (p : DoingPlace) (ask : Ask) → KeepsAll R go → Keeps R (do_ask go who p ask)
-keeps-ask who R c go p Nothing all m = c.same m.world
-keeps-ask who R c go p (Commands text) all m = keeps-read who R c go p (commands_told text) all m
-keeps-ask who R c go p (Make wanted) all m =
-    keeps-next who R c _ (go_back go who p (by_making (encode_utf8_all wanted.pattern)) (UsesPattern wanted.then)) m.answers (keeps-back who R c go p (by_making (encode_utf8_all wanted.pattern)) (UsesPattern wanted.then) all (λ made flat. c.finishes wanted.then made flat)) m
-keeps-ask who R c go p (Read name) all m =
-    keeps-next who R c as_read (go_back go who p (by_reading name) (ShowsFile name)) m.answers (keeps-back who R c go p (by_reading name) (ShowsFile name) all (λ read flat. c.reads name read flat)) m
-keeps-ask who R c go p (Write saving) all m =
-    keeps-next who R c as_put (go_back go who p (by_writing saving) (NotesFile saving)) m.answers (keeps-back who R c go p (by_writing saving) (NotesFile saving) all (λ put flat. c.saves saving put flat)) m
-keeps-ask who R c go p Leave all m = c.leave m.world
+    pub keeps-command : (p : Place) (command : Command) → Keeps R (run_command go p command)
+    keeps-command p command m = keeps-unit (run_task go p (RunsCommand command)) (keeps-task p (RunsCommand command)) m
 
-keeps-body : (who : ℕ) (R : Flat → Flat → Type 0) → IsCarried who R → (go : Go) (p : DoingPlace) (row : Row) → KeepsAll R go → Keeps R (row_body go who p row)
-keeps-body who R c go p (Asks ask) all m = keeps-ask who R c go p ask all m
-keeps-body who R c go p (Fails text) all m = c.same m.world
-keeps-body who R c go p GivesUp all m = c.same m.world
+    pub keeps-strike : (p : Place) (key : Key) → Keeps R (strike go p key)
+    keeps-strike p key m = keeps-unit (run_task go p (RunsKey key)) (keeps-task p (RunsKey key)) m
 
-pub carried-within : (who : ℕ) (R : Flat → Flat → Type 0) → IsCarried who R → (n : ℕ) → KeepsAll R (do_within n who)
-unfolding do_within
-carried-within who R c zero p row m = c.same m.world
-carried-within who R c (suc n) p row m = keeps-body who R c (do_within n who) p row (carried-within who R c n) m
+    keeps-read : (p : Place) (read : Result (List Command) EditError) → Keeps R (run_read go p read)
+    keeps-read p (Ok commands) m = keeps-each (run_command go p) (keeps-command p) commands m
+    keeps-read p (Err error) m = c.same m.world
 
--- all that a row asks for
-pub carried-do : (who : ℕ) (R : Flat → Flat → Type 0) → IsCarried who R → KeepsAll R (Do who)
-unfolding Do
-carried-do who R c p row m = carried-within who R c (suc (depth_of row m.world)) p row m
+    pub keeps-text : (p : Place) (text : List ℕ) → Keeps R (run_text go p text)
+    keeps-text p text m = keeps-read p (commands_told text) m
+
+    pub keeps-deeper : (p : Place) (text : List ℕ) → Keeps R (run_deeper go p text)
+    keeps-deeper p text m = keeps-nested p (λ q. run_text go q text) (λ q. keeps-text q text) m
+
+    pub keeps-with : (p : Place) (words : List (List ℕ)) (text : List ℕ) → Keeps R (run_with go p words text)
+    keeps-with p words text m =
+        keeps-between p.who (TakesArguments (Some words)) (λ n. TakesArguments (arguments_of n.world)) (run_text go p text) (keeps-text p text) m
+
+    keeps-mapped : (p : Place) (keys : Option (List Key)) (key : Key) → Keeps R (strike_mapped go p keys key)
+    keeps-mapped p None key m = keeps-strike p key m
+    keeps-mapped p (Some keys) key m = keeps-nested p (λ q. each (strike go q) keys) (λ q. keeps-each (strike go q) (keeps-strike q) keys) m
+
+    pub keeps-key : (p : Place) (maps : Bool) (key : Key) → Keeps R (play_key go p maps key)
+    keeps-key p false key m = keeps-strike p key m
+    keeps-key p true key m = keeps-mapped p (keys_mapped p.who key m.world) key m
+
+    pub keeps-once : (p : Place) (play : PlayKeys) → Keeps R (play_once go p play)
+    keeps-once p play m =
+        keeps-between p.who GoesNormal (λ n. GoesNormal) (each (play_key go p play.maps) play.keys) (keeps-each (play_key go p play.maps) (keeps-key p play.maps) play.keys) m
+
+    pub keeps-again : (p : Place) (again : Option Macro) → Keeps R (play_again go p again)
+    keeps-again p None m = c.same m.world
+    keeps-again p (Some again) m = keeps-unit (run_task go p (RunsMacro again)) (keeps-task p (RunsMacro again)) m
+
+    keeps-taken : {A : Type 0} (o : Option A) (part : A → Part) (later : List Answered) → ((x : A) → Keeps R (part x)) → Keeps R (taken_as o part later)
+    keeps-taken (Some x) part later k m = k x (record m { answers = later })
+    keeps-taken None part later k m = c.same m.world
+
+    keeps-next : {A : Type 0} (kind : Answered → Option A) (part : A → Part) (answers : List Answered) → ((x : A) → Keeps R (part x)) → Keeps R (next_as kind part answers)
+    keeps-next kind part [] k m = c.same m.world
+    keeps-next kind part (answer ∷ later) k m = keeps-taken (kind answer) part later k m
+
+    keeps-back : {A : Type 0} (p : Place) (what : A → Flat → Asked) (task : A → Task) (x : A) → Keeps R (go_back go p what task x)
+    keeps-back p what task x m = keeps-task p (task x) (asking (what x m.world) m)
+
+    keeps-ask : (p : Place) (ask : Ask) → Keeps R (do_ask go p ask)
+    keeps-ask p Nothing m = c.same m.world
+    keeps-ask p (Commands text) m = keeps-text p text m
+    keeps-ask p (Play play) m = keeps-then (λ n. nested p (λ q. play_once go q play) n) (play_again go p play.again) (keeps-nested p (λ q. play_once go q play) (λ q. keeps-once q play)) (keeps-again p play.again) m
+    keeps-ask p (Eval text) m = keeps-deeper p text m
+    keeps-ask p (Try texts) m = keeps-else (run_deeper go p texts.first) (run_deeper go p texts.catching) (keeps-deeper p texts.first) (keeps-deeper p texts.catching) m
+    keeps-ask p (Call call) m = keeps-nested p (λ q. run_with go q call.arguments call.text) (λ q. keeps-with q call.arguments call.text) m
+    keeps-ask p (Make wanted) m =
+        keeps-next _ (go_back go p (by_making (encode_utf8_all wanted.pattern)) (UsesPattern wanted.then)) m.answers (keeps-back p (by_making (encode_utf8_all wanted.pattern)) (UsesPattern wanted.then)) m
+    keeps-ask p (Read name) m = keeps-next as_read (go_back go p (by_reading name) (ShowsFile name)) m.answers (keeps-back p (by_reading name) (ShowsFile name)) m
+    keeps-ask p (Write saving) m = keeps-next as_put (go_back go p (by_writing saving) (NotesFile saving)) m.answers (keeps-back p (by_writing saving) (NotesFile saving)) m
+    keeps-ask p Leave m = c.task GrantsLeave p.who m.world
+
+    keeps-body : (p : Place) (row : Row) → Keeps R (row_body go p row)
+    keeps-body p (Asks ask) m = keeps-ask p ask m
+    keeps-body p (Fails text) m = c.same m.world
+    keeps-body p GivesUp m = c.same m.world
+
+  pub carried-within : (n : ℕ) → KeepsAll R (do_within n)
+  unfolding do_within
+  carried-within zero p row m = c.same m.world
+  carried-within (suc n) p row m = keeps-body (do_within n) (carried-within n) p row m
+
+  -- all that a row asks for
+  pub carried-do : KeepsAll R Do
+  unfolding Do
+  carried-do p row m = carried-within (suc (depth_of row m.world)) p row m

@@ -21,7 +21,7 @@ use Rattle.kak_world.specs.declared.purpose.PatternUse.{PatternUse}
 use Rattle.kak_words.specs.declared.parts.Command.{Command}
 use Rattle.kak_world.specs.declared.ask.Ask.{Ask}
 use Rattle.kak_world.specs.declared.ask.EditError.{EditError}
-use Rattle.kak_world.specs.declared.ask.EditError.TheVariants.{TextFull, UndoFull, NothingToUndo, NothingToRedo, NoSuchNode, NoSuchRegister, ReadOnlyRegister, RegisterFull, SharedLine, Command as OfCommand, BadPattern, NothingSelected, TooManySelections, BudgetSpent, NoMemory}
+use Rattle.kak_world.specs.declared.ask.EditError.TheVariants.{BudgetSpent, NoMemory}
 use Rattle.kak_world.specs.Dropping.{KeepsJoined}
 use Rattle.kak_world.specs.Flat.{Flat, acts, units_of, with_units}
 use Rattle.kak_world.specs.Rows.{Row, Asks, Fails, GivesUp, RowEnd, GivesRow, error_text, row_of}
@@ -29,11 +29,12 @@ use Rattle.kak_world.proofs.KeepingLaws.{acts_kept, keeps_units}
 use Rattle.kak_world.proofs.JoinedLemmas.{acts_still}
 use Rattle.session_turns.specs.Growth.{Begins}
 use Rattle.session_events.specs.declared.event.Answered.{Answered}
-use Rattle.kak_engine.specs.declared.doing.Ending.{Ending}
+use Rattle.kak_engine.specs.declared.ending.Ending.{Ending}
 use Rattle.kak_engine.specs.Answering.{as_made, as_read, as_put, made_told, is_built, read_told, put_told}
 use Rattle.kak_engine.specs.Asking.{Asked, OfPattern}
 use Rattle.kak_engine.specs.Course.{Task, UsesPattern, ShowsFile, NotesFile, GrantsLeave, Happened, WasAsked, Began, asks_in}
-use Rattle.kak_engine.specs.Doing.{DoingEnd, Fine, Failed, GivenUp, Moment, Outcome, Part, Go, done_as, in_world, granted, task_row, beginning, run_task, end_by_error, each, unit_of, with_unit, go_on, run_command, run_read, taken_as, next_as, go_back, by_making, by_reading, by_writing, Do, top, budget_spent}
+use Rattle.kak_engine.specs.Doing.{DoingEnd, Fine, Failed, GivenUp, Moment, Outcome, Part, Go, done_as, in_world, granted, task_row, beginning, run_task, end_by_error, each, unit_of, with_unit, go_on, run_command, run_read, taken_as, next_as, go_back, by_making, by_reading, by_writing, Do, budget_spent}
+use Rattle.kak_engine.specs.declared.place.Place.{Place}
 use Rattle.kak_engine.specs.Honesty.{Outside, IsHonest, MakesPattern, ReadsFile, WritesFile}
 use Rattle.kak_engine.specs.Seen.{Does, IsCutShort, PartEnds, end_seen, moment_of, UnderWay, under_way}
 use Rattle.kak_engine.specs.Wanting.{IsPartOfTask, IsWithinTask}
@@ -43,19 +44,26 @@ use Rattle.kak_engine.proofs.DoingLemmas.{Do-body}
 use Rattle.kak_engine.proofs.HonestLemmas.{honest-none, honest-same, honest-behind}
 use Rattle.kak_engine.proofs.LeftLemmas.{left-begun, row-within, of-err}
 
--- a part that is another one
-cut-by : (f g : Part) (old new : UnderWay) → ((m : Moment) → f m ≡ g m) → IsCutShort g old new → IsCutShort f old new
-cut-by f g old new h d = record {
+-- a part that is another one where it begins
+cut-at : (f g : Part) (old new : UnderWay) → ((course : List Happened) (answers : List Answered) → f (moment_of course answers old.world) ≡ g (moment_of course answers old.world)) → IsCutShort g old new → IsCutShort f old new
+cut-at f g old new h d = record {
   used = d.used;
   course = d.course;
-  begins = λ before. subst (λ (o : Outcome). Begins o.moment.course (before ++ d.course)) (sym (h (moment_of before d.used old.world))) (d.begins before);
+  begins = λ before. subst (λ (o : Outcome). Begins o.moment.course (before ++ d.course)) (sym (h before d.used)) (d.begins before);
   honest = d.honest;
   left = d.left;
 }
 
+pub ends-at : (r : Result Ending AllocError) (f g : Part) (old new : UnderWay) → ((course : List Happened) (answers : List Answered) → f (moment_of course answers old.world) ≡ g (moment_of course answers old.world)) → PartEnds r g old new → PartEnds r f old new
+ends-at (Err e) f g old new h d = cut-at f g old new h d
+ends-at (Ok e) f g old new h d = record { used = d.used; course = d.course; kept = d.kept; leads = λ before later. h before (d.used ++ later) ∙ d.leads before later; honest = d.honest; left = d.left }
+
+-- and wherever it begins
+cut-by : (f g : Part) (old new : UnderWay) → ((m : Moment) → f m ≡ g m) → IsCutShort g old new → IsCutShort f old new
+cut-by f g old new h d = cut-at f g old new (λ course answers. h (moment_of course answers old.world)) d
+
 pub ends-by : (r : Result Ending AllocError) (f g : Part) (old new : UnderWay) → ((m : Moment) → f m ≡ g m) → PartEnds r g old new → PartEnds r f old new
-ends-by (Err e) f g old new h d = cut-by f g old new h d
-ends-by (Ok e) f g old new h d = record { used = d.used; course = d.course; kept = d.kept; leads = λ before later. h (moment_of before (d.used ++ later) old.world) ∙ d.leads before later; honest = d.honest; left = d.left }
+ends-by r f g old new h d = ends-at r f g old new (λ course answers. h (moment_of course answers old.world)) d
 
 -- a part in which nothing happens
 pub does-alone : (part : Part) (old now : Flat) (had : List Answered) (o : Outside) (end : DoingEnd) → now ≡ old
@@ -81,140 +89,115 @@ cut-before part old new g same stays = record {
 }
 
 -- a client is granted to leave
-pub does-leave : (who : ℕ) (part : Part) (old now : Flat) (had : List Answered) (o : Outside) → now ≡ granted who old → ((m : Moment) → part m ≡ done_as Fine (in_world (granted who m.world) (beginning who GrantsLeave m)))
+pub does-leave : (place : Place) (part : Part) (old now : Flat) (had : List Answered) (o : Outside) → now ≡ granted place.who old → ((m : Moment) → part m ≡ done_as Fine (in_world (granted place.who m.world) (beginning place.who GrantsLeave m)))
     → Does part (under_way old had o) (under_way now had o) Fine
-does-leave who part old now had o goes h = record {
+does-leave place part old now had o goes h = record {
   used = [];
-  course = Began who GrantsLeave old ∷ [];
+  course = Began place.who GrantsLeave old ∷ [];
   kept = sym (append-nil had);
-  leads = λ before later. h (moment_of before later old) ∙ ap (λ (x : Flat). let q : Outcome = record { moment = moment_of (before ++ Began who GrantsLeave old ∷ []) later x; end = Fine } in q) (sym goes);
+  leads = λ before later. h (moment_of before later old) ∙ ap (λ (x : Flat). let q : Outcome = record { moment = moment_of (before ++ Began place.who GrantsLeave old ∷ []) later x; end = Fine } in q) (sym goes);
   honest = honest-none o;
   left = inr goes;
 }
 
 -- what comes behind a row asks for more
-pub grows-end : (who : ℕ) (end : RowEnd) → Grows (λ m. go_on (Do who) top end m)
-grows-end who end m = grows-row (Do who) top end (grows-do who) m
+pub grows-end : (place : Place) (end : RowEnd) → Grows (λ m. go_on Do place end m)
+grows-end place end m = grows-row Do place end grows-do m
 
 -- what is asked for is done behind a row that asks for it
-pub row-asks : (who : ℕ) (ask : Ask) (r : Result Ending AllocError) (now : Flat) (had : List Answered) (o : Outside) (new : UnderWay) → PartEnds r (λ m. Do who top (Asks ask) m) (under_way now had o) new
-    → (end : RowEnd) → GivesRow (Ok ask) now end → PartEnds r (λ m. go_on (Do who) top end m) (under_way now had o) new
-row-asks who ask (Err e) now had o new d end g = record {
+pub row-asks : (place : Place) (ask : Ask) (r : Result Ending AllocError) (now : Flat) (had : List Answered) (o : Outside) (new : UnderWay) → PartEnds r (λ m. Do place (Asks ask) m) (under_way now had o) new
+    → (end : RowEnd) → GivesRow (Ok ask) now end → PartEnds r (λ m. go_on Do place end m) (under_way now had o) new
+row-asks place ask (Err e) now had o new d end g = record {
   used = d.used;
   course = d.course;
-  begins = λ es. subst (λ (x : RowEnd). Begins (go_on (Do who) top x (moment_of es d.used now)).moment.course (es ++ d.course)) (sym g) (d.begins es);
+  begins = λ es. subst (λ (x : RowEnd). Begins (go_on Do place x (moment_of es d.used now)).moment.course (es ++ d.course)) (sym g) (d.begins es);
   honest = d.honest;
   left = d.left;
 }
-row-asks who ask (Ok e) now had o new d end g = record {
+row-asks place ask (Ok e) now had o new d end g = record {
   used = d.used;
   course = d.course;
   kept = d.kept;
-  leads = λ es later. ap (λ (x : RowEnd). go_on (Do who) top x (moment_of es (d.used ++ later) now)) g ∙ d.leads es later;
+  leads = λ es later. ap (λ (x : RowEnd). go_on Do place x (moment_of es (d.used ++ later) now)) g ∙ d.leads es later;
   honest = d.honest;
   left = d.left;
 }
 
 -- how a row ends that gives a refusal's text, or gives up
-row-ends : (who : ℕ) (row : Row) (end : DoingEnd) (e : Ending) (now : Flat) (given : RowEnd) → given ≡ record { world = now; row = row } → ((m : Moment) → Do who top row m ≡ record { moment = m; end = end }) → end_seen e ≡ end
-    → (course : List Happened) (answers : List Answered) → go_on (Do who) top given (moment_of course answers now) ≡ record { moment = moment_of course answers now; end = end_seen e }
-row-ends who row end e now given g does f course answers =
-    ap (λ (x : RowEnd). go_on (Do who) top x (moment_of course answers now)) g
+row-ends : (place : Place) (row : Row) (end : DoingEnd) (e : Ending) (now : Flat) (given : RowEnd) → given ≡ record { world = now; row = row } → ((m : Moment) → Do place row m ≡ record { moment = m; end = end }) → end_seen e ≡ end
+    → (course : List Happened) (answers : List Answered) → go_on Do place given (moment_of course answers now) ≡ record { moment = moment_of course answers now; end = end_seen e }
+row-ends place row end e now given g does f course answers =
+    ap (λ (x : RowEnd). go_on Do place x (moment_of course answers now)) g
     ∙ does (moment_of course answers now)
     ∙ ap (λ (x : DoingEnd). let o : Outcome = record { moment = moment_of course answers now; end = x } in o) (sym f)
 
-failed-row : (who : ℕ) (text : List ℕ) (e : Ending) (now : Flat) (end : RowEnd) → end ≡ record { world = now; row = Fails text } → end_seen e ≡ Failed text
-    → (course : List Happened) (answers : List Answered) → go_on (Do who) top end (moment_of course answers now) ≡ record { moment = moment_of course answers now; end = end_seen e }
-failed-row who text e now end g f = row-ends who (Fails text) (Failed text) e now end g (λ m. Do-body who top (Fails text) m) f
+failed-row : (place : Place) (text : List ℕ) (e : Ending) (now : Flat) (end : RowEnd) → end ≡ record { world = now; row = Fails text } → end_seen e ≡ Failed text
+    → (course : List Happened) (answers : List Answered) → go_on Do place end (moment_of course answers now) ≡ record { moment = moment_of course answers now; end = end_seen e }
+failed-row place text e now end g f = row-ends place (Fails text) (Failed text) e now end g (λ m. Do-body place (Fails text) m) f
 
 -- a row that fails ends the part as its refusal does
-refused-row : (who : ℕ) (error : EditError) (e : Ending) (now : Flat) → end_seen e ≡ end_by_error error → (error ≡ NoMemory → IsErr {T = Ending} {E = AllocError} (Ok e))
+refused-row : (place : Place) (error : EditError) (e : Ending) (now : Flat) → end_seen e ≡ end_by_error error → (error ≡ NoMemory → IsErr {T = Ending} {E = AllocError} (Ok e))
     → (end : RowEnd) → GivesRow (Err error) now end
-    → (course : List Happened) (answers : List Answered) → go_on (Do who) top end (moment_of course answers now) ≡ record { moment = moment_of course answers now; end = end_seen e }
-refused-row who TextFull e now f n end g = failed-row who (error_text TextFull) e now end g f
-refused-row who UndoFull e now f n end g = failed-row who (error_text UndoFull) e now end g f
-refused-row who NothingToUndo e now f n end g = failed-row who (error_text NothingToUndo) e now end g f
-refused-row who NothingToRedo e now f n end g = failed-row who (error_text NothingToRedo) e now end g f
-refused-row who NoSuchNode e now f n end g = failed-row who (error_text NoSuchNode) e now end g f
-refused-row who (NoSuchRegister name) e now f n end g = failed-row who (error_text (NoSuchRegister name)) e now end g f
-refused-row who (ReadOnlyRegister name) e now f n end g = failed-row who (error_text (ReadOnlyRegister name)) e now end g f
-refused-row who RegisterFull e now f n end g = failed-row who (error_text RegisterFull) e now end g f
-refused-row who SharedLine e now f n end g = failed-row who (error_text SharedLine) e now end g f
-refused-row who (OfCommand error) e now f n end g = failed-row who (error_text (OfCommand error)) e now end g f
-refused-row who BadPattern e now f n end g = failed-row who (error_text BadPattern) e now end g f
-refused-row who NothingSelected e now f n end g = failed-row who (error_text NothingSelected) e now end g f
-refused-row who TooManySelections e now f n end g = failed-row who (error_text TooManySelections) e now end g f
-refused-row who BudgetSpent e now f n end g = row-ends who GivesUp (GivenUp budget_spent) e now end g (λ m. Do-body who top GivesUp m) f
-refused-row who NoMemory e now f n end g = absurd (let x : IsErr {T = Ending} {E = AllocError} (Ok e) = n refl in cc)
+    → (course : List Happened) (answers : List Answered) → go_on Do place end (moment_of course answers now) ≡ record { moment = moment_of course answers now; end = end_seen e }
+refused-row place BudgetSpent e now f n end g = row-ends place GivesUp (GivenUp budget_spent) e now end g (λ m. Do-body place GivesUp m) f
+refused-row place NoMemory e now f n end g = absurd (let x : IsErr {T = Ending} {E = AllocError} (Ok e) = n refl in cc)
+refused-row place error e now f n end g = failed-row place (error_text error) e now end g f
 
-pub row-fails : (who : ℕ) (error : EditError) (r : Result Ending AllocError) (now : Flat) (had : List Answered) (o : Outside) → IfOk r (λ e. end_seen e ≡ end_by_error error) → (error ≡ NoMemory → IsErr r)
-    → (end : RowEnd) → GivesRow (Err error) now end → PartEnds r (λ m. go_on (Do who) top end m) (under_way now had o) (under_way now had o)
-row-fails who error (Err e) now had o f n end g = cut-before (λ m. go_on (Do who) top end m) (under_way now had o) (under_way now had o) (grows-end who end) refl refl
-row-fails who error (Ok e) now had o f n end g = does-alone (λ m. go_on (Do who) top end m) now now had o (end_seen e) refl (refused-row who error e now f n end g)
+pub row-fails : (place : Place) (error : EditError) (r : Result Ending AllocError) (now : Flat) (had : List Answered) (o : Outside) → IfOk r (λ e. end_seen e ≡ end_by_error error) → (error ≡ NoMemory → IsErr r)
+    → (end : RowEnd) → GivesRow (Err error) now end → PartEnds r (λ m. go_on Do place end m) (under_way now had o) (under_way now had o)
+row-fails place error (Err e) now had o f n end g = cut-before (λ m. go_on Do place end m) (under_way now had o) (under_way now had o) (grows-end place end) refl refl
+row-fails place error (Ok e) now had o f n end g = does-alone (λ m. go_on Do place end m) now now had o (end_seen e) refl (refused-row place error e now f n end g)
 
 -- what the text of a refused reading leads to: nothing is run
 is-read : (error : EditError) (r : Result (List Command) EditError) → (error ≡ NoMemory → ⊥) → IfSome (row_of error) (λ row. r ≡ Err error) → r ≡ Err error
-is-read TextFull r n w = w
-is-read UndoFull r n w = w
-is-read NothingToUndo r n w = w
-is-read NothingToRedo r n w = w
-is-read NoSuchNode r n w = w
-is-read (NoSuchRegister name) r n w = w
-is-read (ReadOnlyRegister name) r n w = w
-is-read RegisterFull r n w = w
-is-read SharedLine r n w = w
-is-read (OfCommand error) r n w = w
-is-read BadPattern r n w = w
-is-read NothingSelected r n w = w
-is-read TooManySelections r n w = w
-is-read BudgetSpent r n w = w
 is-read NoMemory r n w = absurd (n refl)
+is-read error r n w = w
 
-pub unread : (go : Go) (who : ℕ) (read : Result (List Command) EditError) (error : EditError) (r : Result Ending AllocError) (now : Flat) (had : List Answered) (o : Outside)
-    → IfSome (row_of error) (λ row. read ≡ Err error) → IfOk r (λ e. end_seen e ≡ end_by_error error) → (error ≡ NoMemory → IsErr r) → Grows (λ m. run_read go who top read m)
-    → PartEnds r (λ m. run_read go who top read m) (under_way now had o) (under_way now had o)
-unread go who read error (Err e) now had o w f n g = cut-before (λ m. run_read go who top read m) (under_way now had o) (under_way now had o) g refl refl
-unread go who read error (Ok e) now had o w f n g =
+pub unread : (go : Go) (place : Place) (read : Result (List Command) EditError) (error : EditError) (r : Result Ending AllocError) (now : Flat) (had : List Answered) (o : Outside)
+    → IfSome (row_of error) (λ row. read ≡ Err error) → IfOk r (λ e. end_seen e ≡ end_by_error error) → (error ≡ NoMemory → IsErr r) → Grows (λ m. run_read go place read m)
+    → PartEnds r (λ m. run_read go place read m) (under_way now had o) (under_way now had o)
+unread go place read error (Err e) now had o w f n g = cut-before (λ m. run_read go place read m) (under_way now had o) (under_way now had o) g refl refl
+unread go place read error (Ok e) now had o w f n g =
     let none : error ≡ NoMemory → ⊥ = (λ is. let x : IsErr {T = Ending} {E = AllocError} (Ok e) = n is in cc) in
     let same : read ≡ Err error = is-read error read none w in
-    does-alone (λ m. run_read go who top read m) now now had o (end_seen e) refl (λ course answers.
-    ap (λ (x : Result (List Command) EditError). run_read go who top x (moment_of course answers now)) same
+    does-alone (λ m. run_read go place read m) now now had o (end_seen e) refl (λ course answers.
+    ap (λ (x : Result (List Command) EditError). run_read go place x (moment_of course answers now)) same
     ∙ ap (λ (x : DoingEnd). let q : Outcome = record { moment = moment_of course answers now; end = x } in q) (sym f))
 
 -- a text that was read as commands
-pub all-read : (go : Go) (who : ℕ) (read : Result (List Command) EditError) (commands : List Command) (r : Result Ending AllocError) (old new : UnderWay) → read ≡ Ok commands
-    → PartEnds r (λ m. each (run_command go who top) commands m) old new → PartEnds r (λ m. run_read go who top read m) old new
-all-read go who read commands r old new e d = ends-by r (λ m. run_read go who top read m) (λ m. each (run_command go who top) commands m) old new (λ m. ap (λ (x : Result (List Command) EditError). run_read go who top x m) e) d
+pub all-read : (go : Go) (place : Place) (read : Result (List Command) EditError) (commands : List Command) (r : Result Ending AllocError) (old new : UnderWay) → read ≡ Ok commands
+    → PartEnds r (λ m. each (run_command go place) commands m) old new → PartEnds r (λ m. run_read go place read m) old new
+all-read go place read commands r old new e d = ends-by r (λ m. run_read go place read m) (λ m. each (run_command go place) commands m) old new (λ m. ap (λ (x : Result (List Command) EditError). run_read go place x m) e) d
 
 -- a part that begins a task, behind whose row it goes on
-pub begun-ends : (who : ℕ) (task : Task) (r : Result Ending AllocError) (part : Part) (old before now : Flat) (had : List Answered) (o : Outside) (new : UnderWay)
-    → ((course : List Happened) (answers : List Answered) → part (moment_of course answers old) ≡ go_on (Do who) top (task_row task who before) (moment_of (course ++ Began who task before ∷ []) answers now))
-    → IsWithinTask task who before now → PartEnds r (λ m. go_on (Do who) top (task_row task who before) m) (under_way now had o) new → PartEnds r part (under_way old had o) new
-begun-ends who task (Err e) part old before now had o new h within d = record {
+pub begun-ends : (place : Place) (task : Task) (r : Result Ending AllocError) (part : Part) (old before now : Flat) (had : List Answered) (o : Outside) (new : UnderWay)
+    → ((course : List Happened) (answers : List Answered) → part (moment_of course answers old) ≡ go_on Do place (task_row task place.who before) (moment_of (course ++ Began place.who task before ∷ []) answers now))
+    → IsWithinTask task place.who before now → PartEnds r (λ m. go_on Do place (task_row task place.who before) m) (under_way now had o) new → PartEnds r part (under_way old had o) new
+begun-ends place task (Err e) part old before now had o new h within d = record {
   used = d.used;
-  course = Began who task before ∷ d.course;
+  course = Began place.who task before ∷ d.course;
   begins = λ es.
-      subst (λ (q : Outcome). Begins q.moment.course (es ++ Began who task before ∷ d.course)) (sym (h es d.used))
-      (subst (λ (q : List Happened). Begins (go_on (Do who) top (task_row task who before) (moment_of (es ++ Began who task before ∷ []) d.used now)).moment.course q) (append_assoc es (Began who task before ∷ []) d.course) (d.begins (es ++ Began who task before ∷ [])));
+      subst (λ (q : Outcome). Begins q.moment.course (es ++ Began place.who task before ∷ d.course)) (sym (h es d.used))
+      (subst (λ (q : List Happened). Begins (go_on Do place (task_row task place.who before) (moment_of (es ++ Began place.who task before ∷ []) d.used now)).moment.course q) (append_assoc es (Began place.who task before ∷ []) d.course) (d.begins (es ++ Began place.who task before ∷ [])));
   honest = d.honest;
-  left = left-begun who task before now d.course new.world within d.left;
+  left = left-begun place.who task before now d.course new.world within d.left;
 }
-begun-ends who task (Ok e) part old before now had o new h within d = record {
+begun-ends place task (Ok e) part old before now had o new h within d = record {
   used = d.used;
-  course = Began who task before ∷ d.course;
+  course = Began place.who task before ∷ d.course;
   kept = d.kept;
   leads = λ es later.
       h es (d.used ++ later)
-      ∙ d.leads (es ++ Began who task before ∷ []) later
-      ∙ ap (λ (q : List Happened). let o : Outcome = record { moment = moment_of q later new.world; end = end_seen e } in o) (append_assoc es (Began who task before ∷ []) d.course);
+      ∙ d.leads (es ++ Began place.who task before ∷ []) later
+      ∙ ap (λ (q : List Happened). let o : Outcome = record { moment = moment_of q later new.world; end = end_seen e } in o) (append_assoc es (Began place.who task before ∷ []) d.course);
   honest = d.honest;
-  left = left-begun who task before now d.course new.world within d.left;
+  left = left-begun place.who task before now d.course new.world within d.left;
 }
 
 -- a task, behind whose row it goes on
-pub task-ends : (who : ℕ) (task : Task) (r : Result Ending AllocError) (before now : Flat) (had : List Answered) (o : Outside) (new : UnderWay)
-    → IsWithinTask task who before now → PartEnds r (λ m. go_on (Do who) top (task_row task who before) m) (under_way now had o) new → PartEnds r (λ m. run_task (Do who) who top task m) (under_way before had o) new
-task-ends who task r before now had o new within d = begun-ends who task r (λ m. run_task (Do who) who top task m) before before now had o new (λ course answers. refl) within d
+pub task-ends : (place : Place) (task : Task) (r : Result Ending AllocError) (before now : Flat) (had : List Answered) (o : Outside) (new : UnderWay)
+    → IsWithinTask task place.who before now → PartEnds r (λ m. go_on Do place (task_row task place.who before) m) (under_way now had o) new → PartEnds r (λ m. run_task Do place task m) (under_way before had o) new
+task-ends place task r before now had o new within d = begun-ends place task r (λ m. run_task Do place task m) before before now had o new (λ course answers. refl) within d
 
 -- a part that is handed the next answer, which is of the kind that was asked for
 next-is : {A : Type 0} (kind : Answered → Option A) (part : A → Part) (answer : Answered) (x : A) (course : List Happened) (later : List Answered) (world : Flat) → kind answer ≡ Some x
@@ -222,16 +205,16 @@ next-is : {A : Type 0} (kind : Answered → Option A) (part : A → Part) (answe
 next-is kind part answer x course later world k = ap (λ (o : Option _). taken_as o part later (moment_of course (answer ∷ later) world)) k
 
 -- a task that goes on with an answer of the outside
-back-does : {A : Type 0} (who : ℕ) (kind : Answered → Option A) (what : A → Flat → Asked) (task : A → Task) (answer : Answered) (x : A) (end : DoingEnd) (old : Flat) (had mid : List Answered) (o p : Outside) (new : UnderWay)
+back-does : {A : Type 0} (place : Place) (kind : Answered → Option A) (what : A → Flat → Asked) (task : A → Task) (answer : Answered) (x : A) (end : DoingEnd) (old : Flat) (had mid : List Answered) (o p : Outside) (new : UnderWay)
     → kind answer ≡ Some x → mid ≡ had ++ answer ∷ [] → IsHonest (answer ∷ []) (what x old ∷ []) o p
-    → Does (λ m. run_task (Do who) who top (task x) m) (under_way old mid p) new end
-    → Does (λ m. next_as kind (go_back (Do who) who top what task) m.answers m) (under_way old had o) new end
-back-does who kind what task answer x end old had mid o p new k h honest d = record {
+    → Does (λ m. run_task Do place (task x) m) (under_way old mid p) new end
+    → Does (λ m. next_as kind (go_back Do place what task) m.answers m) (under_way old had o) new end
+back-does place kind what task answer x end old had mid o p new k h honest d = record {
   used = answer ∷ d.used;
   course = WasAsked (what x old) ∷ d.course;
   kept = d.kept ∙ ap (λ (q : List Answered). q ++ d.used) h ∙ append_assoc had (answer ∷ []) d.used;
   leads = λ before later.
-      next-is kind (go_back (Do who) who top what task) answer x before (d.used ++ later) old k
+      next-is kind (go_back Do place what task) answer x before (d.used ++ later) old k
       ∙ d.leads (before ++ WasAsked (what x old) ∷ []) later
       ∙ ap (λ (q : List Happened). let o : Outcome = record { moment = moment_of q later new.world; end = end } in o) (append_assoc before (WasAsked (what x old) ∷ []) d.course);
   honest = honest-behind (answer ∷ []) d.used (what x old ∷ []) (asks_in d.course) o p new.outside honest d.honest;
@@ -239,46 +222,46 @@ back-does who kind what task answer x end old had mid o p new k h honest d = rec
 }
 
 -- and one that was cut short behind it
-back-cut : {A : Type 0} (who : ℕ) (kind : Answered → Option A) (what : A → Flat → Asked) (task : A → Task) (answer : Answered) (x : A) (old : Flat) (had mid : List Answered) (o p : Outside) (new : UnderWay)
+back-cut : {A : Type 0} (place : Place) (kind : Answered → Option A) (what : A → Flat → Asked) (task : A → Task) (answer : Answered) (x : A) (old : Flat) (had mid : List Answered) (o p : Outside) (new : UnderWay)
     → kind answer ≡ Some x → IsHonest (answer ∷ []) (what x old ∷ []) o p
-    → IsCutShort (λ m. run_task (Do who) who top (task x) m) (under_way old mid p) new
-    → IsCutShort (λ m. next_as kind (go_back (Do who) who top what task) m.answers m) (under_way old had o) new
-back-cut who kind what task answer x old had mid o p new k honest d = record {
+    → IsCutShort (λ m. run_task Do place (task x) m) (under_way old mid p) new
+    → IsCutShort (λ m. next_as kind (go_back Do place what task) m.answers m) (under_way old had o) new
+back-cut place kind what task answer x old had mid o p new k honest d = record {
   used = answer ∷ d.used;
   course = WasAsked (what x old) ∷ d.course;
   begins = λ before.
-      subst (λ (q : Outcome). Begins q.moment.course (before ++ WasAsked (what x old) ∷ d.course)) (sym (next-is kind (go_back (Do who) who top what task) answer x before d.used old k))
-      (subst (λ (q : List Happened). Begins (run_task (Do who) who top (task x) (moment_of (before ++ WasAsked (what x old) ∷ []) d.used old)).moment.course q) (append_assoc before (WasAsked (what x old) ∷ []) d.course) (d.begins (before ++ WasAsked (what x old) ∷ [])));
+      subst (λ (q : Outcome). Begins q.moment.course (before ++ WasAsked (what x old) ∷ d.course)) (sym (next-is kind (go_back Do place what task) answer x before d.used old k))
+      (subst (λ (q : List Happened). Begins (run_task Do place (task x) (moment_of (before ++ WasAsked (what x old) ∷ []) d.used old)).moment.course q) (append_assoc before (WasAsked (what x old) ∷ []) d.course) (d.begins (before ++ WasAsked (what x old) ∷ [])));
   honest = honest-behind (answer ∷ []) d.used (what x old ∷ []) (asks_in d.course) o p new.outside honest d.honest;
   left = d.left;
 }
 
-pub back-ends : {A : Type 0} (who : ℕ) (kind : Answered → Option A) (what : A → Flat → Asked) (task : A → Task) (answer : Answered) (x : A) (r : Result Ending AllocError) (old now : Flat) (had mid : List Answered) (o p : Outside) (new : UnderWay)
-    → kind answer ≡ Some x → mid ≡ had ++ answer ∷ [] → IsHonest (answer ∷ []) (what x old ∷ []) o p → IsWithinTask (task x) who old now
-    → PartEnds r (λ m. go_on (Do who) top (task_row (task x) who old) m) (under_way now mid p) new
-    → PartEnds r (λ m. next_as kind (go_back (Do who) who top what task) m.answers m) (under_way old had o) new
-back-ends who kind what task answer x (Err e) old now had mid o p new k h honest within d = back-cut who kind what task answer x old had mid o p new k honest (task-ends who (task x) (Err e) old now mid p new within d)
-back-ends who kind what task answer x (Ok e) old now had mid o p new k h honest within d = back-does who kind what task answer x (end_seen e) old had mid o p new k h honest (task-ends who (task x) (Ok e) old now mid p new within d)
+pub back-ends : {A : Type 0} (place : Place) (kind : Answered → Option A) (what : A → Flat → Asked) (task : A → Task) (answer : Answered) (x : A) (r : Result Ending AllocError) (old now : Flat) (had mid : List Answered) (o p : Outside) (new : UnderWay)
+    → kind answer ≡ Some x → mid ≡ had ++ answer ∷ [] → IsHonest (answer ∷ []) (what x old ∷ []) o p → IsWithinTask (task x) place.who old now
+    → PartEnds r (λ m. go_on Do place (task_row (task x) place.who old) m) (under_way now mid p) new
+    → PartEnds r (λ m. next_as kind (go_back Do place what task) m.answers m) (under_way old had o) new
+back-ends place kind what task answer x (Err e) old now had mid o p new k h honest within d = back-cut place kind what task answer x old had mid o p new k honest (task-ends place (task x) (Err e) old now mid p new within d)
+back-ends place kind what task answer x (Ok e) old now had mid o p new k h honest within d = back-does place kind what task answer x (end_seen e) old had mid o p new k h honest (task-ends place (task x) (Ok e) old now mid p new within d)
 
 -- memory was wanting to keep an answer: the task that goes on with it isn't begun
-back-unkept : {A : Type 0} (who : ℕ) (kind : Answered → Option A) (what : A → Flat → Asked) (task : A → Task) (answer : Answered) (x : A) (old : Flat) (had : List Answered) (o : Outside) (new : UnderWay)
+back-unkept : {A : Type 0} (place : Place) (kind : Answered → Option A) (what : A → Flat → Asked) (task : A → Task) (answer : Answered) (x : A) (old : Flat) (had : List Answered) (o : Outside) (new : UnderWay)
     → kind answer ≡ Some x → IsHonest (answer ∷ []) (what x old ∷ []) o new.outside → new.world ≡ old
-    → IsCutShort (λ m. next_as kind (go_back (Do who) who top what task) m.answers m) (under_way old had o) new
-back-unkept who kind what task answer x old had o new k honest stays =
-    back-cut who kind what task answer x old had had o new.outside new k honest (cut-before (λ m. run_task (Do who) who top (task x) m) (under_way old had new.outside) new (grows-task (Do who) who top (task x) (grows-do who)) refl stays)
+    → IsCutShort (λ m. next_as kind (go_back Do place what task) m.answers m) (under_way old had o) new
+back-unkept place kind what task answer x old had o new k honest stays =
+    back-cut place kind what task answer x old had had o new.outside new k honest (cut-before (λ m. run_task Do place (task x) m) (under_way old had new.outside) new (grows-task Do place (task x) grows-do) refl stays)
 
 -- or its row was answered, and nothing came behind that
-back-begun : {A : Type 0} (who : ℕ) (kind : Answered → Option A) (what : A → Flat → Asked) (task : A → Task) (answer : Answered) (x : A) (old : Flat) (had : List Answered) (o : Outside) (new : UnderWay)
-    → kind answer ≡ Some x → IsHonest (answer ∷ []) (what x old ∷ []) o new.outside → IsWithinTask (task x) who old new.world
-    → IsCutShort (λ m. next_as kind (go_back (Do who) who top what task) m.answers m) (under_way old had o) new
-back-begun who kind what task answer x old had o new k honest within =
-    back-cut who kind what task answer x old had had o new.outside new k honest
-    (task-ends who (task x) (Err alloc_error) old new.world had new.outside new within
-    (cut-before (λ m. go_on (Do who) top (task_row (task x) who old) m) (under_way new.world had new.outside) new (grows-end who (task_row (task x) who old)) refl refl))
+back-begun : {A : Type 0} (place : Place) (kind : Answered → Option A) (what : A → Flat → Asked) (task : A → Task) (answer : Answered) (x : A) (old : Flat) (had : List Answered) (o : Outside) (new : UnderWay)
+    → kind answer ≡ Some x → IsHonest (answer ∷ []) (what x old ∷ []) o new.outside → IsWithinTask (task x) place.who old new.world
+    → IsCutShort (λ m. next_as kind (go_back Do place what task) m.answers m) (under_way old had o) new
+back-begun place kind what task answer x old had o new k honest within =
+    back-cut place kind what task answer x old had had o new.outside new k honest
+    (task-ends place (task x) (Err alloc_error) old new.world had new.outside new within
+    (cut-before (λ m. go_on Do place (task_row (task x) place.who old) m) (under_way new.world had new.outside) new (grows-end place (task_row (task x) place.who old)) refl refl))
 
 -- what a row asks for was cut short before the outside was asked
-pub ask-unasked : (who : ℕ) (ask : Ask) (old new : UnderWay) → new.outside ≡ old.outside → new.world ≡ old.world → IsCutShort (λ m. Do who top (Asks ask) m) old new
-ask-unasked who ask old new same stays = cut-before (λ m. Do who top (Asks ask) m) old new (λ m. grows-do who top (Asks ask) m) same stays
+pub ask-unasked : (place : Place) (ask : Ask) (old new : UnderWay) → new.outside ≡ old.outside → new.world ≡ old.world → IsCutShort (λ m. Do place (Asks ask) m) old new
+ask-unasked place ask old new same stays = cut-before (λ m. Do place (Asks ask) m) old new (λ m. grows-do place (Asks ask) m) same stays
 
 -- a use that goes on behind a pattern that the maker made or refused
 made-as : {P : Type 0} (source : P → List ℕ) (made : Made P) (text : List ℕ) → IfBuilt made (λ p. source p ≡ text) → as_made text (made_told made) ≡ Some (source_of source made)
@@ -296,24 +279,24 @@ made-honest-as source made text told o p is h =
     subst (λ (a : Answered). IsHonest (a ∷ []) (OfPattern text (is_some (source_of source made)) ∷ []) o p) (sym is)
     (subst (λ b. IsHonest (made_told made ∷ []) (OfPattern text b ∷ []) o p) (built-as source made) h)
 
-pub made-ends : {P : Type 0} (who : ℕ) (wanted : PatternUse) (said : List ℕ) (source : P → List ℕ) (made : Made P) (told : Answered) (row : Result Ask EditError) (r : Result Ending AllocError) (old now : Flat) (had mid : List Answered) (o p : Outside) (new : UnderWay) → said ≡ wanted.pattern
+pub made-ends : {P : Type 0} (place : Place) (wanted : PatternUse) (said : List ℕ) (source : P → List ℕ) (made : Made P) (told : Answered) (row : Result Ask EditError) (r : Result Ending AllocError) (old now : Flat) (had mid : List Answered) (o p : Outside) (new : UnderWay) → said ≡ wanted.pattern
     → told ≡ made_told made → IfBuilt made (λ p. source p ≡ encode_utf8_all said) → MakesPattern made (encode_utf8_all said) o p → mid ≡ had ++ told ∷ []
-    → GivesRow row now (row_finish wanted.then (source_of source made) who old) → (IsErrOf row NoMemory → now ≡ old)
-    → PartEnds r (λ m. go_on (Do who) top (row_finish wanted.then (source_of source made) who old) m) (under_way now mid p) new
-    → PartEnds r (λ m. Do who top (Asks (Make wanted)) m) (under_way old had o) new
-made-ends who wanted said source made told row r old now had mid o p new same is b h k gives wants d =
-    ends-by r _ _ _ new (λ m. Do-body who top (Asks (Make wanted)) m)
-    (back-ends who (as_made (encode_utf8_all wanted.pattern)) (by_making (encode_utf8_all wanted.pattern)) (UsesPattern wanted.then) told (source_of source made) r old now had mid o p new
+    → GivesRow row now (row_finish wanted.then (source_of source made) place.who old) → (IsErrOf row NoMemory → now ≡ old)
+    → PartEnds r (λ m. go_on Do place (row_finish wanted.then (source_of source made) place.who old) m) (under_way now mid p) new
+    → PartEnds r (λ m. Do place (Asks (Make wanted)) m) (under_way old had o) new
+made-ends place wanted said source made told row r old now had mid o p new same is b h k gives wants d =
+    ends-by r _ _ _ new (λ m. Do-body place (Asks (Make wanted)) m)
+    (back-ends place (as_made (encode_utf8_all wanted.pattern)) (by_making (encode_utf8_all wanted.pattern)) (UsesPattern wanted.then) told (source_of source made) r old now had mid o p new
     (ap (as_made (encode_utf8_all wanted.pattern)) is ∙ made-as source made _ (subst (λ text. IfBuilt made (λ p. source p ≡ encode_utf8_all text)) same b)) k
     (made-honest-as source made _ told o p is (subst (λ text. MakesPattern made (encode_utf8_all text) o p) same h))
-    (row-within who (UsesPattern wanted.then (source_of source made)) row old now gives wants) d)
+    (row-within place.who (UsesPattern wanted.then (source_of source made)) row old now gives wants) d)
 
-pub made-unkept : {P : Type 0} (who : ℕ) (wanted : PatternUse) (said : List ℕ) (source : P → List ℕ) (made : Made P) (old : Flat) (had : List Answered) (o : Outside) (new : UnderWay) → said ≡ wanted.pattern
+pub made-unkept : {P : Type 0} (place : Place) (wanted : PatternUse) (said : List ℕ) (source : P → List ℕ) (made : Made P) (old : Flat) (had : List Answered) (o : Outside) (new : UnderWay) → said ≡ wanted.pattern
     → IfBuilt made (λ p. source p ≡ encode_utf8_all said) → MakesPattern made (encode_utf8_all said) o new.outside → new.world ≡ old
-    → IsCutShort (λ m. Do who top (Asks (Make wanted)) m) (under_way old had o) new
-made-unkept who wanted said source made old had o new same b h stays =
-    cut-by _ _ _ new (λ m. Do-body who top (Asks (Make wanted)) m)
-    (back-unkept who (as_made (encode_utf8_all wanted.pattern)) (by_making (encode_utf8_all wanted.pattern)) (UsesPattern wanted.then) (made_told made) (source_of source made) old had o new
+    → IsCutShort (λ m. Do place (Asks (Make wanted)) m) (under_way old had o) new
+made-unkept place wanted said source made old had o new same b h stays =
+    cut-by _ _ _ new (λ m. Do-body place (Asks (Make wanted)) m)
+    (back-unkept place (as_made (encode_utf8_all wanted.pattern)) (by_making (encode_utf8_all wanted.pattern)) (UsesPattern wanted.then) (made_told made) (source_of source made) old had o new
     (made-as source made _ (subst (λ text. IfBuilt made (λ p. source p ≡ encode_utf8_all text)) same b))
     (made-honest-as source made _ (made_told made) o new.outside refl (subst (λ text. MakesPattern made (encode_utf8_all text) o new.outside) same h)) stays)
 
@@ -324,54 +307,54 @@ read-as file.NotThere = refl
 read-as file.TooBig = refl
 read-as file.Failed = refl
 
-pub read-ends : (who : ℕ) (name said : List ℕ) (read : FileRead) (told : Answered) (row : Result Ask EditError) (r : Result Ending AllocError) (old now : Flat) (had mid : List Answered) (o p : Outside) (new : UnderWay) → said ≡ name → told ≡ read_told read
+pub read-ends : (place : Place) (name said : List ℕ) (read : FileRead) (told : Answered) (row : Result Ask EditError) (r : Result Ending AllocError) (old now : Flat) (had mid : List Answered) (o p : Outside) (new : UnderWay) → said ≡ name → told ≡ read_told read
     → ReadsFile read said o p → mid ≡ had ++ told ∷ []
-    → GivesRow row now (row_read name read who old) → OnErr row (IsPartOfRead name read old now)
-    → PartEnds r (λ m. go_on (Do who) top (row_read name read who old) m) (under_way now mid p) new
-    → PartEnds r (λ m. Do who top (Asks (Read name)) m) (under_way old had o) new
-read-ends who name said read told row r old now had mid o p new same is h k gives wants d =
-    ends-by r _ _ _ new (λ m. Do-body who top (Asks (Read name)) m)
-    (back-ends who as_read (by_reading name) (ShowsFile name) (read_told read) read r old now had mid o p new (read-as read) (k ∙ ap (λ (a : Answered). had ++ a ∷ []) is)
-    (subst (λ n. ReadsFile read n o p) same h) (row-within who (ShowsFile name read) row old now gives (of-err row NoMemory wants)) d)
+    → GivesRow row now (row_read name read place.who old) → OnErr row (IsPartOfRead name read old now)
+    → PartEnds r (λ m. go_on Do place (row_read name read place.who old) m) (under_way now mid p) new
+    → PartEnds r (λ m. Do place (Asks (Read name)) m) (under_way old had o) new
+read-ends place name said read told row r old now had mid o p new same is h k gives wants d =
+    ends-by r _ _ _ new (λ m. Do-body place (Asks (Read name)) m)
+    (back-ends place as_read (by_reading name) (ShowsFile name) (read_told read) read r old now had mid o p new (read-as read) (k ∙ ap (λ (a : Answered). had ++ a ∷ []) is)
+    (subst (λ n. ReadsFile read n o p) same h) (row-within place.who (ShowsFile name read) row old now gives (of-err row NoMemory wants)) d)
 
-pub read-unkept : (who : ℕ) (name said : List ℕ) (read : FileRead) (row : Result Ask EditError) (old : Flat) (had : List Answered) (o : Outside) (new : UnderWay) → said ≡ name
-    → ReadsFile read said o new.outside → GivesRow row new.world (row_read name read who old) → OnErr row (IsPartOfRead name read old new.world)
-    → IsCutShort (λ m. Do who top (Asks (Read name)) m) (under_way old had o) new
-read-unkept who name said read row old had o new same h gives wants =
-    cut-by _ _ _ new (λ m. Do-body who top (Asks (Read name)) m)
-    (back-begun who as_read (by_reading name) (ShowsFile name) (read_told read) read old had o new (read-as read)
-    (subst (λ n. ReadsFile read n o new.outside) same h) (row-within who (ShowsFile name read) row old new.world gives (of-err row NoMemory wants)))
+pub read-unkept : (place : Place) (name said : List ℕ) (read : FileRead) (row : Result Ask EditError) (old : Flat) (had : List Answered) (o : Outside) (new : UnderWay) → said ≡ name
+    → ReadsFile read said o new.outside → GivesRow row new.world (row_read name read place.who old) → OnErr row (IsPartOfRead name read old new.world)
+    → IsCutShort (λ m. Do place (Asks (Read name)) m) (under_way old had o) new
+read-unkept place name said read row old had o new same h gives wants =
+    cut-by _ _ _ new (λ m. Do-body place (Asks (Read name)) m)
+    (back-begun place as_read (by_reading name) (ShowsFile name) (read_told read) read old had o new (read-as read)
+    (subst (λ n. ReadsFile read n o new.outside) same h) (row-within place.who (ShowsFile name read) row old new.world gives (of-err row NoMemory wants)))
 
 -- a file that was written
 put-as : (put : Put) → as_put (put_told put) ≡ Some put
 put-as put.Done = refl
 put-as put.Failed = refl
 
-pub write-ends : (who : ℕ) (saving : Saving) (put : Put) (told : Answered) (row : Result Ask EditError) (r : Result Ending AllocError) (old now : Flat) (had mid : List Answered) (o p : Outside) (new : UnderWay) → told ≡ put_told put
+pub write-ends : (place : Place) (saving : Saving) (put : Put) (told : Answered) (row : Result Ask EditError) (r : Result Ending AllocError) (old now : Flat) (had mid : List Answered) (o p : Outside) (new : UnderWay) → told ≡ put_told put
     → WritesFile put saving.file (saved_bytes saving old) o p → mid ≡ had ++ told ∷ []
-    → GivesRow row now (row_saved saving put who old) → OnErr row (IsPartOfSaved saving put old now)
-    → PartEnds r (λ m. go_on (Do who) top (row_saved saving put who old) m) (under_way now mid p) new
-    → PartEnds r (λ m. Do who top (Asks (Write saving)) m) (under_way old had o) new
-write-ends who saving put told row r old now had mid o p new is h k gives wants d =
-    ends-by r _ _ _ new (λ m. Do-body who top (Asks (Write saving)) m)
-    (back-ends who as_put (by_writing saving) (NotesFile saving) (put_told put) put r old now had mid o p new (put-as put) (k ∙ ap (λ (a : Answered). had ++ a ∷ []) is) h (row-within who (NotesFile saving put) row old now gives (of-err row NoMemory wants)) d)
+    → GivesRow row now (row_saved saving put place.who old) → OnErr row (IsPartOfSaved saving put old now)
+    → PartEnds r (λ m. go_on Do place (row_saved saving put place.who old) m) (under_way now mid p) new
+    → PartEnds r (λ m. Do place (Asks (Write saving)) m) (under_way old had o) new
+write-ends place saving put told row r old now had mid o p new is h k gives wants d =
+    ends-by r _ _ _ new (λ m. Do-body place (Asks (Write saving)) m)
+    (back-ends place as_put (by_writing saving) (NotesFile saving) (put_told put) put r old now had mid o p new (put-as put) (k ∙ ap (λ (a : Answered). had ++ a ∷ []) is) h (row-within place.who (NotesFile saving put) row old now gives (of-err row NoMemory wants)) d)
 
-pub write-unkept : (who : ℕ) (saving : Saving) (put : Put) (old : Flat) (had : List Answered) (o : Outside) (new : UnderWay)
-    → WritesFile put saving.file (saved_bytes saving old) o new.outside → new.world ≡ old → IsCutShort (λ m. Do who top (Asks (Write saving)) m) (under_way old had o) new
-write-unkept who saving put old had o new h stays =
-    cut-by _ _ _ new (λ m. Do-body who top (Asks (Write saving)) m)
-    (back-unkept who as_put (by_writing saving) (NotesFile saving) (put_told put) put old had o new (put-as put) h stays)
+pub write-unkept : (place : Place) (saving : Saving) (put : Put) (old : Flat) (had : List Answered) (o : Outside) (new : UnderWay)
+    → WritesFile put saving.file (saved_bytes saving old) o new.outside → new.world ≡ old → IsCutShort (λ m. Do place (Asks (Write saving)) m) (under_way old had o) new
+write-unkept place saving put old had o new h stays =
+    cut-by _ _ _ new (λ m. Do-body place (Asks (Write saving)) m)
+    (back-unkept place as_put (by_writing saving) (NotesFile saving) (put_told put) put old had o new (put-as put) h stays)
 
 -- a task behind a unit that was taken, and a part without a unit
-pub unit-task : (who : ℕ) (task : Task) (row : Result Ask EditError) (r : Result Ending AllocError) (old before now : Flat) (had : List Answered) (o : Outside) (new : UnderWay) → units_of old ≡ suc (units_of before) → before ≡ with_units (units_of before) old
-    → GivesRow row now (task_row task who before) → (IsErrOf row NoMemory → IsPartOfTask task who before now)
-    → PartEnds r (λ m. go_on (Do who) top (task_row task who before) m) (under_way now had o) new → PartEnds r (λ m. with_unit (run_task (Do who) who top task) m) (under_way old had o) new
-unit-task who task row r old before now had o new u w gives wants d =
-    begun-ends who task r (λ m. with_unit (run_task (Do who) who top task) m) old before now had o new
+pub unit-task : (place : Place) (task : Task) (row : Result Ask EditError) (r : Result Ending AllocError) (old before now : Flat) (had : List Answered) (o : Outside) (new : UnderWay) → units_of old ≡ suc (units_of before) → before ≡ with_units (units_of before) old
+    → GivesRow row now (task_row task place.who before) → (IsErrOf row NoMemory → IsPartOfTask task place.who before now)
+    → PartEnds r (λ m. go_on Do place (task_row task place.who before) m) (under_way now had o) new → PartEnds r (λ m. with_unit (run_task Do place task) m) (under_way old had o) new
+unit-task place task row r old before now had o new u w gives wants d =
+    begun-ends place task r (λ m. with_unit (run_task Do place task) m) old before now had o new
     (λ course answers.
-    ap (λ (n : ℕ). unit_of n (run_task (Do who) who top task) (moment_of course answers old)) u
-    ∙ ap (λ (x : Flat). run_task (Do who) who top task (moment_of course answers x)) (sym w))
-    (row-within who task row before now gives wants) d
+    ap (λ (n : ℕ). unit_of n (run_task Do place task) (moment_of course answers old)) u
+    ∙ ap (λ (x : Flat). run_task Do place task (moment_of course answers x)) (sym w))
+    (row-within place.who task row before now gives wants) d
 
 pub unit-wanting : (part : Part) (old now : Flat) (course : List Happened) (answers : List Answered) → units_of old ≡ 0 → now ≡ old
     → with_unit part (moment_of course answers old) ≡ record { moment = moment_of course answers now; end = GivenUp budget_spent }

@@ -21,15 +21,15 @@ none-begins what rest (x ∷ l) e f = let no : x ∷ l ≡ [] = e in cc
 pub examples : Examples
 examples = record {
   files = λ text built one other. refl;
-  built = λ who wanted flat later. Do-body who top (Asks (Make wanted)) (moment_of [] (Built ∷ later) flat);
-  refused = λ who wanted flat later. Do-body who top (Asks (Make wanted)) (moment_of [] (Refused ∷ later) flat);
-  wanting = λ who wanted flat. Do-body who top (Asks (Make wanted)) (moment_of [] [] flat);
-  another = λ who wanted flat later. Do-body who top (Asks (Make wanted)) (moment_of [] (Wrote ∷ later) flat);
-  read = λ who name bytes flat later. Do-body who top (Asks (ToRead name)) (moment_of [] (Read bytes ∷ later) flat);
-  unwritten = λ who saving flat later. Do-body who top (Asks (Write saving)) (moment_of [] (WriteFailed ∷ later) flat);
-  not_written = λ who saving flat later. Do-body who top (Asks (Write saving)) (moment_of [] (NotThere ∷ later) flat);
+  built = λ who wanted flat later. Do-body (top who) (Asks (Make wanted)) (moment_of [] (Built ∷ later) flat);
+  refused = λ who wanted flat later. Do-body (top who) (Asks (Make wanted)) (moment_of [] (Refused ∷ later) flat);
+  wanting = λ who wanted flat. Do-body (top who) (Asks (Make wanted)) (moment_of [] [] flat);
+  another = λ who wanted flat later. Do-body (top who) (Asks (Make wanted)) (moment_of [] (Wrote ∷ later) flat);
+  read = λ who name bytes flat later. Do-body (top who) (Asks (ToRead name)) (moment_of [] (Read bytes ∷ later) flat);
+  unwritten = λ who saving flat later. Do-body (top who) (Asks (Write saving)) (moment_of [] (WriteFailed ∷ later) flat);
+  not_written = λ who saving flat later. Do-body (top who) (Asks (Write saving)) (moment_of [] (NotThere ∷ later) flat);
   begun = λ who name bytes flat.
-      subst (λ (q : Outcome). Begins q.moment.course (WasAsked (OfFile (WasRead name (file.Bytes bytes))) ∷ [])) (sym (Do-body who top (Asks (ToRead name)) (moment_of [] (Read bytes ∷ []) flat)))
-      (grows-task (Do who) who top (ShowsFile name (file.Bytes bytes)) (grows-do who) (moment_of (WasAsked (OfFile (WasRead name (file.Bytes bytes))) ∷ []) [] flat));
-  unasked = λ who answers what flat b. none-begins what b.0 _ (ap (λ (q : Outcome). q.moment.course) (Do-body who top (Asks Nothing) (moment_of [] answers flat))) b.1;
+      subst (λ (q : Outcome). Begins q.moment.course (WasAsked (OfFile (WasRead name (file.Bytes bytes))) ∷ [])) (sym (Do-body (top who) (Asks (ToRead name)) (moment_of [] (Read bytes ∷ []) flat)))
+      (grows-task Do (top who) (ShowsFile name (file.Bytes bytes)) grows-do (moment_of (WasAsked (OfFile (WasRead name (file.Bytes bytes))) ∷ []) [] flat));
+  unasked = λ who answers what flat b. none-begins what b.0 _ (ap (λ (q : Outcome). q.moment.course) (Do-body (top who) (Asks Nothing) (moment_of [] answers flat))) b.1;
 }

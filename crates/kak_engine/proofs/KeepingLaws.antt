@@ -1,6 +1,7 @@
--- No key makes a client come or go, and what a row asks for takes no unit back.
-use Rattle.std.proofs.Common.{◌≡◌, ℕ, suc, ◌≤◌, ◌<◌, ◌+◌, ◌*◌, ℤ, Bool, true, false, List, None, refl, ap, ◌∙◌, arith}
-use Rattle.std.specs.Prelude.{if◌then◌else◌}
+-- No key makes a client come or go.
+use Rattle.std.proofs.Common.{◌≡◌, ℕ, ℤ, Bool, true, false, List, refl, ◌∙◌}
+use Rattle.std.specs.Prelude.{if◌then◌else◌, None, Some}
+use Rattle.std.specs.declared.option.Option.{Option}
 use Rattle.key_names.specs.declared.key.Key.{Key}
 use Rattle.window_view.specs.Sizes.{Dimensions}
 use Rattle.mouse_events.specs.declared.mouse.Mouse.{Mouse}
@@ -9,36 +10,23 @@ use Rattle.kak_world.specs.declared.own.Mode.TheVariants.{Normal, Insert, Prompt
 use Rattle.kak_world.specs.declared.own.StatusText.TheVariants.{Quiet, Refused}
 use Rattle.kak_world.specs.declared.world.Rest.{Rest}
 use Rattle.kak_world.specs.Dropping.{KeepsJoined}
-use Rattle.kak_world.specs.Flat.{Flat, is_joined, is_client_leaving, mode_of, units_of, with_own, with_units, takes_turn, step_ended, with_rest}
+use Rattle.kak_world.specs.Flat.{Flat, is_joined, is_client_leaving, mode_of, with_own, with_units, takes_turn, step_ended, with_rest}
 use Rattle.kak_world.specs.Keeping.{whos_of, KeepsClients}
 use Rattle.kak_world.proofs.KeepingLaws.{keeps_same, keeps_after, keeps_own, keeps_units, keeps_corner, keeps_commits}
-use Rattle.kak_world.proofs.WorldLaws.{units_in, rest_own, units_units, joined_rest}
-use Rattle.normal_keys.proofs.KeepingLaws.{keeps_normal}
-use Rattle.insert_prompt.proofs.KeepingLaws.{keeps_insert, keeps_prompt}
-use Rattle.command_set.proofs.CommandLaws.{command_units, keeps_command}
-use Rattle.command_set.proofs.FileLaws.{read_falls, keeps_read, saved_falls, keeps_saved}
-use Rattle.command_set.proofs.FinishLaws.{finish_falls, keeps_finish}
+use Rattle.kak_world.proofs.WorldLaws.{joined_rest}
 use Rattle.pointer_rows.specs.Scrolling.{scrolled}
 use Rattle.pointer_rows.proofs.KeepingLaws.{keeps_pointed, keeps_scrolled}
 use Rattle.draw_model.specs.Drawings.{after_following, gutter_for}
 use Rattle.session_events.specs.declared.event.Answered.{Answered}
 use Rattle.kak_engine.specs.declared.engine.TheConstants.{MAX_UNITS}
-use Rattle.kak_engine.specs.Course.{RunsKey}
-use Rattle.kak_engine.specs.Doing.{DoingEnd, Fine, Failed, GivenUp, Outcome, DoingPlace, beginning, run_task, Do, row_in, row_key, top, strike}
+use Rattle.kak_engine.specs.declared.place.Place.{Place}
+use Rattle.kak_engine.specs.Doing.{DoingEnd, fault_text, Outcome, Do, play_key, top}
 use Rattle.draw_model.specs.Boxes.{with_drawn, box_for}
-use Rattle.kak_engine.specs.Steps.{told, begun, first_moment, ends_group, group_ended, key_ended, struck, after_key, shown_to, noted_drawn, resized, after_scroll, pointed_by, after_mouse}
+use Rattle.kak_engine.specs.Recording.{listens, recorded}
+use Rattle.kak_engine.specs.Steps.{fault_told, told, begun, first_moment, ends_group, group_ended, key_ended, struck, after_key, shown_to, noted_drawn, resized, after_scroll, pointed_by, after_mouse}
 use Rattle.kak_engine.specs.Laws.{KeepsPresence}
-use Rattle.kak_engine.proofs.CarryingLaws.{IsCarried, Keeps, keeps-unit, keeps-row, carried-do}
-
--- a change that keeps the clients keeps who has joined
-pub clients-joined : (old new : Flat) → KeepsClients old new → KeepsJoined old new
-clients-joined old new k = record { whos = k.whos; joined = λ who j. k.joined who ∙ j; turn = k.turn }
-
-joined-still : (flat : Flat) → KeepsJoined flat flat
-joined-still flat = record { whos = refl; joined = λ who j. j; turn = refl }
-
-joined-behind : (a b c : Flat) → KeepsJoined a b → KeepsJoined b c → KeepsJoined a c
-joined-behind a b c f g = record { whos = g.whos ∙ f.whos; joined = λ who j. g.joined who (f.joined who j); turn = g.turn ∙ f.turn }
+use Rattle.kak_engine.proofs.CarryingLaws.{Keeps, keeps-key, carried-do}
+use Rattle.kak_engine.proofs.TaskLaws.{clients-joined, joined-still, joined-carried}
 
 -- whoever's turn it is
 joined-present : (old new : Flat) → KeepsJoined old new → KeepsPresence old new
@@ -64,72 +52,22 @@ present-turn who flat = present-rest _ flat
 present-ended : (flat : Flat) → KeepsPresence flat (step_ended flat)
 present-ended flat = present-rest _ flat
 
-pub joined-carried : (who : ℕ) → IsCarried who KeepsJoined
-joined-carried who = record {
-  same = joined-still;
-  behind = joined-behind;
-  unit = λ left flat e. clients-joined flat (with_units left flat) (keeps_units left flat);
-  leave = λ flat. clients-joined flat _ (keeps_own who (λ o. record o { leaving = true }) flat);
-  commands = λ command flat. keeps_command command who flat;
-  finishes = λ wanted made flat. clients-joined flat _ (keeps_finish wanted made who flat);
-  reads = λ name read flat. keeps_read name read who flat;
-  saves = λ saving put flat. keeps_saved saving put who flat;
-}
+-- a key, or those that it is mapped to
+pub keeps_played : (p : Place) (key : Key) → Keeps KeepsJoined (play_key Do p true key)
+keeps_played p key = keeps-key KeepsJoined joined-carried Do (carried-do KeepsJoined joined-carried) p true key
 
--- no more units are left than before
-abbrev pub TakesUnits : Flat → Flat → Type 0
-TakesUnits old new = units_of new ≤ units_of old
-
-falls-units : (n s o : ℕ) → 3 * n + s < 3 * o + 1 → n ≤ o
-falls-units n s o lt = omega (arith, lt)
-
-same-units : (n o : ℕ) → n ≡ o → n ≤ o
-same-units n o e = omega (arith, e)
-
-after-unit : (n left o : ℕ) → n ≡ left → o ≡ suc left → n ≤ o
-after-unit n left o e f = omega (arith, e, f)
-
-after-units : (a b c : ℕ) → b ≤ a → c ≤ b → c ≤ a
-after-units a b c e f = omega (arith, e, f)
-
-no-units : (n : ℕ) → n ≤ n
-no-units n = omega arith
-
-pub units-carried : (who : ℕ) → IsCarried who TakesUnits
-units-carried who = record {
-  same = λ flat. no-units (units_of flat);
-  behind = λ a b c f g. after-units (units_of a) (units_of b) (units_of c) f g;
-  unit = λ left flat e. after-unit _ left _ (units_units left flat) e;
-  leave = λ flat. same-units _ _ (ap units_in (rest_own who (λ o. record o { leaving = true }) flat));
-  commands = λ command flat. same-units _ _ (command_units command who flat);
-  finishes = λ wanted made flat. falls-units _ _ _ (finish_falls wanted made who flat);
-  reads = λ name read flat. falls-units _ _ _ (read_falls name read who flat);
-  saves = λ saving put flat. falls-units _ _ _ (saved_falls saving put who flat);
-}
-
-keeps-row_in : (mode : Mode) (key : Key) (who : ℕ) (flat : Flat) → KeepsClients flat (row_in mode key who flat).world
-keeps-row_in Normal key who flat = keeps_normal key who flat
-keeps-row_in Insert key who flat = keeps_insert key who flat
-keeps-row_in Prompt key who flat = keeps_prompt key who flat
-
-pub keeps_row : (key : Key) (who : ℕ) (flat : Flat) → KeepsJoined flat (row_key key who flat).world
-keeps_row key who flat = clients-joined flat _ (keeps-row_in (mode_of who flat) key who flat)
-
-pub keeps_strike : (who : ℕ) (p : DoingPlace) (key : Key) → Keeps KeepsJoined (strike who p key)
-keeps_strike who p key m =
-    keeps-unit who KeepsJoined (joined-carried who) (run_task (Do who) who p (RunsKey key))
-    (λ n. keeps-row who KeepsJoined (joined-carried who) (Do who) p (row_key key who n.world) (beginning who (RunsKey key) n) (carried-do who KeepsJoined (joined-carried who)) (keeps_row key who n.world)) m
+keeps-fault : (who : ℕ) (fault : Option (List ℕ)) (flat : Flat) → KeepsClients flat (fault_told who fault flat)
+keeps-fault who None flat = keeps_same flat
+keeps-fault who (Some text) flat = keeps_own who (λ o. record o { status = Refused text }) flat
 
 keeps-told : (who : ℕ) (e : DoingEnd) (flat : Flat) → KeepsClients flat (told who e flat)
-keeps-told who Fine flat = keeps_same flat
-keeps-told who (Failed text) flat = keeps_own who (λ o. record o { status = Refused text }) flat
-keeps-told who (GivenUp text) flat = keeps_own who (λ o. record o { status = Refused text }) flat
+keeps-told who e flat = keeps-fault who (fault_text e) flat
 
 keeps-begun : (who : ℕ) (flat : Flat) → KeepsPresence flat (begun who flat)
 keeps-begun who flat =
-    let quiet : Flat = with_own who (λ o. record o { status = Quiet; info = None; dragging = false }) flat in
+    let quiet : Flat = with_own who (λ o. record o { status = Quiet; info = None; dragging = false; recording = listens o.recording }) flat in
     let ready : Flat = with_units MAX_UNITS quiet in
-    present-behind flat ready (begun who flat) (clients-present flat ready (keeps_after flat quiet ready (keeps_own who (λ o. record o { status = Quiet; info = None; dragging = false }) flat) (keeps_units MAX_UNITS quiet))) (present-turn who ready)
+    present-behind flat ready (begun who flat) (clients-present flat ready (keeps_after flat quiet ready (keeps_own who _ flat) (keeps_units MAX_UNITS quiet))) (present-turn who ready)
 
 keeps-group : (mode : Mode) (who : ℕ) (flat : Flat) → KeepsClients flat (ends_group mode who flat)
 keeps-group Insert who flat = keeps_same flat
@@ -137,12 +75,14 @@ keeps-group Normal who flat = keeps_commits who flat
 keeps-group Prompt who flat = keeps_commits who flat
 
 -- what comes behind a key that was run
-keeps-ended : (who : ℕ) (o : Outcome) → KeepsPresence o.moment.world (key_ended who o)
-keeps-ended who o =
+keeps-ended : (who : ℕ) (key : Key) (o : Outcome) → KeepsPresence o.moment.world (key_ended who key o)
+keeps-ended who key o =
     let flat : Flat = o.moment.world in
-    let said : Flat = told who o.end flat in
+    let kept : Flat = recorded who key flat in
+    let said : Flat = told who o.end kept in
     let settled : Flat = group_ended who said in
-    present-behind flat settled (key_ended who o) (clients-present flat settled (keeps_after flat said settled (keeps-told who o.end flat) (keeps-group (mode_of who said) who said))) (present-ended settled)
+    present-behind flat settled (key_ended who key o)
+    (clients-present flat settled (keeps_after flat kept settled (keeps_own who _ flat) (keeps_after kept said settled (keeps-told who o.end kept) (keeps-group (mode_of who said) who said)))) (present-ended settled)
 
 keeps-chosen : (t : Bool) (old a b : Flat) → KeepsPresence old a → KeepsPresence old b → KeepsPresence old (if t then a else b)
 keeps-chosen true old a b f g = f
@@ -153,9 +93,9 @@ pub keeps_key : (who : ℕ) (key : Key) (answers : List Answered) (flat : Flat) 
 unfolding after_key
 keeps_key who key answers flat =
     let o : Outcome = struck who key answers flat in
-    keeps-chosen (is_client_leaving who flat) flat flat (key_ended who o) (joined-present flat flat (joined-still flat))
-    (present-behind flat (begun who flat) (key_ended who o) (keeps-begun who flat)
-    (present-behind (begun who flat) o.moment.world (key_ended who o) (joined-present (begun who flat) o.moment.world (keeps_strike who top key (first_moment who flat answers))) (keeps-ended who o)))
+    keeps-chosen (is_client_leaving who flat) flat flat (key_ended who key o) (joined-present flat flat (joined-still flat))
+    (present-behind flat (begun who flat) (key_ended who key o) (keeps-begun who flat)
+    (present-behind (begun who flat) o.moment.world (key_ended who key o) (joined-present (begun who flat) o.moment.world (keeps_played (top who) key (first_moment who flat answers))) (keeps-ended who key o)))
 
 -- a resize
 pub keeps_resize : (who : ℕ) (size : Dimensions) (flat : Flat) → KeepsPresence flat (resized who size flat)

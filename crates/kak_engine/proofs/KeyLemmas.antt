@@ -8,10 +8,11 @@ use Rattle.session_events.specs.declared.event.Event.{Event}
 use Rattle.session_events.specs.declared.event.Event.TheVariants.{Join, Key as Struck, Resize, Scroll, Mouse as Pointed, Refresh, Leave}
 use Rattle.session_events.specs.declared.event.Answered.{Answered}
 use Rattle.session_events.specs.Entries.{is_join}
-use Rattle.kak_engine.specs.declared.doing.Ending.{Ending}
+use Rattle.kak_engine.specs.declared.ending.Ending.{Ending}
 use Rattle.kak_engine.specs.Course.{Happened, asks_in}
-use Rattle.kak_engine.specs.Doing.{Outcome, strike, top}
+use Rattle.kak_engine.specs.Doing.{Outcome, play_key, Do, top}
 use Rattle.kak_engine.specs.Honesty.{Outside, IsHonest}
+use Rattle.kak_engine.specs.Recording.{recorded}
 use Rattle.kak_engine.specs.Seen.{Does, IsCutShort, end_seen, moment_of, UnderWay, under_way}
 use Rattle.kak_engine.specs.Steps.{told, begun, group_ended, key_ended, struck, after_key, shown_to, after_event, course_of, course_of_key, asked_by, AreUsed, AreAskedFor, AreAskedByKey, IsStepCutShort, IsLeftByEvent, IsStepLeft}
 use Rattle.kak_engine.specs.Wanting.{IsLeftBy}
@@ -24,7 +25,7 @@ pub after-leaving : (who : ℕ) (key : Key) (answers : List Answered) (flat : Fl
 unfolding after_key
 after-leaving who key answers flat e = rw e refl
 
-after-staying : (who : ℕ) (key : Key) (answers : List Answered) (flat : Flat) → is_client_leaving who flat ≡ false → after_key who key answers flat ≡ key_ended who (struck who key answers flat)
+after-staying : (who : ℕ) (key : Key) (answers : List Answered) (flat : Flat) → is_client_leaving who flat ≡ false → after_key who key answers flat ≡ key_ended who key (struck who key answers flat)
 unfolding after_key
 after-staying who key answers flat e = rw e refl
 
@@ -46,23 +47,23 @@ honest-leaving who key answers flat o e none =
 
 -- the run of a key leads from the world where it begins, with the answers that it was given
 struck-is : (who : ℕ) (key : Key) (old begin : Flat) (answers : List Answered) (o : Outside) (new : UnderWay) (ending : Ending) → begin ≡ begun who old → answers ≡ []
-    → (d : Does (λ m. strike who top key m) (under_way begin answers o) new (end_seen ending))
+    → (d : Does (λ m. play_key Do (top who) true key m) (under_way begin answers o) new (end_seen ending))
     → struck who key new.had old ≡ record { moment = moment_of d.course [] new.world; end = end_seen ending }
 struck-is who key old begin answers o new ending b none d =
-    ap (λ (f : Flat). strike who top key (moment_of [] new.had f)) (sym b)
-    ∙ ap (λ (x : List Answered). strike who top key (moment_of [] x begin)) (d.kept ∙ ap (λ (x : List Answered). x ++ d.used) none ∙ sym (append-nil d.used))
+    ap (λ (f : Flat). play_key Do (top who) true key (moment_of [] new.had f)) (sym b)
+    ∙ ap (λ (x : List Answered). play_key Do (top who) true key (moment_of [] x begin)) (d.kept ∙ ap (λ (x : List Answered). x ++ d.used) none ∙ sym (append-nil d.used))
     ∙ d.leads [] []
 
-pub after-struck : (who : ℕ) (key : Key) (old begin say settled done : Flat) (answers : List Answered) (o : Outside) (new : UnderWay) (ending : Ending) → is_client_leaving who old ≡ false → begin ≡ begun who old → answers ≡ []
-    → Does (λ m. strike who top key m) (under_way begin answers o) new (end_seen ending)
-    → say ≡ told who (end_seen ending) new.world → settled ≡ group_ended who say → done ≡ step_ended settled → done ≡ after_key who key new.had old
-after-struck who key old begin say settled done answers o new ending stays b none s t g d =
-    d ∙ ap step_ended g ∙ ap (λ f. step_ended (group_ended who f)) t
-    ∙ ap (λ (x : Outcome). key_ended who x) (sym (struck-is who key old begin answers o new ending b none s))
+pub after-struck : (who : ℕ) (key : Key) (old begin kept say settled done : Flat) (answers : List Answered) (o : Outside) (new : UnderWay) (ending : Ending) → is_client_leaving who old ≡ false → begin ≡ begun who old → answers ≡ []
+    → Does (λ m. play_key Do (top who) true key m) (under_way begin answers o) new (end_seen ending)
+    → kept ≡ recorded who key new.world → say ≡ told who (end_seen ending) kept → settled ≡ group_ended who say → done ≡ step_ended settled → done ≡ after_key who key new.had old
+after-struck who key old begin kept say settled done answers o new ending stays b none s k t g d =
+    d ∙ ap step_ended g ∙ ap (λ f. step_ended (group_ended who f)) t ∙ ap (λ f. step_ended (group_ended who (told who (end_seen ending) f))) k
+    ∙ ap (λ (x : Outcome). key_ended who key x) (sym (struck-is who key old begin answers o new ending b none s))
     ∙ sym (after-staying who key new.had old stays)
 
 pub asked-struck : (who : ℕ) (key : Key) (old begin : Flat) (answers : List Answered) (o : Outside) (new : UnderWay) (ending : Ending) → is_client_leaving who old ≡ false → begin ≡ begun who old → answers ≡ []
-    → Does (λ m. strike who top key m) (under_way begin answers o) new (end_seen ending)
+    → Does (λ m. play_key Do (top who) true key m) (under_way begin answers o) new (end_seen ending)
     → AreAskedFor who (Struck key) new.had old
 asked-struck who key old begin answers o new ending stays b none s =
     subst (λ t. AreAskedByKey t who key new.had old) (sym stays)
@@ -70,12 +71,12 @@ asked-struck who key old begin answers o new ending stays b none s =
 
 -- what happened in it is what happens in the key
 course-struck : (who : ℕ) (key : Key) (old begin : Flat) (answers : List Answered) (o : Outside) (new : UnderWay) (ending : Ending) → is_client_leaving who old ≡ false → begin ≡ begun who old → answers ≡ []
-    → (d : Does (λ m. strike who top key m) (under_way begin answers o) new (end_seen ending)) → course_of_key who key new.had old ≡ d.course
+    → (d : Does (λ m. play_key Do (top who) true key m) (under_way begin answers o) new (end_seen ending)) → course_of_key who key new.had old ≡ d.course
 course-struck who key old begin answers o new ending stays b none d =
     course-staying who key new.had old stays ∙ ap (λ (x : Outcome). x.moment.course) (struck-is who key old begin answers o new ending b none d)
 
 pub honest-struck : (who : ℕ) (key : Key) (old begin : Flat) (answers : List Answered) (o : Outside) (new : UnderWay) (ending : Ending) → is_client_leaving who old ≡ false → begin ≡ begun who old → answers ≡ []
-    → Does (λ m. strike who top key m) (under_way begin answers o) new (end_seen ending)
+    → Does (λ m. play_key Do (top who) true key m) (under_way begin answers o) new (end_seen ending)
     → IsHonest new.had (asked_by who (Struck key) new.had old) o new.outside
 honest-struck who key old begin answers o new ending stays b none d =
     subst (λ (x : List Happened). IsHonest new.had (asks_in x) o new.outside) (sym (course-struck who key old begin answers o new ending stays b none d))
@@ -87,17 +88,17 @@ begun-left who old begin course new b l = left-more (λ x. x ≡ begin) (λ x. (
 
 -- a key that was cut short, and one behind which memory was wanting
 pub cut-struck : (who : ℕ) (key : Key) (old begin : Flat) (answers : List Answered) (o : Outside) (new : UnderWay) → is_client_leaving who old ≡ false → begin ≡ begun who old
-    → IsCutShort (λ m. strike who top key m) (under_way begin answers o) new → IsStepLeft who (Struck key) old new.world o new.outside
+    → IsCutShort (λ m. play_key Do (top who) true key m) (under_way begin answers o) new → IsStepLeft who (Struck key) old new.world o new.outside
 cut-struck who key old begin answers o new stays b d = record {
   answers = d.used;
   course = d.course;
-  begins = subst (λ (x : List Happened). Begins x d.course) (sym (course-staying who key d.used old stays)) (subst (λ (f : Flat). Begins (strike who top key (moment_of [] d.used f)).moment.course d.course) b (d.begins []));
+  begins = subst (λ (x : List Happened). Begins x d.course) (sym (course-staying who key d.used old stays)) (subst (λ (f : Flat). Begins (play_key Do (top who) true key (moment_of [] d.used f)).moment.course d.course) b (d.begins []));
   honest = d.honest;
   left = inl (begun-left who old begin d.course new.world b d.left);
 }
 
 pub cut-told : (who : ℕ) (key : Key) (old begin say : Flat) (answers : List Answered) (o : Outside) (new : UnderWay) (ending : Ending) → is_client_leaving who old ≡ false → begin ≡ begun who old → answers ≡ [] → say ≡ new.world
-    → Does (λ m. strike who top key m) (under_way begin answers o) new (end_seen ending)
+    → Does (λ m. play_key Do (top who) true key m) (under_way begin answers o) new (end_seen ending)
     → IsStepLeft who (Struck key) old say o new.outside
 cut-told who key old begin say answers o new ending stays b none untold d =
     let all : course_of_key who key new.had old ≡ d.course = course-struck who key old begin answers o new ending stays b none d in

@@ -4,7 +4,7 @@ use Rattle.std.specs.Prelude.{◌⊎◌, Ok, Err, IfSome, OnErr, IsErrOf}
 use Rattle.std.specs.declared.result.Result.{Result}
 use Rattle.kak_world.specs.declared.ask.Ask.{Ask}
 use Rattle.kak_world.specs.declared.ask.EditError.{EditError}
-use Rattle.kak_world.specs.declared.ask.EditError.TheVariants.{TextFull, UndoFull, NothingToUndo, NothingToRedo, NoSuchNode, NoSuchRegister, ReadOnlyRegister, RegisterFull, SharedLine, Command as OfCommand, BadPattern, NothingSelected, TooManySelections, BudgetSpent, NoMemory}
+use Rattle.kak_world.specs.declared.ask.EditError.TheVariants.{BudgetSpent, NoMemory}
 use Rattle.kak_world.specs.Flat.{Flat}
 use Rattle.kak_world.proofs.AnswerLemmas.{ok-err}
 use Rattle.kak_world.specs.Rows.{RowEnd, GivesRow, row_of}
@@ -19,7 +19,7 @@ left-more P Q f [] new l = f new l
 left-more P Q f (WasAsked what ∷ later) new l = left-more P Q f later new l
 left-more P Q f (Began who task flat ∷ later) new l = l
 
-left-append : (P : Flat → Type 0) (a b : List Happened) (new : Flat) → IsLeftBy (λ x. IsLeftBy P a x) b new → IsLeftBy P (a ++ b) new
+pub left-append : (P : Flat → Type 0) (a b : List Happened) (new : Flat) → IsLeftBy (λ x. IsLeftBy P a x) b new → IsLeftBy P (a ++ b) new
 left-append P [] b new l = l
 left-append P (WasAsked what ∷ a) b new l = left-append P a b new l
 left-append P (Began who task flat ∷ a) b new l = left-append (IsWithinTask task who flat) a b new l
@@ -45,21 +45,9 @@ asks-begin all some b = (asks_in b.0, ap asks_in b.1 ∙ asks_in-append some b.0
 
 -- a task whose row was answered: it came part of the way where memory was wanting, and else its row was done
 given-within : (P : Type 0) (error : EditError) (now : Flat) (end : RowEnd) → IfSome (row_of error) (λ row. end ≡ record { world = now; row = row }) → (error ≡ NoMemory → P) → P ⊎ (now ≡ end.world)
-given-within P TextFull now end g w = inr (ap (λ (x : RowEnd). x.world) (sym g))
-given-within P UndoFull now end g w = inr (ap (λ (x : RowEnd). x.world) (sym g))
-given-within P NothingToUndo now end g w = inr (ap (λ (x : RowEnd). x.world) (sym g))
-given-within P NothingToRedo now end g w = inr (ap (λ (x : RowEnd). x.world) (sym g))
-given-within P NoSuchNode now end g w = inr (ap (λ (x : RowEnd). x.world) (sym g))
-given-within P (NoSuchRegister name) now end g w = inr (ap (λ (x : RowEnd). x.world) (sym g))
-given-within P (ReadOnlyRegister name) now end g w = inr (ap (λ (x : RowEnd). x.world) (sym g))
-given-within P RegisterFull now end g w = inr (ap (λ (x : RowEnd). x.world) (sym g))
-given-within P SharedLine now end g w = inr (ap (λ (x : RowEnd). x.world) (sym g))
-given-within P (OfCommand error) now end g w = inr (ap (λ (x : RowEnd). x.world) (sym g))
-given-within P BadPattern now end g w = inr (ap (λ (x : RowEnd). x.world) (sym g))
-given-within P NothingSelected now end g w = inr (ap (λ (x : RowEnd). x.world) (sym g))
-given-within P TooManySelections now end g w = inr (ap (λ (x : RowEnd). x.world) (sym g))
-given-within P BudgetSpent now end g w = inr (ap (λ (x : RowEnd). x.world) (sym g))
 given-within P NoMemory now end g w = inl (w refl)
+given-within P BudgetSpent now end g w = inr (ap (λ (x : RowEnd). x.world) (sym g))
+given-within P error now end g w = inr (ap (λ (x : RowEnd). x.world) (sym g))
 
 pub row-within : (who : ℕ) (task : Task) (row : Result Ask EditError) (before now : Flat) → GivesRow row now (task_row task who before) → (IsErrOf row NoMemory → IsPartOfTask task who before now) → IsWithinTask task who before now
 row-within who task (Ok ask) before now g w = inr (ap (λ (x : RowEnd). x.world) (sym g))

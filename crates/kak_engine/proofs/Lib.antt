@@ -12,6 +12,8 @@ pub mod KeyLemmas
 pub mod LeftLemmas
 pub mod LegalLemmas
 pub mod LoopLemmas
+pub mod NestingExampleLemmas
+pub mod NestingLemmas
 pub mod PresenceLemmas
 pub mod RunLemmas
 pub mod RescueLemmas
@@ -19,6 +21,7 @@ pub mod SeatingLemmas
 pub mod WhyLemmas
 pub mod StageLemmas
 pub mod Walks
+pub mod TaskLaws
 pub mod TurnLemmas
 pub mod SizeLemmas
 pub mod StoredLemmas

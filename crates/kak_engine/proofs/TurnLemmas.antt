@@ -16,7 +16,7 @@ step-key : (who : ℕ) (key : Key) (answers : List Answered) (flat : Flat) → f
 unfolding after_key with_rest
 step-key who key answers flat e = by (is_client_leaving who flat)
   where
-    by : (t : Bool) → (if t then flat else key_ended who (struck who key answers flat)).rest.step ≡ between_steps
+    by : (t : Bool) → (if t then flat else key_ended who key (struck who key answers flat)).rest.step ≡ between_steps
     by true = e
     by false = refl
 

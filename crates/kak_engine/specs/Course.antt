@@ -6,6 +6,7 @@ use Rattle.kak_words.specs.declared.parts.Command.{Command}
 use Rattle.kak_files.specs.declared.files.FileRead.{FileRead}
 use Rattle.kak_ports.specs.declared.sink.Put.{Put}
 use Rattle.kak_world.specs.declared.ask.Saving.{Saving}
+use Rattle.kak_world.specs.declared.playing.Macro.{Macro}
 use Rattle.kak_world.specs.declared.purpose.Wanted.{Wanted}
 use Rattle.kak_world.specs.Flat.{Flat}
 use Rattle.kak_engine.specs.Asking.{Asked}
@@ -16,6 +17,8 @@ pub data Task : Type 0 where
   RunsKey : Key → Task
   -- a command is run
   RunsCommand : Command → Task
+  -- a macro is run once more
+  RunsMacro : Macro → Task
   -- a use is made of the pattern of a text, or it is told that the pattern was refused
   UsesPattern : Wanted → Option (List ℕ) → Task
   -- it is gone on with a file that was to be read, and with one that was to be written
@@ -23,6 +26,10 @@ pub data Task : Type 0 where
   NotesFile : Saving → Put → Task
   -- a client is granted to leave
   GrantsLeave : Task
+  -- a client comes to normal mode with nothing begun, as it does before and behind keys that are played
+  GoesNormal : Task
+  -- words become the arguments of the defined command that runs, or no such one runs
+  TakesArguments : Option (List (List ℕ)) → Task
 
 -- one thing that happens in a step: the outside is asked for something, or a task of a client begins in a world
 pub data Happened : Type 0 where

@@ -1,5 +1,5 @@
 -- What a row asks for is done: the one recursion of the editor, bounded by the units that are left.
-use Rattle.std.specs.Prelude.{ℕ, zero, suc, ◌+◌, ◌*◌, Bool, true, false, List, [], ◌∷◌, ◌++◌, encode_utf8_all, Some, None, is_some, Ok, Err}
+use Rattle.std.specs.Prelude.{ℕ, zero, suc, ◌+◌, ◌*◌, nat_lt, Bool, true, false, List, [], ◌∷◌, ◌++◌, codes, encode_utf8_all, Some, None, is_some, Ok, Err}
 use Rattle.std.specs.declared.option.Option.{Option}
 use Rattle.std.specs.declared.result.Result.{Result}
 use Rattle.key_names.specs.declared.key.Key.{Key}
@@ -8,30 +8,43 @@ use Rattle.kak_files.specs.declared.files.FileRead.{FileRead}
 use Rattle.kak_files.specs.Exchanges.{Read as WasRead, Written}
 use Rattle.kak_ports.specs.declared.sink.Put.{Put}
 use Rattle.kak_world.specs.declared.ask.Ask.{Ask}
-use Rattle.kak_world.specs.declared.ask.Ask.TheVariants.{Nothing, Commands, Make, Read, Write, Leave}
+use Rattle.kak_world.specs.declared.ask.Ask.TheVariants.{Nothing, Commands, Play, Eval, Try, Call, Make, Read, Write, Leave}
 use Rattle.kak_world.specs.declared.ask.EditError.{EditError}
 use Rattle.kak_world.specs.declared.ask.EditError.TheVariants.{BudgetSpent}
 use Rattle.kak_world.specs.declared.ask.Saving.{Saving}
+use Rattle.kak_world.specs.declared.playing.Macro.{Macro}
+use Rattle.kak_world.specs.declared.playing.PlayKeys.{PlayKeys}
 use Rattle.kak_world.specs.declared.own.Mode.{Mode}
 use Rattle.kak_world.specs.declared.own.Mode.TheVariants.{Normal, Insert, Prompt}
+use Rattle.edit_line.specs.Halves.{empty}
 use Rattle.kak_world.specs.Flat.{Flat, mode_of, units_of, with_own, with_units}
+use Rattle.kak_world.specs.Running.{arguments_of, with_arguments, keys_mapped}
 use Rattle.kak_world.specs.Rows.{Row, Asks, Fails, GivesUp, RowEnd, does, error_text, stages_of}
 use Rattle.normal_keys.specs.Rows.{row_normal}
+use Rattle.key_rows.specs.Playing.{row_macro}
 use Rattle.insert_prompt.specs.Rows.{row_insert, row_prompt}
 use Rattle.command_set.specs.Reading.{commands_told}
 use Rattle.command_set.specs.Rows.{row_command}
 use Rattle.command_set.specs.Files.{row_read, saved_bytes, row_saved}
 use Rattle.command_set.specs.Finishing.{row_finish}
 use Rattle.session_events.specs.declared.event.Answered.{Answered}
+use Rattle.kak_engine.specs.declared.place.Place.{Place}
+use Rattle.kak_engine.specs.declared.place.TheConstants.{MAX_DEPTH}
 use Rattle.kak_engine.specs.Answering.{as_made, as_read, as_put}
 use Rattle.kak_engine.specs.Asking.{Asked, OfPattern, OfFile}
-use Rattle.kak_engine.specs.Course.{Task, RunsKey, RunsCommand, UsesPattern, ShowsFile, NotesFile, GrantsLeave, Happened, WasAsked, Began}
+use Rattle.kak_engine.specs.Course.{Task, RunsKey, RunsCommand, RunsMacro, UsesPattern, ShowsFile, NotesFile, GrantsLeave, GoesNormal, TakesArguments, Happened, WasAsked, Began}
 
 -- How doing something ended: well, with an error, or given up. Errors and giving up have a status text.
 pub data DoingEnd : Type 0 where
   Fine : DoingEnd
   Failed : List ℕ → DoingEnd
   GivenUp : List ℕ → DoingEnd
+
+-- the status text that tells what went wrong, if anything did
+abbrev pub fault_text : DoingEnd → Option (List ℕ)
+fault_text Fine = None
+fault_text (Failed text) = Some text
+fault_text (GivenUp text) = Some text
 
 -- a moment of a step: the world, the outside's answers that are still to come, whether each so far was of the kind that
 -- was asked for, and what happened so far, in order
@@ -46,23 +59,27 @@ pub record Outcome : Type 0 where
   pub moment : Moment
   pub end : DoingEnd
 
--- a part of a step, and how rows are done; a place has the depth of nesting
+-- a part of a step
 abbrev pub Part : Type 0
 Part = Moment → Outcome
 
-pub record DoingPlace : Type 0 where
-  pub depth : ℕ
+-- the place where a client's step begins, and one deeper than another
+abbrev pub top : ℕ → Place
+top who = record { who = who; depth = 0 }
 
--- the place where a step begins
-abbrev pub top : DoingPlace
-top = record { depth = 0 }
+abbrev pub deeper : Place → Place
+deeper p = record p { depth = p.depth + 1 }
 
+-- how rows are done
 abbrev pub Go : Type 0
-Go = DoingPlace → Row → Part
+Go = Place → Row → Part
 
--- the text of a step that had no unit left
+-- the texts of a step that had no unit left, and of one that would have gone deeper than it may
 abbrev pub budget_spent : List ℕ
 budget_spent = error_text BudgetSpent
+
+abbrev pub nested_too_deep : List ℕ
+nested_too_deep = codes "given up: nested too deep"
 
 abbrev pub done_as : DoingEnd → Part
 done_as end m = record { moment = m; end = end }
@@ -88,6 +105,19 @@ abbrev pub each : {A : Type 0} → (A → Part) → List A → Part
 each f [] m = done_as Fine m
 each f (x ∷ xs) m = and_then (f x m) (each f xs)
 
+-- another part where one ended with an error; giving up isn't caught
+abbrev pub catch_after : DoingEnd → Part → Part
+catch_after Fine other m = done_as Fine m
+catch_after (Failed text) other m = other m
+catch_after (GivenUp text) other m = done_as (GivenUp text) m
+
+abbrev pub or_else : Outcome → Part → Outcome
+or_else o other = catch_after o.end other o.moment
+
+-- what is done behind a part however it ended, and doesn't change that
+abbrev pub finally : (Moment → Moment) → Outcome → Outcome
+finally last o = done_as o.end (last o.moment)
+
 -- a part that takes a unit first; without one the step is given up
 abbrev pub unit_of : ℕ → Part → Part
 unit_of zero part m = done_as (GivenUp budget_spent) m
@@ -96,8 +126,16 @@ unit_of (suc left) part m = part (in_world (with_units left m.world) m)
 abbrev pub with_unit : Part → Part
 with_unit part m = unit_of (units_of m.world) part m
 
+-- a part that is done one deeper, where a step may go so deep; else the step is given up
+abbrev pub if_room : Bool → Part → Part
+if_room true part m = part m
+if_room false part m = done_as (GivenUp nested_too_deep) m
+
+abbrev pub nested : Place → (Place → Part) → Part
+nested p part m = if_room (nat_lt p.depth MAX_DEPTH) (part (deeper p)) m
+
 -- a row, and what it asks for
-abbrev pub go_on : Go → DoingPlace → RowEnd → Part
+abbrev pub go_on : Go → Place → RowEnd → Part
 go_on go p end m = go p end.row (in_world end.world m)
 
 -- the row of a key, by the mode of the client
@@ -113,35 +151,83 @@ row_key key who flat = row_in (mode_of who flat) key who flat
 abbrev pub granted : ℕ → Flat → Flat
 granted who flat = with_own who (λ o. record o { leaving = true }) flat
 
+-- the client is in normal mode with nothing begun: no count, no register, no key that waits, an empty prompt, and nothing that
+-- leaving insert mode would take back; its selections stay
+abbrev pub normal_again : ℕ → Flat → Flat
+normal_again who flat = with_own who (λ o. record o { mode = Normal; count = 0; register = None; pending = None; appending = false; prompt = empty }) flat
+
 -- the row of a task
 abbrev pub task_row : Task → ℕ → Flat → RowEnd
 task_row (RunsKey key) who flat = row_key key who flat
 task_row (RunsCommand command) who flat = row_command command who flat
+task_row (RunsMacro macro) who flat = row_macro macro who flat
 task_row (UsesPattern wanted made) who flat = row_finish wanted made who flat
 task_row (ShowsFile name read) who flat = row_read name read who flat
 task_row (NotesFile saving put) who flat = row_saved saving put who flat
 task_row GrantsLeave who flat = does (granted who flat)
+task_row GoesNormal who flat = does (normal_again who flat)
+task_row (TakesArguments arguments) who flat = does (with_arguments arguments flat)
 
 -- a moment at which a task of a client begins
 abbrev pub beginning : ℕ → Task → Moment → Moment
 beginning who task m = record m { course = m.course ++ Began who task m.world ∷ [] }
 
 -- a task: its row, and what that asks for
-abbrev pub run_task : Go → ℕ → DoingPlace → Task → Part
-run_task go who p task m = go_on go p (task_row task who m.world) (beginning who task m)
+abbrev pub run_task : Go → Place → Task → Part
+run_task go p task m = go_on go p (task_row task p.who m.world) (beginning p.who task m)
+
+-- the moment behind a task whose row asks for nothing
+abbrev pub task_done : ℕ → Task → Moment → Moment
+task_done who task m = in_world (task_row task who m.world).world (beginning who task m)
 
 -- one command, which takes a unit
-abbrev pub run_command : Go → ℕ → DoingPlace → Command → Part
-run_command go who p command m = with_unit (run_task go who p (RunsCommand command)) m
+abbrev pub run_command : Go → Place → Command → Part
+run_command go p command m = with_unit (run_task go p (RunsCommand command)) m
 
 -- the commands of a text, one after another up to the first error; or why the text has none
-abbrev pub run_read : Go → ℕ → DoingPlace → Result (List Command) EditError → Part
-run_read go who p (Ok commands) m = each (run_command go who p) commands m
-run_read go who p (Err error) m = done_as (end_by_error error) m
+abbrev pub run_read : Go → Place → Result (List Command) EditError → Part
+run_read go p (Ok commands) m = each (run_command go p) commands m
+run_read go p (Err error) m = done_as (end_by_error error) m
 
 -- a text as commands: it is read whole before the first one is run
-abbrev pub run_text : Go → ℕ → DoingPlace → List ℕ → Part
-run_text go who p text m = run_read go who p (commands_told text) m
+abbrev pub run_text : Go → Place → List ℕ → Part
+run_text go p text m = run_read go p (commands_told text) m
+
+-- the same one deeper
+abbrev pub run_deeper : Go → Place → List ℕ → Part
+run_deeper go p text m = nested p (λ q. run_text go q text) m
+
+-- the same with words as arguments; behind it stand those of before
+abbrev pub run_with : Go → Place → List (List ℕ) → List ℕ → Part
+run_with go p words text m =
+    finally (task_done p.who (TakesArguments (arguments_of m.world))) (run_text go p text (task_done p.who (TakesArguments (Some words)) m))
+
+-- the run of a key, which takes a unit
+abbrev pub strike : Go → Place → Key → Part
+strike go p key m = with_unit (run_task go p (RunsKey key)) m
+
+-- a key, or those that it stands for: they are run one deeper, and none of them stands for others
+abbrev pub strike_mapped : Go → Place → Option (List Key) → Key → Part
+strike_mapped go p None key m = strike go p key m
+strike_mapped go p (Some keys) key m = nested p (λ q. each (strike go q) keys) m
+
+-- a key by what it is mapped to in the mode that stands, where maps are asked for
+abbrev pub play_key : Go → Place → Bool → Key → Part
+play_key go p false key m = strike go p key m
+play_key go p true key m = strike_mapped go p (keys_mapped p.who key m.world) key m
+
+-- keys that are played from normal mode on, and behind them, however they ended, the client is in normal mode again
+abbrev pub play_once : Go → Place → PlayKeys → Part
+play_once go p play m = finally (task_done p.who GoesNormal) (each (play_key go p play.maps) play.keys (task_done p.who GoesNormal m))
+
+-- the same one deeper
+abbrev pub play_nested : Go → Place → PlayKeys → Part
+play_nested go p play m = nested p (λ q. play_once go q play) m
+
+-- a macro that is run once more, which takes a unit
+abbrev pub play_again : Go → Place → Option Macro → Part
+play_again go p None m = done_as Fine m
+play_again go p (Some macro) m = with_unit (run_task go p (RunsMacro macro)) m
 
 -- a part that is handed an answer, where that is of the kind that was asked for; else the answers don't fit
 abbrev pub taken_as : {A : Type 0} → Option A → (A → Part) → List Answered → Part
@@ -158,8 +244,8 @@ abbrev pub asking : Asked → Moment → Moment
 asking what m = record m { course = m.course ++ WasAsked what ∷ [] }
 
 -- the task that goes on with an answer, behind what the outside was asked for by it
-abbrev pub go_back : {A : Type 0} → Go → ℕ → DoingPlace → (A → Flat → Asked) → (A → Task) → A → Part
-go_back go who p what task answer m = run_task go who p (task answer) (asking (what answer m.world) m)
+abbrev pub go_back : {A : Type 0} → Go → Place → (A → Flat → Asked) → (A → Task) → A → Part
+go_back go p what task answer m = run_task go p (task answer) (asking (what answer m.world) m)
 
 -- what the outside was asked for where a pattern is made, a file is read, and one is written
 abbrev pub by_making : List ℕ → Option (List ℕ) → Flat → Asked
@@ -172,33 +258,33 @@ abbrev pub by_writing : Saving → Put → Flat → Asked
 by_writing saving put flat = OfFile (Written saving.file (saved_bytes saving flat) put)
 
 -- what an ask leads to
-abbrev pub do_ask : Go → ℕ → DoingPlace → Ask → Part
-do_ask go who p Nothing m = done_as Fine m
-do_ask go who p (Commands text) m = run_text go who p text m
-do_ask go who p (Make wanted) m = next_as (as_made (encode_utf8_all wanted.pattern)) (go_back go who p (by_making (encode_utf8_all wanted.pattern)) (UsesPattern wanted.then)) m.answers m
-do_ask go who p (Read name) m = next_as as_read (go_back go who p (by_reading name) (ShowsFile name)) m.answers m
-do_ask go who p (Write saving) m = next_as as_put (go_back go who p (by_writing saving) (NotesFile saving)) m.answers m
-do_ask go who p Leave m = done_as Fine (in_world (granted who m.world) (beginning who GrantsLeave m))
+abbrev pub do_ask : Go → Place → Ask → Part
+do_ask go p Nothing m = done_as Fine m
+do_ask go p (Commands text) m = run_text go p text m
+do_ask go p (Play play) m = and_then (play_nested go p play m) (play_again go p play.again)
+do_ask go p (Eval text) m = run_deeper go p text m
+do_ask go p (Try texts) m = or_else (run_deeper go p texts.first m) (run_deeper go p texts.catching)
+do_ask go p (Call call) m = nested p (λ q. run_with go q call.arguments call.text) m
+do_ask go p (Make wanted) m = next_as (as_made (encode_utf8_all wanted.pattern)) (go_back go p (by_making (encode_utf8_all wanted.pattern)) (UsesPattern wanted.then)) m.answers m
+do_ask go p (Read name) m = next_as as_read (go_back go p (by_reading name) (ShowsFile name)) m.answers m
+do_ask go p (Write saving) m = next_as as_put (go_back go p (by_writing saving) (NotesFile saving)) m.answers m
+do_ask go p Leave m = done_as Fine (task_done p.who GrantsLeave m)
 
 -- what comes after a row
-abbrev pub row_body : Go → ℕ → DoingPlace → Row → Part
-row_body go who p (Asks ask) m = do_ask go who p ask m
-row_body go who p (Fails text) m = done_as (Failed text) m
-row_body go who p GivesUp m = done_as (GivenUp budget_spent) m
+abbrev pub row_body : Go → Go
+row_body go p (Asks ask) m = do_ask go p ask m
+row_body go p (Fails text) m = done_as (Failed text) m
+row_body go p GivesUp m = done_as (GivenUp budget_spent) m
 
--- the same, nested at most so deep
-unfoldable pub do_within : ℕ → ℕ → Go
-do_within zero who p row m = done_as (GivenUp budget_spent) m
-do_within (suc n) who p row m = row_body (do_within n who) who p row m
+-- the same, with calls of itself inside one another at most so often
+unfoldable pub do_within : ℕ → Go
+do_within zero p row m = done_as (GivenUp budget_spent) m
+do_within (suc n) p row m = row_body (do_within n) p row m
 
--- how deep a row may nest: each nesting has taken a unit, or is a later stage of its row
+-- how often that may be: each such call has taken a unit, or is a later stage of its row
 abbrev pub depth_of : Row → Flat → ℕ
 depth_of row flat = 3 * units_of flat + stages_of row
 
--- the same, as deep as it goes
-unfoldable pub Do : ℕ → Go
-Do who p row m = do_within (suc (depth_of row m.world)) who p row m
-
--- the run of a key, which takes a unit
-abbrev pub strike : ℕ → DoingPlace → Key → Part
-strike who p key m = with_unit (run_task (Do who) who p (RunsKey key)) m
+-- the same, as often as it goes
+unfoldable pub Do : Go
+Do p row m = do_within (suc (depth_of row m.world)) p row m

@@ -9,12 +9,13 @@ use Rattle.session_events.specs.declared.event.Event.{Event}
 use Rattle.session_events.specs.declared.event.Event.TheVariants.{Resize}
 use Rattle.session_events.specs.declared.event.Answered.{Answered}
 use Rattle.session_events.specs.declared.event.Entry.{Entry}
-use Rattle.kak_engine.specs.Doing.{Moment, DoingPlace, depth_of, do_within, Do}
+use Rattle.kak_engine.specs.declared.place.Place.{Place}
+use Rattle.kak_engine.specs.Doing.{Moment, depth_of, do_within, Do}
 use Rattle.kak_engine.specs.Steps.{after_event, after_key, run}
 
 -- with a bound above how deep it may nest, a row is done as deep as it goes: only want of units gives a step up
 abbrev pub BoundEndsNoStep : Type 0
-BoundEndsNoStep = (n who : ℕ) (p : DoingPlace) (row : Row) (m : Moment) → depth_of row m.world < n → do_within n who p row m ≡ Do who p row m
+BoundEndsNoStep = (n : ℕ) (p : Place) (row : Row) (m : Moment) → depth_of row m.world < n → do_within n p row m ≡ Do p row m
 
 -- The same clients are here as before, and each that had joined has joined still.
 pub record KeepsPresence (old new : Flat) : Type 0 where

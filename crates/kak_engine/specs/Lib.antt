@@ -2,6 +2,7 @@ pub mod Answering
 pub mod Asking
 pub mod Noting
 pub mod Course
+pub mod Recording
 pub mod Doing
 pub mod Wanting
 pub mod Steps
@@ -15,3 +16,4 @@ pub mod Laws
 pub mod Examples
 pub mod RescueExamples
 pub mod MouseExamples
+pub mod NestingExamples

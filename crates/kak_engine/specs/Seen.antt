@@ -1,22 +1,29 @@
 -- What the code of a step answers, as the definitions have it.
-use Rattle.std.specs.Prelude.{◌≡◌, true, List, ◌++◌, Ok, Err}
+use Rattle.std.specs.Prelude.{◌≡◌, ℕ, true, List, ◌++◌, Ok, Err}
 use Rattle.std.specs.declared.result.Result.{Result}
 use Rattle.std.specs.declared.alloc.AllocError.{AllocError}
 use Rattle.kak_world.specs.Flat.{Flat}
 use Rattle.session_turns.specs.Growth.{Begins}
 use Rattle.session_events.specs.declared.event.Answered.{Answered}
-use Rattle.kak_engine.specs.declared.doing.Ending.{Ending}
-use Rattle.kak_engine.specs.declared.doing.Ending.TheVariants as code
+use Rattle.kak_engine.specs.declared.ending.Ending.{Ending}
+use Rattle.kak_engine.specs.declared.ending.Ending.TheVariants as code
+use Rattle.kak_engine.specs.declared.ending.Limit.{Limit}
+use Rattle.kak_engine.specs.declared.ending.Limit.TheVariants.{Units, Depth}
 use Rattle.kak_engine.specs.Course.{Happened, asks_in}
 use Rattle.kak_engine.specs.Wanting.{IsLeftBy}
-use Rattle.kak_engine.specs.Doing.{DoingEnd, Fine, Failed, GivenUp, Moment, Part, budget_spent}
+use Rattle.kak_engine.specs.Doing.{DoingEnd, Fine, Failed, GivenUp, Moment, Part, budget_spent, nested_too_deep}
 use Rattle.kak_engine.specs.Honesty.{Outside, IsHonest}
+
+-- the text of a step that was given up at a limit
+abbrev pub limit_text : Limit → List ℕ
+limit_text Units = budget_spent
+limit_text Depth = nested_too_deep
 
 -- how something ended
 abbrev pub end_seen : Ending → DoingEnd
 end_seen code.Fine = Fine
 end_seen (code.Failed text) = Failed text
-end_seen code.GivenUp = GivenUp budget_spent
+end_seen (code.GivenUp limit) = GivenUp (limit_text limit)
 
 -- a moment of a step whose answers so far were of the kind that was asked for
 abbrev pub moment_of : List Happened → List Answered → Flat → Moment

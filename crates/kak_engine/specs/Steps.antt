@@ -1,5 +1,6 @@
 -- The steps of a session: what each entry of its history does to the world, and what it gives its client.
 use Rattle.std.specs.Prelude.{◌≡◌, ◌⊎◌, ℕ, ℤ, Bool, true, false, not, ◌&&◌, nat_le, if◌then◌else◌, List, [], ◌∷◌, ◌++◌, length, Some, None, ⊤}
+use Rattle.std.specs.declared.option.Option.{Option}
 use Rattle.kak_files.specs.Exchanges.{Exchange}
 use Rattle.session_turns.specs.Growth.{Begins}
 use Rattle.key_names.specs.declared.key.Key.{Key}
@@ -25,7 +26,8 @@ use Rattle.session_events.specs.Meaning.{no_output}
 use Rattle.kak_engine.specs.Asking.{Asked, files_in}
 use Rattle.kak_engine.specs.Course.{Happened, asks_in}
 use Rattle.kak_engine.specs.Wanting.{IsLeftBy}
-use Rattle.kak_engine.specs.Doing.{DoingEnd, Fine, Failed, GivenUp, Moment, Outcome, strike, top}
+use Rattle.kak_engine.specs.Doing.{DoingEnd, fault_text, Moment, Outcome, play_key, Do, top}
+use Rattle.kak_engine.specs.Recording.{listens, recorded}
 use Rattle.kak_engine.specs.Honesty.{Outside, IsHonest}
 
 -- a client is told why its key was refused
@@ -33,15 +35,18 @@ abbrev pub refused : ℕ → List ℕ → Flat → Flat
 refused who text flat = with_own who (λ o. record o { status = Refused text }) flat
 
 -- a client's status after its key: what went wrong, if anything did
-abbrev pub told : ℕ → DoingEnd → Flat → Flat
-told who Fine flat = flat
-told who (Failed text) flat = refused who text flat
-told who (GivenUp text) flat = refused who text flat
+abbrev pub fault_told : ℕ → Option (List ℕ) → Flat → Flat
+fault_told who None flat = flat
+fault_told who (Some text) flat = refused who text flat
 
--- the world when a key begins: its client has no status and no box, and is dragging no more; the step has all of its units, and it
--- is the client's turn
+abbrev pub told : ℕ → DoingEnd → Flat → Flat
+told who end flat = fault_told who (fault_text end) flat
+
+-- the world when a key begins: its client has no status and no box, is dragging no more, and what it records takes the key; the step
+-- has all of its units, and it is the client's turn
 abbrev pub begun : ℕ → Flat → Flat
-begun who flat = takes_turn who (with_units MAX_UNITS (with_own who (λ o. record o { status = Quiet; info = None; dragging = false }) flat))
+begun who flat =
+    takes_turn who (with_units MAX_UNITS (with_own who (λ o. record o { status = Quiet; info = None; dragging = false; recording = listens o.recording }) flat))
 
 -- the moment when a key begins
 abbrev pub first_moment : ℕ → Flat → List Answered → Moment
@@ -56,18 +61,18 @@ ends_group Prompt who flat = commits who flat
 abbrev pub group_ended : ℕ → Flat → Flat
 group_ended who flat = ends_group (mode_of who flat) who flat
 
--- the world when a key ends, and the step with it
-abbrev pub key_ended : ℕ → Outcome → Flat
-key_ended who o = step_ended (group_ended who (told who o.end o.moment.world))
+-- the world when a key ends, and the step with it: it is recorded as it was struck
+abbrev pub key_ended : ℕ → Key → Outcome → Flat
+key_ended who key o = step_ended (group_ended who (told who o.end (recorded who key o.moment.world)))
 
--- the run of a key that its client's step began
+-- the run of a key that its client's step began, or of those that it is mapped to
 abbrev pub struck : ℕ → Key → List Answered → Flat → Outcome
-struck who key answers flat = strike who top key (first_moment who flat answers)
+struck who key answers flat = play_key Do (top who) true key (first_moment who flat answers)
 
 -- the world after a key; once a client was granted to leave, its keys do nothing
 unfoldable pub after_key : ℕ → Key → List Answered → Flat → Flat
 after_key who key answers flat =
-    if is_client_leaving who flat then flat else key_ended who (struck who key answers flat)
+    if is_client_leaving who flat then flat else key_ended who key (struck who key answers flat)
 
 -- what happens in a key, in order
 unfoldable pub course_of_key : ℕ → Key → List Answered → Flat → List Happened

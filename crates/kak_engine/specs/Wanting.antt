@@ -7,7 +7,7 @@ use Rattle.kak_world.specs.Flat.{Flat, mode_of, pending_of}
 use Rattle.normal_keys.specs.Wanting.{IsPartOfNormal}
 use Rattle.insert_prompt.specs.Wanting.{IsPartOfInsert}
 use Rattle.command_set.specs.Wanting.{IsPartOfRead, IsPartOfSaved}
-use Rattle.kak_engine.specs.Course.{Task, RunsKey, RunsCommand, UsesPattern, ShowsFile, NotesFile, GrantsLeave, Happened, WasAsked, Began}
+use Rattle.kak_engine.specs.Course.{Task, RunsKey, RunsCommand, RunsMacro, UsesPattern, ShowsFile, NotesFile, GrantsLeave, GoesNormal, TakesArguments, Happened, WasAsked, Began}
 use Rattle.kak_engine.specs.Doing.{task_row}
 
 -- a key came part of the way, by the mode of its client; a key of a prompt leaves the world
@@ -16,14 +16,17 @@ IsPartInMode Normal key who old new = IsPartOfNormal key who old new
 IsPartInMode Insert key who old new = IsPartOfInsert (pending_of who old) key who old new
 IsPartInMode Prompt key who old new = new ≡ old
 
--- a task came part of the way; a command and the use of a pattern leave the world
+-- a task came part of the way; but for keys and files, it leaves the world then
 abbrev pub IsPartOfTask : Task → ℕ → Flat → Flat → Type 0
 IsPartOfTask (RunsKey key) who old new = IsPartInMode (mode_of who old) key who old new
 IsPartOfTask (RunsCommand command) who old new = new ≡ old
+IsPartOfTask (RunsMacro macro) who old new = new ≡ old
 IsPartOfTask (UsesPattern wanted made) who old new = new ≡ old
 IsPartOfTask (ShowsFile name read) who old new = IsPartOfRead name read old new
 IsPartOfTask (NotesFile saving put) who old new = IsPartOfSaved saving put old new
 IsPartOfTask GrantsLeave who old new = new ≡ old
+IsPartOfTask GoesNormal who old new = new ≡ old
+IsPartOfTask (TakesArguments arguments) who old new = new ≡ old
 
 -- a task that began in a world came part of the way, or its row was done
 abbrev pub IsWithinTask : Task → ℕ → Flat → Flat → Type 0

@@ -9,8 +9,7 @@ ghost use Rattle.kak_world.specs.Flat.{is_here, is_joined, acts, is_client_leavi
 ghost use Rattle.kak_world.specs.Settled.{AllListsSettled};
 ghost use Rattle.kak_world.specs.Stored.{IsStepOf, LeavesOthersOf};
 ghost use Rattle.kak_world.specs.declared.world.TheConstants.{MAX_CLIENTS};
-ghost use Rattle.kak_engine.specs.Steps.{after_key, may_leave_by, after_event, output_of, asked_by, exchanges, run, begun, told, refused, group_ended, shown_to, noted_drawn, resized, after_scroll, after_mouse, AreAskedFor, AllAsked, IsStepLeft};
-ghost use Rattle.kak_engine.specs.Seen.{end_seen};
+ghost use Rattle.kak_engine.specs.Steps.{after_key, may_leave_by, after_event, output_of, asked_by, exchanges, run, begun, fault_told, refused, group_ended, shown_to, noted_drawn, resized, after_scroll, after_mouse, AreAskedFor, AllAsked, IsStepLeft};
 ghost use Rattle.kak_engine.specs.Honesty.{IsUntouched, IsHonest, IsKept};
 ghost use Rattle.kak_engine.specs.Held.{new_engine, event_refusal, refused_by, marked_after, marked_by, CanRun, TakesEvent, CutsEvent, LeavesInside};
 ghost use Rattle.session_events.specs.declared.event.Event.TheVariants.{Leave, Key as Struck};
@@ -19,14 +18,16 @@ ghost use Rattle.session_events.specs.Entries.{entry_of, kind_of, is_join, is_le
 ghost use Rattle.session_events.specs.Legal.{Away, is_here as is_in, presence_from, IsLegal};
 ghost use Rattle.draw_model.specs.Drawings.{drawing_of};
 
-use crate::doing::{Ending, strike};
+use crate::ending::Ending;
 use crate::joined::{is_known, note_coming};
 use crate::outside::Outside;
+use crate::playing::strike_key;
+use crate::recording::{listen, record_key};
 use crate::resting::{RestingWorld, leave_in_step, run_in_step};
 use draw_model::{gutter_of, note_drawn};
 use drawings::Drawing;
 use kak_text::Chars;
-use kak_world::{AnyTurn, EditError, MAX_CLIENTS, Mode, StatusText, Turn, World};
+use kak_world::{AnyTurn, MAX_CLIENTS, Mode, StatusText, Turn, World};
 use key_names::Key;
 use mouse_events::Mouse;
 use regex_ports::Pattern;
@@ -79,25 +80,13 @@ fn refuse<P: Pattern, T: Turn>(world: &mut World<P, T>, who: u32, text: Chars)
 }
 
 // Tells a client what went wrong with its key, if anything did.
-fn tell<P: Pattern, T: Turn>(
-    alloc: Global,
-    world: &mut World<P, T>,
-    who: u32,
-    ending: Ending,
-) -> Result<(), AllocError>
+fn tell<P: Pattern, T: Turn>(world: &mut World<P, T>, who: u32, fault: Option<Chars>)
     requires { acts who world.old.flat ≡ true }
-    ensures tells { OnOk result (world.new.flat ≡ told who (end_seen ending) world.old.flat) }
-    ensures err { OnErr result (world.new.flat ≡ world.old.flat) }
+    ensures { world.new.flat ≡ fault_told who fault world.old.flat }
 {
-    match ending {
-        Ending::Fine => {}
-        Ending::Failed(text) => refuse(world, who, text),
-        Ending::GivenUp => {
-            let text = EditError::BudgetSpent.text(alloc)?;
-            refuse(world, who, text);
-        }
+    if let Some(text) = fault {
+        refuse(world, who, text);
     }
-    Ok(())
 }
 
 // Ends what is pending of a client whose key ends: outside insert mode it is committed.
@@ -120,10 +109,7 @@ fn begin<P: Pattern, T: Turn>(world: &mut World<P, T>, who: u32)
     ensures begins { world.new.flat ≡ begun who world.old.flat }
     ensures acts { acts who world.new.flat ≡ true }
 {
-    let own = world.own_mut(who);
-    own.status = StatusText::Quiet;
-    own.info = None;
-    own.dragging = false;
+    listen(world, who);
     world.set_units(MAX_UNITS);
     world.enter(who);
 }
@@ -147,8 +133,10 @@ fn run_struck<O: Outside, T: Turn>(
     ensures cut { OnErr result (IsStepLeft who (Struck key) world.old.flat world.new.flat (O.seen outside.old) (O.seen outside.new)) }
 {
     begin(world, who);
-    let ending = strike(alloc, world, outside, answers, who, key)?;
-    tell(alloc, world, who, ending)?;
+    let ending = strike_key(alloc, world, outside, answers, who, key)?;
+    let fault = ending.text(alloc)?;
+    record_key(world, who, key)?;
+    tell(world, who, fault);
     end_group(world, who);
     world.end_step();
     Ok(())

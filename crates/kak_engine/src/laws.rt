@@ -3,7 +3,9 @@ ghost use Rattle.std.specs.Prelude.{◌≡◌};
 ghost use Rattle.kak_engine.specs.Examples.{Examples, SizeExamples};
 ghost use Rattle.kak_engine.specs.MouseExamples.{MouseExamples};
 ghost use Rattle.kak_engine.specs.RescueExamples.{RescueExamples};
+ghost use Rattle.kak_engine.specs.NestingExamples.{NestingExamples};
 ghost use Rattle.kak_engine.specs.declared.engine.TheConstants.{MAX_UNITS};
+ghost use Rattle.kak_engine.specs.declared.place.TheConstants.{MAX_DEPTH};
 ghost use Rattle.kak_engine.specs.Laws.{BoundEndsNoStep, KeysKeepClients, OtherClientsStay, ResizesChangeSizes, StepsEnd};
 
 /// The bound on nesting ends no step by itself: with a bound above how deep a row may
@@ -27,9 +29,10 @@ pub fn resizes_change_sizes()
     ensures { ResizesChangeSizes }
 {}
 
-/// The limit, in numbers.
+/// The limits, in numbers.
 pub fn limits()
-    ensures { MAX_UNITS ≡ 4096 }
+    ensures units { MAX_UNITS ≡ 4096 }
+    ensures depth { MAX_DEPTH ≡ 32 }
 {}
 
 /// Behind each history no step is under way: it is nobody's turn, and no unit is left.
@@ -40,6 +43,11 @@ pub fn steps_end()
 /// Worked examples of rows that ask the outside for something.
 pub fn worked_examples()
     ensures { Examples }
+{}
+
+/// Worked examples of what is run inside something else, and of keys that are recorded.
+pub fn nesting_examples()
+    ensures { NestingExamples }
 {}
 
 /// Worked examples of windows of other sizes.

@@ -2,16 +2,21 @@
 #![tactic(auto)]
 
 pub mod asking;
-pub mod doing;
+pub mod asks;
+pub mod ending;
 pub mod engine;
 pub mod files_and_patterns;
 mod joined;
 pub mod laws;
 pub mod none;
 pub mod outside;
+pub mod place;
+pub mod playing;
+mod recording;
 mod rescue;
 mod resting;
 pub mod seat;
+pub mod texts;
 pub mod trace;
 
 pub use engine::{Engine, MAX_UNITS, NoEngine};
