@@ -1,9 +1,11 @@
 """The bytes that the documents show are those that the program writes."""
+import json
 import pathlib
 import re
 
 from drawings import keys_line
-from processes import run_whole
+from edit_checks import last_drawing
+from processes import run_whole, run_with_files
 
 TOP = pathlib.Path(__file__).resolve().parent.parent
 
@@ -30,6 +32,7 @@ def protocol_pages():
 
 def run(program, report):
     links(report)
+    plugins(program, report)
     shows("README.md", (TOP / "README.md").read_text(), README_SESSION, program, report)
     first, whole, _ = protocol_pages()
     shows("docs/PROTOCOL.md", first, PROTOCOL_SESSION, program, report)
@@ -52,6 +55,25 @@ def links(report):
             report.check(f"{page.name} links to {target}#{heading}", True, there.exists() and (not heading or heading in slugs))
         for path in sorted(set(re.findall(r"\b(?:docs|e2e|examples|bench)/[\w./]*\w", text))):
             report.check(f"{page.name} names {path}", True, (TOP / path).exists())
+
+
+def plugins(program, report):
+    """Each plugin of docs/PLUGINS.md is loaded as the page says, and each row of the tables behind it does what it says."""
+    page = (TOP / "docs/PLUGINS.md").read_text()
+    loads = re.search(r"^`:edit surround\.kak(.*)`$", page, re.MULTILINE)[1]
+    sections = re.findall(r"^```kak\n# (\S+)\n(.*?)^```\n(.*?)(?=^#|\Z)", page, re.MULTILINE | re.DOTALL)
+    files = {name: f"# {name}\n{text}".encode() for name, text, _ in sections}
+    report.check("docs/PLUGINS.md: plugins of their own names, each in a block that is read", page.count("```") // 2, len(files))
+    for name, _, rest in sections:
+        rows = [[cell.strip().strip("`") for cell in row[1:-1].split("|")] for row in rest.splitlines() if row.startswith("| `")]
+        report.check(f"docs/PLUGINS.md: {name} has rows", True, bool(rows))
+        for text, keys, then, status in rows:
+            lines = [f":edit {name}{loads}", ":buffer *scratch*<ret>", f"i{text}<esc>gg", keys]
+            ended, _ = run_with_files(program, ["-ui", "json"], b"".join(map(keys_line, lines)), files)
+            drawings = ended.output.splitlines()
+            report.check(f"docs/PLUGINS.md: {name} is loaded", "", last_drawing(b"\n".join(drawings[5:9]))[2])
+            drawn = "".join(atom["contents"] for atoms in json.loads(drawings[-4])["params"][0] for atom in atoms)
+            report.check(f"docs/PLUGINS.md: {name}: {keys}", (then.replace("<ret>", "\n") + "\n", status), (drawn, last_drawing(ended.output)[2]))
 
 
 def shows(name, text, session, program, report):

@@ -5,7 +5,9 @@ import pathlib
 
 from processes import run_with_files
 
-FOLDER = pathlib.Path(__file__).resolve().parent / "commands"
+HERE = pathlib.Path(__file__).resolve().parent
+# commands; keys and commands inside keys and commands
+TOPICS = ["commands", "nesting"]
 
 
 def files_of(path):
@@ -18,11 +20,19 @@ def words_of(path):
     return path.read_text().splitlines() if path.exists() else ["-ui", "json"]
 
 
+def sessions(topic):
+    return sorted((HERE / topic).glob("*.in"))
+
+
 def run(program, report):
-    inputs = sorted(FOLDER.glob("*.in"))
-    report.check("commands: there are sessions to be played", True, bool(inputs))
-    for given in inputs:
-        name = f"commands: session {given.stem}"
+    for topic in TOPICS:
+        play_all(program, report, topic)
+
+
+def play_all(program, report, topic):
+    report.check(f"{topic}: there are sessions to be played", True, bool(sessions(topic)))
+    for given in sessions(topic):
+        name = f"{topic}: session {given.stem}"
         words = words_of(given.with_suffix(".words"))
         ended, files = run_with_files(program, words, given.read_bytes(), files_of(given.with_suffix(".before")))
         report.check_run(name, 0, given.with_suffix(".out").read_bytes(), ended)

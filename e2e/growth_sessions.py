@@ -142,6 +142,18 @@ def patterns():
     ])
 
 
+def nested():
+    """A macro, a key that stands for others, and a command that is tried, each of which types."""
+    return Session("keys inside keys", "kak", ["-ui", "json"], [
+        Line("Qia<esc>Q", {SCRATCH: typed(b"", "a", b"")}, {SCRATCH}),
+        Line("2q", {SCRATCH: typed(b"a", "aa", b"")}),
+        Line(":map global normal z ib<lt>esc><ret>z", {SCRATCH: typed(b"aaa", "b", b"")}),
+        Line(":define-command -params 1 put 'exec \"i%arg{1}<lt>esc>\"; fail x'<ret>"),
+        Line(":try 'put c' catch 'put d'<ret>", {SCRATCH: typed(b"aaab", "cd", b"")}),
+        Line(":alias window p put<ret>:p e<ret>", {SCRATCH: typed(b"aaabcd", "e", b"")}),
+    ])
+
+
 def two_windows():
     """Two clients on one text, each of whom types, and one takes its own back."""
     return Session("two clients", "kakreplay", ["json", "json"], [
@@ -206,4 +218,4 @@ def generated():
     return Session("generated", "kak", ["gen", "2", "40", "1"], [])
 
 
-ALL = [nothing, letters, cursors, files, painted, patterns, generated, two_windows, many_words, served]
+ALL = [nothing, letters, cursors, files, painted, patterns, nested, generated, two_windows, many_words, served]

@@ -10,6 +10,9 @@ from processes import Talk
 PIECE = 50_000
 SECONDS = 300
 
+# the ratios that were shown, each with what it is of
+RATIOS = []
+
 
 def strike(talk, keys):
     talk.send(keys_line(keys))
@@ -58,7 +61,18 @@ def show(name, what, ours, theirs, each=1):
             line += f", {1000 * took / each:8.1f} ns a cursor"
         if theirs:
             line += f"; Kakoune {other:12.1f} us, ratio {other / took:.2f}"
+            RATIOS.append((other / took, f"{name}, {key}"))
         print(line, flush=True)
+
+
+def show_all():
+    """The least and the median of all ratios that were shown."""
+    if not RATIOS:
+        return
+    ordered = sorted(RATIOS)
+    least, what = ordered[0]
+    slower = sum(ratio < 1 for ratio, _ in ordered)
+    print(f"{len(ordered)} ratios: the least {least:.2f} ({what}), the median {ordered[len(ordered) // 2][0]:.2f}, {slower} below 1", flush=True)
 
 
 def programs(words, top):

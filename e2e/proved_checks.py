@@ -28,6 +28,7 @@ def run(_program, report):
         report.check(f"docs/PROVED.md: `{name}` stands in the sources", True, name in known)
     readme_rows(known, report)
     definitions(report)
+    refusals(known, report)
     names_stand(known, report)
 
 
@@ -67,6 +68,22 @@ def definitions(report):
         if name != "Lib" and "Example" not in name and crate not in ("session_desk", "desk_trials"):
             told = any(crate in section and re.search(rf"[`/]{name}`", section) for section in sections)
             report.check(f"docs/DEFINITIONS.md says what crates/{crate}/specs/{name} is", True, told)
+
+
+def refusals(known, report):
+    """Each row of the table of refusals names functions of its crates, and clauses that one of them has, or definitions."""
+    section = (TOP / "docs/DEFINITIONS.md").read_text().partition("\n## Refusals\n")[2].partition("\n## ")[0]
+    definitions_known = {name for name in known if name[0].isupper()}
+    called = []
+    for calls, _, _, _, clauses in [line.split("|")[1:-1] for line in section.splitlines() if line.startswith("| ")][1:]:
+        if calls.strip():
+            called = [(crate, name) for crate, *names in (re.findall(r"\w+", group) for group in calls.split(";")) for name in names]
+        for crate, name in called:
+            there = crate in crate_names() and name in functions_of(crate)
+            report.check(f"docs/DEFINITIONS.md, refusals: `{name}` is a function of `{crate}`", True, there)
+        told = definitions_known.union(*(functions_of(crate).get(name, ()) for crate, name in called))
+        for name in NAME.findall(clauses):
+            report.check(f"docs/DEFINITIONS.md, refusals of {called}: a clause or a definition `{name}`", True, name in told)
 
 
 def names_stand(known, report):

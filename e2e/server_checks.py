@@ -12,7 +12,7 @@ from connections import REFRESH, SECONDS, play, settle, text_of
 from document_checks import protocol_pages, shown_lines
 from drawings import CURSOR, CURSOR_ON_NEWLINE, DEFAULT, INVALID, METHOD, OPENING, PARAMS, PARSE, TOO_LONG, atom, drawing, key, keys_line, opening, resize_line
 from edit_checks import last_drawing
-from file_checks import FOLDER as COMMANDS, files_of, words_of
+from file_checks import TOPICS as WITH_FILES, files_of, sessions, words_of
 from session_checks import HERE, TOPICS
 
 QUIT = ":quit<ret>"
@@ -77,7 +77,8 @@ def is_free(server, name):
 def run(program, report):
     for topic in TOPICS:
         alone(program, report, topic)
-    alone_with_files(program, report)
+    for topic in WITH_FILES:
+        alone_with_files(program, report, topic)
     for checks in (two_clients, names, refusals, pieces, sent_ahead, killed, came_and_went, halves, last_lines, deaf):
         play(program, report, checks)
 
@@ -88,10 +89,10 @@ def alone(program, report, topic):
         play(program, report, session, f"server: {topic}: session {given.stem}", [], given)
 
 
-def alone_with_files(program, report):
+def alone_with_files(program, report, topic):
     """So is one whose session has files, and it leaves the same files."""
-    for given in sorted(COMMANDS.glob("*.in")):
-        name = f"server: commands: session {given.stem}"
+    for given in sessions(topic):
+        name = f"server: {topic}: session {given.stem}"
         words, before = words_of(given.with_suffix(".words"))[2:], files_of(given.with_suffix(".before"))
         play(program, report, session, name, words, given, files=before)
 

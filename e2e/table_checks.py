@@ -149,8 +149,8 @@ def options(report):
 
 def status_texts(report):
     """docs/COMMANDS.md has each text by which a key or a command is refused, and the pages name no other one."""
-    specs = source("kak_world/specs/Rows.antt") + source("kak_world/specs/CommandErrors.antt")
-    coded = re.findall(r'^(?:error|command)_text .* = codes "([^"]+)"', specs, re.MULTILINE)
+    specs = source("kak_world/specs/Rows.antt") + source("kak_world/specs/CommandErrors.antt") + source("kak_engine/specs/Doing.antt")
+    coded = re.findall(r'^(?:(?:error|command)_text .*|nested_too_deep) = codes "([^"]+)"', specs, re.MULTILINE)
     fixed = lambda text: re.sub(r"[A-Z]+$", "", text)
     agree(report, "docs/COMMANDS.md and kak_world: status texts", [fixed(text) for cells in rows("COMMANDS.md", "Status texts", "Status text") for text in spans(cells[0])], coded)
     used = [text for cells in rows("COMMANDS.md", "The commands", "Command") for text in spans(cells[2]) if " " in text]
