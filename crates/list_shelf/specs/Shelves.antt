@@ -68,6 +68,10 @@ brought_up holder shelf = changed_for holder (up_to_date shelf.log) shelf
 abbrev pub with_sels : Holder → Listed → Shelved → Shelved
 with_sels holder s shelf = changed_for holder (λ lag. record { stamp = stamp_of shelf.log; sels = s }) shelf
 
+-- a holder's list replaced by one that stands at a stamp of its own
+abbrev pub with_lag_of : Holder → Lag → Shelved → Shelved
+with_lag_of holder other shelf = changed_for holder (λ lag. other) shelf
+
 -- another main selection of a holder's list
 abbrev pub with_main : Holder → ℕ → Shelved → Shelved
 with_main holder n shelf = changed_for holder (λ lag. record { stamp = lag.stamp; sels = record { list = lag.sels.list; main = n } }) shelf
@@ -117,6 +121,10 @@ least stamp (row ∷ rows) = least (min stamp row.lag.stamp) rows
 -- a shelf without the shifts that no list has yet to go through: with no list, without any
 abbrev pub trimmed_shelf : Shelved → Shelved
 trimmed_shelf shelf = record shelf { log = trimmed shelf.log (least (stamp_of shelf.log) shelf.rows) }
+
+-- a shelf without those of them that come before a stamp
+abbrev pub trimmed_before : ℕ → Shelved → Shelved
+trimmed_before stamp shelf = record shelf { log = trimmed shelf.log (least stamp shelf.rows) }
 
 -- a holder's list brought up to date, and the log without what no list has yet to go through then
 abbrev pub entered : Holder → Shelved → Shelved

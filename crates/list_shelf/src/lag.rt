@@ -1,6 +1,6 @@
 //! A list that may lag behind the text that it is on.
 
-ghost use Rattle.std.specs.Prelude.{◌≡◌, ◌≤◌, ◌+◌, ◌*◌, length, IfOk};
+ghost use Rattle.std.specs.Prelude.{◌≡◌, ◌≤◌, ◌+◌, ◌*◌, length, IfOk, IsOk};
 ghost use Rattle.selection_map.specs.Behind.{AreRising};
 ghost use Rattle.selection_map.specs.Catching.{IsCatchable};
 ghost use Rattle.selection_map.specs.Staying.{count_moved};
@@ -48,10 +48,11 @@ pub fn catch_up_forward<L: Ledger>(lag: &mut Lag, log: &SliceLog, steps: &mut St
     lag.stamp = log.stamp();
 }
 
-/// A copy of a list that is up to date; the list itself is left where it stands.
-pub(crate) fn copy_up(lag: &Lag, alloc: Global, log: &SliceLog) -> Result<Sels, AllocError>
+/// A copy of a list that is up to date; the list itself is left where it stands. Takes no memory for at most four selections.
+pub fn copy_up(lag: &Lag, alloc: Global, log: &SliceLog) -> Result<Sels, AllocError>
     requires { IsLagging log.now lag.now }
-    ensures { IfOk result (λ sels. sels ≡ seen_by log.now lag.now) }
+    ensures ok { IfOk result (λ sels. sels ≡ seen_by log.now lag.now) }
+    ensures few { length lag.now.sels.list ≤ 4 → IsOk result }
 {
     let sels = lag.sels.copy(alloc)?;
     let mut copy = Lag {
@@ -72,7 +73,7 @@ pub(crate) fn renew(lag: &mut Lag, log: &SliceLog)
 }
 
 /// Takes a list through shifts that no log holds. Takes no memory.
-pub(crate) fn go_through(lag: &mut Lag, shifts: &[Shift])
+pub fn go_through(lag: &mut Lag, shifts: &[Shift])
     requires { IsCatchable shifts.now lag.old.sels }
     ensures { lag.new ≡ gone_through shifts.now lag.old }
 {

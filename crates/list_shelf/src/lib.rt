@@ -11,7 +11,7 @@ pub mod rows;
 pub mod shelf;
 
 pub use holder::Holder;
-pub use lag::{Lag, catch_up, catch_up_forward};
+pub use lag::{Lag, catch_up, catch_up_forward, copy_up, go_through};
 pub use log::SliceLog;
 pub use rows::ShelfRow;
 pub use shelf::Shelf;

@@ -1,10 +1,10 @@
 //! The shelf of the lists on one text.
 
-ghost use Rattle.std.specs.Prelude.{◌≡◌, ◌<◌, ◌≤◌, true, length, take, IfOk, OnOk, OnErr};
+ghost use Rattle.std.specs.Prelude.{◌≡◌, ◌<◌, ◌≤◌, true, length, take, IfOk, IsOk, OnOk, OnErr};
 ghost use Rattle.change_list.specs.Logs.{stamp_of};
 ghost use Rattle.change_list.specs.declared.log.TheConstants.{MAX_STAMP};
 ghost use Rattle.list_shelf.specs.Lagging.{seen_by};
-ghost use Rattle.list_shelf.specs.Shelves.{empty_shelf, has_row, has_room, row_of, brought_up, with_sels, with_main, listed, unlisted, with_corner, entered, room_made, noted, all_noted, all_moved, trimmed_shelf, CanStand, CanFollow};
+ghost use Rattle.list_shelf.specs.Shelves.{empty_shelf, has_row, has_room, row_of, brought_up, with_sels, with_lag_of, with_main, listed, unlisted, with_corner, entered, begun_again, room_made, with_shift, noted, all_noted, all_moved, trimmed_shelf, trimmed_before, CanStand, CanFollow};
 
 use crate::holder::Holder;
 use crate::lag::{Lag, copy_up};
@@ -94,11 +94,12 @@ impl Shelf {
     }
 
     /// A copy of a holder's list as it is when it has gone through the changes that it missed; the list itself is left where it
-    /// stands.
+    /// stands. Takes no memory for at most four selections.
     pub fn copy_of(&self, alloc: Global, holder: Holder) -> Result<Sels, AllocError>
         requires list { has_row holder self.now ≡ true }
         requires can { CanStand self.now }
-        ensures { IfOk result (λ sels. sels ≡ seen_by self.now.log (row_of holder self.now).lag) }
+        ensures ok { IfOk result (λ sels. sels ≡ seen_by self.now.log (row_of holder self.now).lag) }
+        ensures few { length (row_of holder self.now).lag.sels.list ≤ 4 → IsOk result }
     {
         let row = &self.rows[place(self.rows.as_slice(), holder)];
         copy_up(&row.lag, alloc, &self.log)
@@ -127,6 +128,17 @@ impl Shelf {
         let at = place(self.rows.as_slice(), holder);
         let row = &mut self.rows[at];
         row.lag = Lag { stamp: now, sels };
+    }
+
+    /// Exchanges a holder's list for another one, which stands at a stamp of its own.
+    pub fn swap_lag(&mut self, holder: Holder, lag: &mut Lag)
+        requires { has_row holder self.old ≡ true }
+        ensures shelf { self.new ≡ with_lag_of holder lag.old self.old }
+        ensures lag { lag.new ≡ (row_of holder self.old).lag }
+    {
+        let at = place(self.rows.as_slice(), holder);
+        let row = &mut self.rows[at];
+        std::mem::swap(&mut row.lag, lag);
     }
 
     /// Makes the n-th selection of a holder's list the main one, where the list is up to date.
@@ -207,6 +219,25 @@ impl Shelf {
         bring_up(&mut self.rows, &self.log, holder);
     }
 
+    /// Brings all lists up to date, and lets the log begin again. Takes no memory.
+    pub fn begin_again(&mut self)
+        requires { CanStand self.old }
+        ensures again { self.new ≡ begun_again self.old }
+        ensures room { stamp_of self.new.log < self.new.limit }
+    {
+        renew_all(&mut self.rows, &self.log);
+        self.log.restart();
+    }
+
+    /// Notes a shift, where the log has room for it. An `Err` leaves the shelf.
+    pub fn push(&mut self, shift: Shift) -> Result<(), AllocError>
+        requires { stamp_of self.old.log < self.old.limit }
+        ensures ok { OnOk result (self.new ≡ with_shift shift self.old) }
+        ensures err { OnErr result (self.new ≡ self.old) }
+    {
+        self.log.push(shift)
+    }
+
     // Makes room for one shift more: where the log stands at its limit, all lists are brought up to date, and it begins again.
     fn make_room(&mut self)
         requires { CanStand self.old }
@@ -233,8 +264,8 @@ impl Shelf {
         Ok(())
     }
 
-    // Brings all lists up to date and through further shifts; the log begins again.
-    fn move_through(&mut self, shifts: &[Shift])
+    /// Brings all lists up to date and through further shifts, and lets the log begin again. Takes no memory.
+    pub fn move_through(&mut self, shifts: &[Shift])
         requires { CanFollow self.old shifts.now }
         ensures { self.new ≡ all_moved shifts.now self.old }
     {
@@ -266,6 +297,17 @@ impl Shelf {
     {
         let to = least(self.rows.as_slice(), self.log.stamp());
         self.log.trim(to);
+    }
+
+    /// Drops the shifts before a stamp that no list has yet to go through. Takes no memory.
+    pub fn trim_before(&mut self, stamp: u64)
+        requires can { CanStand self.old }
+        requires first { self.old.log.first ≤ stamp }
+        requires last { stamp ≤ stamp_of self.old.log }
+        ensures { self.new ≡ trimmed_before stamp self.old }
+    {
+        let from = least(self.rows.as_slice(), stamp);
+        self.log.trim(from);
     }
 
     /// Brings a holder's list up to date, where it has one, and drops the shifts that no list has yet to go through then; all

@@ -1,0 +1,17 @@
+pub mod EachLemmas
+pub mod OwnLemmas
+pub mod FollowLemmas
+pub mod LimitLemmas
+pub mod AlikeLemmas
+pub mod StayLemmas
+pub mod KeepLemmas
+pub mod CodeLemmas
+pub mod BackLemmas
+pub mod TrimLemmas
+pub mod NoteLemmas
+pub mod CountLemmas
+pub mod StepLemmas
+pub mod PlaceLemmas
+pub mod OthersLemmas
+pub mod UndoLemmas
+pub mod ForwardLemmas
