@@ -1,5 +1,5 @@
 -- Which hooks are found, one hook on, and of hooks of which some were removed.
-use Rattle.std.proofs.Common.{◌≡◌, ℕ, ◌+◌, ◌<◌, ◌&&◌, Bool, true, false, not, cond, List, [], ◌∷◌, ◌++◌, length, map, drop, get_or, append_assoc, Some, None, refl, ap, sym, ◌∙◌}
+use Rattle.std.proofs.Common.{◌≡◌, ℕ, ◌+◌, ◌<◌, ◌&&◌, ◌||◌, Bool, true, false, not, cond, List, [], ◌∷◌, ◌++◌, length, map, drop, get_or, append_assoc, Some, None, refl, ap, sym, ◌∙◌}
 use Rattle.std.specs.Prelude.{find, filter, option_map}
 use Rattle.std.proofs.lemmas.List.{drop_more}
 use Rattle.std.proofs.lemmas.Bool.{false≢true}
@@ -8,7 +8,10 @@ use Rattle.scope_options.specs.declared.scope.Scope.{Scope}
 use Rattle.scope_options.specs.Scopes.{is_same_scope}
 use Rattle.scope_tables.specs.declared.hooks.HookRef.{HookRef}
 use Rattle.scope_tables.specs.declared.names.HookName.{HookName}
-use Rattle.scope_tables.specs.Hooks.{NumberedHook, ref_of, is_heard, heard_at, is_ref, hook_at, without_hook}
+use Rattle.scope_options.specs.declared.scope.Scope.TheVariants.{Global, Buffer, Window}
+use Rattle.scope_tables.specs.Names.{is_same_name}
+use Rattle.scope_tables.specs.Whole.{is_whole}
+use Rattle.scope_tables.specs.Hooks.{NumberedHook, ref_of, is_heard, heard_at, hooks_for, is_ref, hook_at, without_hook, is_awaited}
 
 find-without : {A : Type 0} (p : A → Bool) (xs : List A) → find p (filter (λ x. not (p x)) xs) ≡ None
 find-without p [] = refl
@@ -58,3 +61,29 @@ heard-more name parameter scope hooks i h b inside at is holds found now pushed 
     let rest : List HookRef = heard_at name parameter (drop (i + 1) hooks) scope in
     ap (λ rs. rs ++ rest) pushed ∙ append_assoc found (ref_of h ∷ []) rest
     ∙ ap (λ rs. found ++ rs) (sym (heard-drop name parameter scope hooks i h b inside at is ∙ ap (λ t. cond t (ref_of h ∷ rest) rest) holds))
+
+or-first : (a b : Bool) → (a || b) ≡ false → a ≡ false
+or-first true b e = absurd (false≢true (sym e))
+or-first false b e = refl
+
+or-second : (a b : Bool) → (a || b) ≡ false → b ≡ false
+or-second true b e = absurd (false≢true (sym e))
+or-second false b e = e
+
+middle-fails : (a b c : Bool) → b ≡ false → (a && (b && c)) ≡ false
+middle-fails true b c e = ap (λ t. t && c) e
+middle-fails false b c e = refl
+
+heard-none : (name : HookName) (parameter : List ℕ) (scope : Scope) (hooks : List NumberedHook) → is_awaited name hooks ≡ false → heard_at name parameter hooks scope ≡ []
+heard-none name parameter scope [] e = refl
+heard-none name parameter scope (h ∷ hs) e =
+    let rest : List NumberedHook = filter (λ k. is_same_scope k.scope scope && is_heard name parameter k.hook) hs in
+    ap (λ t. map ref_of (cond t (h ∷ rest) rest)) (middle-fails (is_same_scope h.scope scope) (is_same_name h.hook.name name) (is_whole h.hook.pattern parameter) (or-first _ _ e))
+    ∙ heard-none name parameter scope hs (or-second (is_same_name h.hook.name name) _ e)
+
+-- an event of a name that no hook has is heard by none
+pub unawaited : (buffer client : ℕ) (name : HookName) (parameter : List ℕ) (hooks : List NumberedHook) → is_awaited name hooks ≡ false → hooks_for buffer client name parameter hooks ≡ []
+unawaited buffer client name parameter hooks e =
+    ap (λ fs. fs ++ heard_at name parameter hooks (Buffer buffer) ++ heard_at name parameter hooks (Window client buffer)) (heard-none name parameter Global hooks e)
+    ∙ ap (λ fs. fs ++ heard_at name parameter hooks (Window client buffer)) (heard-none name parameter (Buffer buffer) hooks e)
+    ∙ heard-none name parameter (Window client buffer) hooks e

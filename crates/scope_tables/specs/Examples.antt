@@ -14,7 +14,7 @@ use Rattle.scope_tables.specs.declared.names.HookName.TheVariants.{NormalKey, In
 use Rattle.scope_tables.specs.Names.{hook_named}
 use Rattle.scope_tables.specs.Whole.{is_whole}
 use Rattle.scope_tables.specs.Keys.{is_same_key}
-use Rattle.scope_tables.specs.Hooks.{Hook, NumberedHook, ref_of, is_scope_full, hooks_for, hook_at, without_hook, without_group, is_awaited}
+use Rattle.scope_tables.specs.Hooks.{Hook, NumberedHook, ref_of, is_scope_full, hooks_for, hook_at, without_hook, without_once, without_group, is_awaited}
 use Rattle.scope_tables.specs.Maps.{key_map, keys_for, with_map, without_map}
 use Rattle.scope_tables.specs.Aliases.{alias_row, command_for, with_alias, without_alias}
 use Rattle.scope_tables.specs.Definitions.{definition, definition_of, with_definition, is_allowed}
@@ -73,6 +73,9 @@ pub record HookExamples : Type 0 where
   -- a hook that was removed isn't run, and its number isn't given again
   pub removed : hooks_for 9 0 NormalKey (codes "l") (without_hook (ref Global 3) five.hooks) ≡ ref Global 4 ∷ []
   pub number_is_new : map ref_of (with_hook Global (on NormalKey (codes "l") []) (record five { hooks = without_hook (ref Global 4) five.hooks })).hooks ≡ ref (Window 0 3) 0 ∷ ref (Buffer 3) 1 ∷ ref (Buffer 4) 2 ∷ ref Global 3 ∷ ref Global 5 ∷ []
+  -- a hook that is run once goes when it begins, and no other one does
+  pub once_goes : map ref_of (without_once (ref Global 0) (with_hook Global (record (on NormalKey (codes "l") []) { once = true }) no_table_rows).hooks) ≡ []
+  pub others_stay : map ref_of (without_once (ref Global 3) five.hooks) ≡ map ref_of five.hooks
 
 -- names, limits, maps, aliases and definitions, and what goes with a client and a buffer
 pub record WorkedExamples : Type 0 where

@@ -65,6 +65,10 @@ hook_at at held = option_map (λ h. h.hook) (find (is_ref at) held)
 abbrev pub without_hook : HookRef → List NumberedHook → List NumberedHook
 without_hook at held = filter (λ h. not (is_ref at h)) held
 
+-- without it where it is run once
+abbrev pub without_once : HookRef → List NumberedHook → List NumberedHook
+without_once at held = filter (λ h. not (is_ref at h && h.hook.once)) held
+
 -- whether a hook that is held is of a group at a scope
 abbrev pub is_grouped : Scope → List ℕ → NumberedHook → Bool
 is_grouped scope group h = is_same_scope h.scope scope && bytes_eq h.hook.group group

@@ -1,5 +1,5 @@
 -- What holds of names, keys, hooks and rows, proved as contracts of functions of `laws`.
-use Rattle.std.specs.Prelude.{◌≡◌, ℕ, List, true, false, Some, None}
+use Rattle.std.specs.Prelude.{◌≡◌, ℕ, List, [], true, false, Some, None}
 use Rattle.key_names.specs.declared.key.Key.{Key}
 use Rattle.scope_options.specs.declared.scope.Scope.{Scope}
 use Rattle.scope_tables.specs.declared.definitions.ParameterCount.{ParameterCount}
@@ -11,7 +11,7 @@ use Rattle.scope_tables.specs.declared.maps.Mode.{Mode}
 use Rattle.scope_tables.specs.declared.names.HookName.{HookName}
 use Rattle.scope_tables.specs.Names.{name_text, hook_named, is_same_name}
 use Rattle.scope_tables.specs.Keys.{is_same_key}
-use Rattle.scope_tables.specs.Hooks.{NumberedHook, hook_at, without_hook, is_ref}
+use Rattle.scope_tables.specs.Hooks.{NumberedHook, hooks_for, hook_at, without_hook, is_ref, is_awaited}
 use Rattle.scope_tables.specs.Maps.{is_map, key_map, keys_at, with_map}
 use Rattle.scope_tables.specs.Aliases.{is_alias, alias_row, command_at, with_alias}
 use Rattle.scope_tables.specs.Definitions.{is_definition_of, definition, definition_of, with_definition}
@@ -31,6 +31,8 @@ pub record KeyLaws : Type 0 where
 pub record HookLaws : Type 0 where
   -- a hook that was removed isn't found
   pub removed : (at : HookRef) (held : List NumberedHook) → hook_at at (without_hook at held) ≡ None
+  -- an event of a name that no hook has is heard by none
+  pub unheard : (buffer client : ℕ) (name : HookName) (parameter : List ℕ) (held : List NumberedHook) → is_awaited name held ≡ false → hooks_for buffer client name parameter held ≡ []
   -- every other one is found as before
   pub others : (at other : HookRef) (held : List NumberedHook) → ((h : NumberedHook) → is_ref other h ≡ true → is_ref at h ≡ false) → hook_at other (without_hook at held) ≡ hook_at other held
 

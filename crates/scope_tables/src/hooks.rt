@@ -85,6 +85,14 @@ pub(crate) fn is_ref<P: Pattern>(held: &HeldHook<P>, at: HookRef) -> bool
     is_same_scope(held.scope, at.scope) && held.number == at.number
 }
 
+/// Whether a hook is the one of a scope and a number, and is run once.
+pub(crate) fn is_once<P: Pattern>(held: &HeldHook<P>, at: HookRef) -> bool
+    ensures { result ≡ (is_ref at held.now && held.now.hook.once) }
+{
+    let row = &held.row;
+    is_ref(held, at) && row.once
+}
+
 /// Whether a hook is of a group at a scope.
 pub(crate) fn is_grouped<P: Pattern>(held: &HeldHook<P>, scope: Scope, group: &str) -> bool
     ensures { result ≡ is_grouped scope group.now held.now }

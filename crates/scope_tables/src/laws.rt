@@ -13,7 +13,7 @@ pub fn keys_are_apart()
     ensures { KeyLaws }
 {}
 
-/// A hook that was removed isn't found, and every other one is.
+/// A hook that was removed isn't found, and every other one is; an event of a name that no hook has is heard by none.
 pub fn hooks_are_found()
     ensures { HookLaws }
 {}

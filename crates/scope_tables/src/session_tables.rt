@@ -4,7 +4,7 @@ ghost use Rattle.std.specs.Prelude.{◌≡◌, true, false, IfOk, IfErr, OnOk, O
 ghost use Rattle.std.specs.Option.{option_copied};
 ghost use Rattle.scope_options.specs.Scopes.{is_same_scope, is_of_client, is_of_buffer};
 ghost use Rattle.scope_tables.specs.declared.session_tables.TableError.TheVariants.{NoMemory};
-ghost use Rattle.scope_tables.specs.Hooks.{is_scope_full, hooks_for, hook_at, without_hook, without_group, is_any, is_awaited};
+ghost use Rattle.scope_tables.specs.Hooks.{is_scope_full, hooks_for, hook_at, without_hook, without_once, without_group, is_any, is_awaited};
 ghost use Rattle.scope_tables.specs.Maps.{keys_for, with_map, without_map};
 ghost use Rattle.scope_tables.specs.Aliases.{command_for, with_alias, without_alias};
 ghost use Rattle.scope_tables.specs.Definitions.{definition_of, with_definition};
@@ -16,7 +16,7 @@ use crate::aliases::{Alias, alias_place, command_at, is_alias};
 use crate::definitions::{Definition, ParameterCount, definition_of, definition_place};
 use crate::hooks::{
     HeldHook, HookRef, HookRow, MAX_SCOPE_HOOKS, count_at, hear, hook_at, is_awaited, is_grouped,
-    is_ref,
+    is_once, is_ref,
 };
 use crate::maps::{KeyMap, Mode, is_map, keys_at, map_place};
 use crate::names::HookName;
@@ -154,6 +154,13 @@ impl<P: Pattern> Tables<P> {
         ensures { self.new ≡ record self.old { hooks = without_hook at self.old.hooks } }
     {
         self.hooks.retain(|held| !is_ref(held, at));
+    }
+
+    /// Removes the hook of a scope and a number where it is run once, as it is when it begins.
+    pub fn drop_once(&mut self, at: HookRef)
+        ensures { self.new ≡ record self.old { hooks = without_once at self.old.hooks } }
+    {
+        self.hooks.retain(|held| !is_once(held, at));
     }
 
     /// Removes all rows of a scope. Defined commands have none.

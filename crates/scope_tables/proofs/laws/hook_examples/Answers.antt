@@ -16,4 +16,6 @@ returns c = record {
   other_name = refl;
   removed = refl;
   number_is_new = refl;
+  once_goes = refl;
+  others_stay = refl;
 }

@@ -1,5 +1,5 @@
-use Rattle.scope_tables.proofs.HookLemmas.{hook-removed, hook-others}
+use Rattle.scope_tables.proofs.HookLemmas.{hook-removed, hook-others, unawaited}
 use Rattle.scope_tables.proofs.laws.hooks_are_found.Goals as goal
 
 pub returns : goal.returns
-returns c = record { removed = hook-removed; others = hook-others }
+returns c = record { removed = hook-removed; unheard = unawaited; others = hook-others }
