@@ -1,8 +1,9 @@
 -- A buffer that is dropped, in the slots.
-use Rattle.std.proofs.Common.{◌≡◌, ◌≢◌, ℕ, zero, suc, ◌+◌, ◌<◌, ◌≤◌, true, false, cond, ◌||◌, List, [], ◌∷◌, length, map, get_or, set, drop, refl, sym, ap, subst, ◌∙◌, arith, None, Some}
+use Rattle.std.proofs.Common.{◌≡◌, ◌≢◌, ℕ, zero, suc, ◌+◌, ◌<◌, ◌≤◌, true, false, not, cond, ◌||◌, List, [], ◌∷◌, length, map, get_or, set, drop, refl, sym, ap, subst, ◌∙◌, arith, None, Some, nat_le}
 use Rattle.std.specs.Prelude.{is_some, option_map}
 use Rattle.std.specs.List.{list_any}
 use Rattle.std.specs.declared.option.Option.{Option}
+use Rattle.std.proofs.lemmas.Bool.{leb-true, leb-false}
 use Rattle.tables.proofs.TableLemmas.{by_test}
 use Rattle.scope_options.specs.declared.setting.Setting.{Setting}
 use Rattle.scope_options.specs.Scopes.{is_of_buffer}
@@ -72,6 +73,13 @@ none-any : (bs : List (Option Buffer)) → length bs ≤ lowest bs → list_any 
 none-any [] h = refl
 none-any (Some b ∷ bs) h = absurd (omega arith)
 none-any (None ∷ bs) h = none-any bs (omega arith)
+
+-- whether no other buffer is there, by the least number
+pub only-by : (n size to : ℕ) (bs : List (Option Buffer)) → size ≡ length bs → to ≡ lowest (emptied n bs) → nat_le size to ≡ not (list_any is_some (emptied n bs))
+only-by n size to bs s e =
+    by_test (λ t. t ≡ not (list_any is_some (emptied n bs))) (nat_le size to)
+    (λ q. sym (ap not (none-any (emptied n bs) (omega (arith, length-emptied n bs, s, e, leb-true size to q)))))
+    (λ q. sym (ap not (some-any (emptied n bs) (omega (arith, length-emptied n bs, s, e, leb-false size to q)))))
 
 any-lowest : (bs : List (Option Buffer)) → list_any is_some bs ≡ true → is_there (lowest bs) bs ≡ true
 any-lowest [] h = absurd (let no : false ≡ true = h in cc)

@@ -23,3 +23,4 @@ pub mod StayingLemmas
 pub mod ViewerLemmas
 pub mod JoinedLemmas
 pub mod ShownLaws
+pub mod EventLaws

@@ -1,7 +1,7 @@
 -- The status texts of commands that were refused.
 use Rattle.std.specs.Prelude.{ℕ, List, ◌++◌, codes, chars, decimal}
 use Rattle.kak_world.specs.declared.command_error.CommandError.{CommandError}
-use Rattle.kak_world.specs.declared.command_error.CommandError.TheVariants.{Unclosed, UnknownExpansion, NoSuchCommand, WrongArgumentCount, UnknownSwitch, BadValue, BadSelection, NoSuchRegister, NoSuchOption, NoSuchScope, OptionExists, NoSuchBuffer, TooManyBuffers, ModifiedRemain, FileFault, NotUtf8, NoSuchFace, FaceCycle, BadFace, NoSuchHighlighter, HighlighterExists, BadKey, NoSuchMode, Failed}
+use Rattle.kak_world.specs.declared.command_error.CommandError.TheVariants.{Unclosed, UnknownExpansion, NoSuchCommand, WrongArgumentCount, UnknownSwitch, BadValue, BadSelection, NoSuchRegister, NoSuchOption, NoSuchScope, OptionExists, NoSuchBuffer, TooManyBuffers, ModifiedRemain, FileFault, NotUtf8, NoSuchFace, FaceCycle, BadFace, NoSuchHighlighter, HighlighterExists, BadKey, NoSuchMode, NoSuchHook, TooManyHooks, Failed}
 
 abbrev pub command_text : CommandError → List ℕ
 command_text (Unclosed at) = codes "unclosed at " ++ decimal at
@@ -27,4 +27,6 @@ command_text (NoSuchHighlighter word) = codes "no such highlighter: " ++ chars w
 command_text (HighlighterExists word) = codes "highlighter exists: " ++ chars word
 command_text (BadKey at) = codes "bad key at " ++ decimal at
 command_text (NoSuchMode word) = codes "no such mode: " ++ chars word
+command_text (NoSuchHook word) = codes "no such hook: " ++ chars word
+command_text TooManyHooks = codes "too many hooks"
 command_text (Failed word) = chars word

@@ -87,9 +87,10 @@ first_own = record { mode = Normal; count = 0; register = None; pending = None; 
 abbrev pub newcomer : ℕ → ℕ → ℕ → Client
 newcomer who number shown = record { who = who; number = number; shown = shown; own = first_own }
 
--- no step is under way: it is nobody's turn, no unit is left, and no defined command runs
+-- no step is under way: it is nobody's turn, no unit is left, neither a defined command nor a hook runs, no hooks are to be run, and
+-- none failed
 abbrev pub between_steps : Stepping
-between_steps = record { units = 0; turn = None; arguments = None }
+between_steps = record { units = 0; turn = None; arguments = None; parameter = None; due = []; faults = 0 }
 
 -- what is no buffer's and no client's before anything happened: no register was set, and the options and the faces are those
 -- that are given
@@ -353,7 +354,7 @@ with_units units flat = with_rest (λ r. record r { step = record r.step { units
 abbrev pub takes_turn : ℕ → Flat → Flat
 takes_turn who flat = with_rest (λ r. record r { step = record r.step { turn = Some who } }) flat
 
--- the world when a step is over: it is nobody's turn, and no unit is left
+-- the world when a step is over: it is nobody's turn, no unit is left, and what was to be run still isn't
 abbrev pub step_ended : Flat → Flat
 step_ended flat = with_rest (λ r. record r { step = between_steps }) flat
 

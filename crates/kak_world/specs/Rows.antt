@@ -1,11 +1,12 @@
 -- What a row, which is one key or one command, gives: the new world, and what comes next.
-use Rattle.std.specs.Prelude.{◌≡◌, ℕ, List, [], ◌∷◌, ◌++◌, codes, IfSome}
+use Rattle.std.specs.Prelude.{◌≡◌, ℕ, suc, Bool, if◌then◌else◌, List, [], ◌∷◌, ◌++◌, codes, IfSome}
 use Rattle.std.specs.declared.option.Option.{Option}
 use Rattle.std.specs.Prelude.{Some, None}
 use Rattle.std.specs.declared.result.Result.{Result}
 use Rattle.std.specs.Prelude.{Ok, Err}
 use Rattle.kak_world.specs.declared.ask.Ask.{Ask}
-use Rattle.kak_world.specs.declared.ask.Ask.TheVariants.{Nothing, Make, Read, Write}
+use Rattle.kak_world.specs.declared.ask.Ask.TheVariants.{Nothing, Make, Read, Write, Then}
+use Rattle.kak_world.specs.declared.ask.Later.TheVariants as later
 use Rattle.kak_world.specs.declared.ask.EditError.{EditError}
 use Rattle.kak_world.specs.declared.ask.EditError.TheVariants.{TextFull, UndoFull, NothingToUndo, NothingToRedo, NoSuchNode, NoSuchRegister, ReadOnlyRegister, RegisterFull, SharedLine, Command, BadPattern, NothingSelected, TooManySelections, BudgetSpent, NoMemory}
 use Rattle.kak_world.specs.CommandErrors.{command_text}
@@ -22,11 +23,18 @@ pub record RowEnd : Type 0 where
   pub world : Flat
   pub row : Row
 
--- how many more rows may come behind a row without a unit being taken: one that goes on with what the outside answered
+-- how many more rows may come behind a write without a unit being taken: one that notes it, and one by which the client may leave
+abbrev pub stages_of_write : Bool → ℕ
+stages_of_write quits = if quits then 2 else 1
+
+-- and behind any row: those that go on with what the outside answered, and behind the hooks of what was done
 abbrev pub stages_of : Row → ℕ
 stages_of (Asks (Make wanted)) = 1
 stages_of (Asks (Read name)) = 1
-stages_of (Asks (Write saving)) = 1
+stages_of (Asks (Write saving)) = stages_of_write saving.quits
+stages_of (Asks (Then (later.Write saving))) = suc (stages_of_write saving.quits)
+stages_of (Asks (Then later.Quit)) = 1
+stages_of (Asks (Then (later.Drop dropping))) = 1
 stages_of _ = 0
 
 -- a row that did something, and asks for nothing more

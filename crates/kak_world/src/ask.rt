@@ -60,8 +60,21 @@ pub enum Ask {
     Read(Utf8Text),
     /// Write the text of a buffer to a file.
     Write(Saving),
+    /// Go on, once the hooks were run of what was done.
+    Then(Later),
     /// Let the client leave.
     Leave,
+}
+
+/// What a row goes on with, once the hooks were run of what it did.
+#[derive(Drop, Debug)]
+pub enum Later {
+    /// The text of a buffer is written to a file.
+    Write(Saving),
+    /// The client leaves, unless something would be lost.
+    Quit,
+    /// A buffer is dropped.
+    Drop(Dropping),
 }
 
 /// A buffer whose text is to be written to a file.
@@ -69,10 +82,19 @@ pub enum Ask {
 pub struct Saving {
     /// The file's name.
     pub file: Utf8Text,
-    /// The buffer's number.
+    /// The buffer's number, and its name as it was.
     pub buffer: u32,
+    pub name: Utf8Text,
     /// Whether the client is to leave behind it.
     pub quits: bool,
+}
+
+/// A buffer that is to be dropped.
+#[derive(Drop, Debug)]
+pub struct Dropping {
+    /// Its number, and its name as it was.
+    pub buffer: u32,
+    pub name: Utf8Text,
 }
 
 /// Why a key or a command was refused. Its status text is what the user is told.

@@ -59,6 +59,10 @@ const BAD_KEY_AT: &str = "bad key at ";
 
 const NO_SUCH_MODE: &str = "no such mode: ";
 
+const NO_SUCH_HOOK: &str = "no such hook: ";
+
+const TOO_MANY_HOOKS: &str = "too many hooks";
+
 /// Why a command was refused. Its status text is what the user is told.
 #[derive(Drop, Debug, Error)]
 pub enum CommandError {
@@ -131,6 +135,12 @@ pub enum CommandError {
     /// There is no mode of this name.
     #[error("{text}{0}", text = NO_SUCH_MODE)]
     NoSuchMode(Utf8Text),
+    /// There is no hook of this name.
+    #[error("{text}{0}", text = NO_SUCH_HOOK)]
+    NoSuchHook(Utf8Text),
+    /// The scope has as many hooks as it may have.
+    #[error("{text}", text = TOO_MANY_HOOKS)]
+    TooManyHooks,
     /// It was to fail, with this text.
     #[error("{0}")]
     Failed(Utf8Text),
@@ -204,6 +214,8 @@ impl CommandError {
             CommandError::HighlighterExists(word) => with_word(alloc, HIGHLIGHTER_EXISTS, word),
             CommandError::BadKey(at) => with_number(alloc, BAD_KEY_AT, *at),
             CommandError::NoSuchMode(word) => with_word(alloc, NO_SUCH_MODE, word),
+            CommandError::NoSuchHook(word) => with_word(alloc, NO_SUCH_HOOK, word),
+            CommandError::TooManyHooks => Chars::from_str(alloc, TOO_MANY_HOOKS),
             CommandError::Failed(word) => Chars::from_str(alloc, word.as_str()),
         }
     }

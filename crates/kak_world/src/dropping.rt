@@ -1,6 +1,7 @@
 //! Buffers that are dropped, with all lists on them.
 
-ghost use Rattle.std.specs.Prelude.{◌≡◌, ◌≤◌, true, length, option_map, IfOk, OnOk, OnErr};
+ghost use Rattle.std.specs.Prelude.{◌≡◌, ◌≤◌, true, not, is_some, length, option_map, IfOk, OnOk, OnErr};
+ghost use Rattle.std.specs.List.{list_any};
 ghost use Rattle.kak_world.specs.Flat.{is_there, lowest, scratch};
 ghost use Rattle.list_shelf.specs.declared.holder.Holder.{Holder};
 ghost use Rattle.kak_world.specs.Seen.{slot_seen, all_seen, SlotLeaves, AllLeave};
@@ -101,6 +102,13 @@ fn drop_at(
 }
 
 impl<P: Pattern, T: Turn> World<P, T> {
+    /// Whether the buffer of a number is the only one.
+    pub fn is_only(&self, n: u32) -> bool
+        ensures { result ≡ not (list_any is_some (emptied n self.now.flat.buffers)) }
+    {
+        lowest_other(self.buffers.as_slice(), n as usize) >= self.buffers.len()
+    }
+
     /// Drops a buffer, with all lists on it and what is kept of it and of the windows on it: clients that saw it see the buffer
     /// with the least number then, with the list that they have there or the one to begin with. Where no buffer is left, a new
     /// `*scratch*` is made, which takes the number 0. An `Err` leaves the world.

@@ -8,6 +8,7 @@ ghost use Rattle.kak_world.specs.ScopedExamples.{ScopedExamples};
 ghost use Rattle.kak_world.specs.ShowingExamples.{ShowingExamples};
 ghost use Rattle.kak_world.specs.WindowExamples.{WindowExamples};
 ghost use Rattle.kak_world.specs.StoredExamples.{StoredExamples};
+ghost use Rattle.kak_world.specs.EventExamples.{EventExamples};
 ghost use Rattle.std.specs.Prelude.{◌≡◌};
 
 use crate::options::MAX_INDENT;
@@ -65,4 +66,10 @@ pub fn scoped_examples()
 /// Worked examples of what a step leaves as it is stored: what others have, with exactly the exceptions that are meant.
 pub fn stored_examples()
     ensures { StoredExamples }
+{}
+
+/// Worked examples of events that are due, of hooks that begin, and of errors that are told.
+#[tactic(auto, unfolding(crate::specs::Flat::client_of, crate::specs::Flat::shown_of, crate::specs::Flat::rest_of, crate::specs::Flat::scoped_of, crate::specs::Flat::buffer_of, crate::specs::Flat::own_of, crate::specs::Flat::name_of, crate::specs::Flat::number_of, crate::specs::Flat::with_own, crate::specs::Flat::with_rest, crate::specs::Flat::with_scoped, crate::specs::Flat::joined_by))]
+pub fn event_examples()
+    ensures { EventExamples }
 {}

@@ -15,6 +15,8 @@ pub struct Macro {
 #[derive(Drop, Debug)]
 pub struct PlayKeys {
     pub keys: Keys,
+    /// Whether hooks are run of what the keys do.
+    pub hooks: bool,
     /// Whether a key that is mapped to others stands for these.
     pub maps: bool,
     /// The macro that is run once more behind them, where they are a macro's.

@@ -5,6 +5,7 @@ use directions::Direction;
 use highlight_paint::GroupFace;
 use kak_text::Chars;
 use scope_options::Scope;
+use scope_tables::HookName;
 use sequences::Seq;
 
 /// What is done with the matches of a pattern.
@@ -40,6 +41,19 @@ pub struct NewHighlighter {
     pub replace: bool,
 }
 
+/// A hook that waits for its pattern.
+#[derive(Drop, Debug)]
+pub struct NewHook {
+    pub scope: Scope,
+    pub name: HookName,
+    /// The group by which it may be removed; empty where it was given none.
+    pub group: Utf8Text,
+    /// Whether it is removed before it is run.
+    pub once: bool,
+    /// What it runs.
+    pub commands: Utf8Text,
+}
+
 /// What a pattern is made for.
 #[derive(Drop, Debug)]
 pub enum Wanted {
@@ -47,6 +61,8 @@ pub enum Wanted {
     Selects(Use),
     /// A highlighter is added.
     Paints(NewHighlighter),
+    /// A hook is added.
+    Hooks(NewHook),
 }
 
 /// A pattern that is to be made of a text, and what it is made for.

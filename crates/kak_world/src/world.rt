@@ -11,9 +11,10 @@ ghost use Rattle.change_list.specs.declared.log.TheConstants.{MAX_STAMP};
 
 use crate::buffer::WorldBuffer;
 use crate::clients::Clients;
+use crate::events::Events;
 use crate::turn::{AnyTurn, Turn};
 use crate::turning::bring_turn_up;
-use byte_texts::Words;
+use byte_texts::{Utf8Text, Words};
 use face_texts::FaceTable;
 use highlight_paint::Highlighters;
 use kak_registers::Registers;
@@ -37,6 +38,12 @@ pub struct Stepping {
     pub turn: Option<u32>,
     /// The words that the innermost defined command was given, where one runs.
     pub arguments: Option<Words>,
+    /// The parameter of the innermost hook that runs, where one does.
+    pub parameter: Option<Utf8Text>,
+    /// The events whose hooks are still to be run, in order.
+    pub due: Events,
+    /// How many errors of hooks were told in it.
+    pub faults: u64,
 }
 
 /// What is no buffer's and no client's.
@@ -89,14 +96,29 @@ impl<P: Pattern, T: Turn> Model for World<P, T> {
 }
 
 // No step is under way.
-fn between_steps() -> Stepping
+fn between_steps(alloc: Global) -> Stepping
     ensures { result ≡ between_steps }
 {
     Stepping {
         units: 0,
         turn: None,
         arguments: None,
+        parameter: None,
+        due: Events::new(alloc),
+        faults: 0,
     }
+}
+
+// A step is over. The room for events stays.
+fn end(step: &mut Stepping)
+    ensures { step.new ≡ between_steps }
+{
+    step.units = 0;
+    step.turn = None;
+    step.arguments = None;
+    step.parameter = None;
+    step.due.clear();
+    step.faults = 0;
 }
 
 /// The buffer that is there when nothing else is.
@@ -140,7 +162,7 @@ impl<P: Pattern> World<P, AnyTurn> {
             buffers,
             clients: Clients::new(alloc),
             rest: Rest {
-                step: between_steps(),
+                step: between_steps(alloc),
                 registers: Registers::new(alloc),
                 options: Options::new(alloc)?,
                 faces: FaceTable::given(alloc)?,
@@ -181,11 +203,11 @@ impl<P: Pattern, T: Turn> World<P, T> {
         bring_turn_up(&mut self.buffers, &self.clients, self.rest.step.turn);
     }
 
-    /// The step is over: it is nobody's turn, and no unit is left.
+    /// The step is over: it is nobody's turn, no unit is left, and what was to be run still isn't.
     pub fn end_step(&mut self)
         ensures { self.new.flat ≡ step_ended self.old.flat }
     {
-        self.rest.step = between_steps();
+        end(&mut self.rest.step);
     }
 
     /// How many keys and commands the step may still run.

@@ -8,4 +8,4 @@ pub copy_of-requires-clause-can : goal.copy_of-requires-clause-can
 copy_of-requires-clause-can c = can-stand _ _ c.self.invariant
 
 pub returns : goal.returns
-returns c = list-count c.args.holder _ _ _ _ _ _ _ c.self.view_is c.requires c.in_ok-sels.ensures c.len.ensures.value
+returns c = list-count c.args.holder _ _ _ _ _ _ _ c.self.view_is c.requires c.in_ok-sels.ensures.ok c.len.ensures.value

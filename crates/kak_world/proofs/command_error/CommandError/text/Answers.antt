@@ -92,3 +92,11 @@ returns-in-BadKey c = rw c.in-BadKey.is c.with_number-in-BadKey.ensures
 pub returns-in-NoSuchMode : goal.returns-in-NoSuchMode
 unfolding chars
 returns-in-NoSuchMode c = rw c.in-NoSuchMode.is c.with_word-in-NoSuchMode.ensures
+
+pub returns-in-NoSuchHook : goal.returns-in-NoSuchHook
+unfolding chars
+returns-in-NoSuchHook c = rw c.in-NoSuchHook.is c.with_word-in-NoSuchHook.ensures
+
+pub returns-in-TooManyHooks : goal.returns-in-TooManyHooks
+unfolding chars
+returns-in-TooManyHooks c = rw c.in-TooManyHooks.is c.from_str-in-TooManyHooks.ensures

@@ -4,4 +4,4 @@ use Rattle.kak_world.proofs.StandingLemmas.{stands-nobody}
 use Rattle.kak_world.proofs.world.World.end_step.Goals as goal
 
 pub invariant_of-self : goal.invariant_of-self
-invariant_of-self g c = stands-nobody _ _ _ _ _ (ap (λ (s : Stepping). s.turn) c.between_steps.ensures) c.self.invariant
+invariant_of-self g c = stands-nobody _ _ _ _ _ (ap (λ (s : Stepping). s.turn) c.end.ensures) c.self.invariant
