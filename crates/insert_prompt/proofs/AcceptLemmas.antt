@@ -1,25 +1,27 @@
 -- A prompt that is accepted: the register is set first, and the prompt is left then, which comes to the same.
 use Rattle.std.proofs.Common.{◌≡◌, ℕ, List, [], ◌∷◌, length, refl, sym, ap, ◌∙◌, arith}
-use Rattle.std.specs.Prelude.{encode_utf8_all, IfSome, Some, None}
+use Rattle.std.specs.Prelude.{IfSome, Some, None}
 use Rattle.std.specs.declared.option.Option.{Option}
-use Rattle.edit_line.specs.Halves.{whole}
 use Rattle.kak_registers.specs.declared.names.RegisterError.{RegisterError}
 use Rattle.kak_registers.specs.Refusals.{register_refusal}
 use Rattle.kak_world.specs.declared.ask.EditError.{EditError}
 use Rattle.kak_world.specs.declared.ask.EditError.TheVariants.{NoMemory, BudgetSpent}
 use Rattle.kak_world.specs.declared.world.Rest.{Rest}
-use Rattle.kak_world.specs.Flat.{Flat, acts, prompt_of, with_own, rest_of, with_rest}
+use Rattle.kak_world.specs.Flat.{Flat, acts, client_of, shown_of, with_own, rest_of, scoped_of, with_rest}
 use Rattle.kak_world.specs.Registers.{set_unless, set_row}
-use Rattle.kak_world.specs.Rows.{RowEnd, Asks, GivesUp, Fails, does, error_text, row_of}
+use Rattle.kak_world.specs.declared.ask.Ask.TheVariants.{Nothing}
+use Rattle.kak_world.specs.Rows.{Row, RowEnd, Asks, GivesUp, Fails, does, error_text, row_of}
 use Rattle.std.specs.Str.{chars}
 use Rattle.kak_registers.specs.Contents.{strings_of}
 use Rattle.kak_world.specs.declared.ask.Ask.{Ask}
 use Rattle.kak_world.specs.declared.purpose.Use.{Use}
-use Rattle.kak_world.proofs.WorldLaws.{rest_own}
+use Rattle.kak_world.specs.declared.own.Mode.TheVariants.{Prompt}
+use Rattle.kak_world.specs.Events.{mode_left}
+use Rattle.kak_world.proofs.WorldLaws.{rest_own, rest_rest}
 use Rattle.kak_world.proofs.KeepingLaws.{acts_kept, keeps_set_row}
 use Rattle.key_rows.specs.Patterns.{last_string, asks_for, asks_for_last}
 use Rattle.key_rows.specs.Sequence.{then_row}
-use Rattle.insert_prompt.specs.Rows.{leave_prompt, typed_kept, pattern_typed}
+use Rattle.insert_prompt.specs.Rows.{leave_prompt, typed_strings, typed_kept, pattern_typed}
 
 -- a row, in a world in which the prompt is left then
 abbrev left_behind : ℕ → RowEnd → RowEnd
@@ -27,16 +29,12 @@ left_behind who end = record { world = leave_prompt who end.world; row = end.row
 
 -- a register is set in a prompt that was left as it is before that
 set-left : (name : ℕ) (strings : List (List ℕ)) (who : ℕ) (flat : Flat) → set_row name strings (leave_prompt who flat) ≡ left_behind who (set_row name strings flat)
-unfolding set_row rest_of with_rest with_own
+unfolding set_row rest_of scoped_of with_rest with_own shown_of client_of
 set-left name strings who flat = by (register_refusal name strings)
   where
     by : (o : Option RegisterError) → set_unless o name strings (leave_prompt who flat) ≡ left_behind who (set_unless o name strings flat)
     by None = refl
     by (Some refusal) = refl
-
--- what a register is set to
-abbrev pub typed_strings : ℕ → Flat → List (List ℕ)
-typed_strings who flat = encode_utf8_all (whole (prompt_of who flat)) ∷ []
 
 kept-by : (name who : ℕ) (flat : Flat) (end : RowEnd) → set_row name (typed_strings who flat) flat ≡ end → typed_kept name who flat ≡ left_behind who end
 kept-by name who flat end e = set-left name (typed_strings who flat) who flat ∙ ap (left_behind who) e
@@ -63,7 +61,7 @@ pub nothing-typed : (typed : List ℕ) (wanted : Use) (who : ℕ) (flat new : Fl
     → pattern_typed typed wanted who flat ≡ record { world = new; row = Asks ask }
 nothing-typed (c ∷ cs) wanted who flat new ask e a n = absurd (omega (arith, e))
 nothing-typed [] wanted who flat new ask e a n =
-    ap (λ (r : Rest). asks_for (chars (last_string (strings_of 47 r.registers))) wanted (leave_prompt who flat)) (rest_own who _ flat)
+    ap (λ (r : Rest). asks_for (chars (last_string (strings_of 47 r.registers))) wanted (leave_prompt who flat)) (rest_own who _ (mode_left Prompt who flat) ∙ rest_rest _ flat)
     ∙ ap (λ r. let x : RowEnd = record { world = leave_prompt who flat; row = r } in x) (ap (λ (x : RowEnd). x.row) a)
     ∙ ap (λ (w : Flat). let x : RowEnd = record { world = w; row = Asks ask } in x) (sym n)
 
@@ -72,3 +70,14 @@ pub refused-acts : (error : EditError) (name : ℕ) (strings : List (List ℕ)) 
     → acts who mid ≡ acts who flat
 refused-acts NoMemory name strings who flat mid e w = ap (acts who) (w refl)
 refused-acts error name strings who flat mid e w = ap (λ (x : RowEnd). acts who x.world) (sym e) ∙ acts_kept who flat (set_row name strings flat).world (keeps_set_row name strings flat)
+
+refused-by : (o : Option RegisterError) (name : ℕ) (strings : List (List ℕ)) (flat mid : Flat) (row : Row) → (Asks Nothing ≡ row → ⊥) → set_unless o name strings flat ≡ record { world = mid; row = row } → mid ≡ flat
+refused-by None name strings flat mid row n e = absurd (n (ap (λ (x : RowEnd). x.row) e))
+refused-by (Some refusal) name strings flat mid row n e = sym (ap (λ (x : RowEnd). x.world) e)
+
+-- and the world is as before
+pub refused-same : (error : EditError) (name : ℕ) (strings : List (List ℕ)) (flat mid : Flat) → IfSome (row_of error) (λ row. set_row name strings flat ≡ record { world = mid; row = row }) → (error ≡ NoMemory → mid ≡ flat) → mid ≡ flat
+unfolding set_row
+refused-same NoMemory name strings flat mid e w = w refl
+refused-same BudgetSpent name strings flat mid e w = refused-by (register_refusal name strings) name strings flat mid GivesUp (λ n. cc) e
+refused-same error name strings flat mid e w = refused-by (register_refusal name strings) name strings flat mid (Fails (error_text error)) (λ n. cc) e

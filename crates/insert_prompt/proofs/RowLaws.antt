@@ -11,6 +11,8 @@ use Rattle.kak_world.specs.declared.purpose.Purpose.{Purpose}
 use Rattle.kak_world.specs.declared.purpose.Purpose.TheVariants.{Commands, Pattern}
 use Rattle.kak_world.specs.declared.purpose.Use.{Use}
 use Rattle.kak_world.specs.Flat.{Flat, pending_of, is_appending, purpose_of, prompt_of}
+use Rattle.kak_world.specs.declared.own.Mode.TheVariants.{Insert, Prompt}
+use Rattle.kak_world.specs.Events.{mode_left}
 use Rattle.kak_world.specs.Changing.{commits}
 use Rattle.kak_world.specs.Rows.{RowEnd, does}
 use Rattle.key_rows.specs.declared.each.Each.TheVariants as each
@@ -20,27 +22,32 @@ use Rattle.key_rows.specs.Naming.{register_named}
 use Rattle.key_rows.specs.Reading.{strings_read}
 use Rattle.key_rows.specs.Edits.{with_strings}
 use Rattle.key_rows.proofs.RowLaws.{HoldsOfChanges, holds_behind}
-use Rattle.insert_prompt.specs.Rows.{typed, taken_back, leave_insert, insert_base, awaiting, insert_control, insert_first, put_named, insert_pending, row_insert, leave_prompt, typed_kept, commands_accepted, pattern_typed, accepted_as, prompt_base, prompt_control, prompt_first, prompt_named, prompt_pending, row_prompt}
+use Rattle.insert_prompt.specs.Rows.{typed, character_row, taken_back, leave_insert, insert_base, awaiting, insert_control, insert_first, put_named, insert_pending, row_insert, leave_prompt, typed_kept, commands_accepted, pattern_typed, accepted_as, prompt_base, prompt_control, prompt_first, prompt_named, prompt_pending, row_prompt}
 
 module _ (R : Flat → Flat → Type 0) (kept : HoldsOfChanges R) where
   holds-chosen : (t : Bool) (flat : Flat) (a b : RowEnd) → R flat a.world → R flat b.world → R flat (if t then a else b).world
   holds-chosen true flat a b f g = f
   holds-chosen false flat a b f g = g
 
-  holds-typed : (s : List ℕ) (who : ℕ) (flat : Flat) → R flat (typed s who flat).world
-  holds-typed s who flat = kept.edits _ who flat
+  holds-typed : (c who : ℕ) (flat : Flat) → R flat (character_row c who flat).world
+  holds-typed c who flat = holds_behind R kept (typed (c ∷ []) who flat).row _ flat (typed (c ∷ []) who flat).world (kept.edits _ who flat) (λ w. kept.notes _ w)
 
   holds-leave : (who : ℕ) (flat : Flat) → R flat (leave_insert who flat)
-  holds-leave who flat = kept.behind flat (taken_back who flat) (leave_insert who flat) (by (is_appending who flat)) (kept.own who _ (taken_back who flat))
+  holds-leave who flat =
+      let w : Flat = mode_left Insert who flat in
+      kept.behind flat w (leave_insert who flat) (kept.notes _ flat) (kept.behind w (taken_back who w) (leave_insert who flat) (by w (is_appending who w)) (kept.own who _ (taken_back who w)))
     where
-      by : (t : Bool) → R flat (if t then each_changed (each.Reshaped OneBack) who flat else flat)
-      by true = kept.sels who _ flat
-      by false = kept.same flat
+      by : (w : Flat) (t : Bool) → R w (if t then each_changed (each.Reshaped OneBack) who w else w)
+      by w true = kept.sels who _ w
+      by w false = kept.same w
+
+  holds-left : (who : ℕ) (flat : Flat) → R flat (leave_prompt who flat)
+  holds-left who flat = kept.behind flat (mode_left Prompt who flat) (leave_prompt who flat) (kept.notes _ flat) (kept.own who _ (mode_left Prompt who flat))
 
   holds-insert_base : (base : Base) (who : ℕ) (flat : Flat) → R flat (insert_base base who flat).world
-  holds-insert_base (Char c) who flat = holds-typed (c ∷ []) who flat
-  holds-insert_base Ret who flat = holds-typed (10 ∷ []) who flat
-  holds-insert_base Tab who flat = holds-typed (9 ∷ []) who flat
+  holds-insert_base (Char c) who flat = holds-typed c who flat
+  holds-insert_base Ret who flat = holds-typed 10 who flat
+  holds-insert_base Tab who flat = holds-typed 9 who flat
   holds-insert_base Backspace who flat = kept.edits _ who flat
   holds-insert_base Del who flat = kept.edits _ who flat
   holds-insert_base Left who flat = kept.sels who _ flat
@@ -82,13 +89,13 @@ module _ (R : Flat → Flat → Type 0) (kept : HoldsOfChanges R) where
   holds_insert key who flat = holds-pending (pending_of who flat) key who flat
 
   holds-typed_kept : (name who : ℕ) (flat : Flat) → R flat (typed_kept name who flat).world
-  holds-typed_kept name who flat = kept.behind flat (leave_prompt who flat) (typed_kept name who flat).world (kept.own who _ flat) (kept.registers _ _ (leave_prompt who flat))
+  holds-typed_kept name who flat = kept.behind flat (leave_prompt who flat) (typed_kept name who flat).world (holds-left who flat) (kept.registers _ _ (leave_prompt who flat))
 
   holds-commands : (who : ℕ) (flat : Flat) → R flat (commands_accepted who flat).world
   holds-commands who flat = holds_behind R kept (typed_kept 58 who flat).row _ flat (typed_kept 58 who flat).world (holds-typed_kept 58 who flat) (λ w. kept.same w)
 
   holds-pattern : (pattern : List ℕ) (wanted : Use) (who : ℕ) (flat : Flat) → R flat (pattern_typed pattern wanted who flat).world
-  holds-pattern [] wanted who flat = kept.own who _ flat
+  holds-pattern [] wanted who flat = holds-left who flat
   holds-pattern (c ∷ cs) wanted who flat = holds_behind R kept (typed_kept 47 who flat).row _ flat (typed_kept 47 who flat).world (holds-typed_kept 47 who flat) (λ w. kept.same w)
 
   holds-accepted : (purpose : Purpose) (who : ℕ) (flat : Flat) → R flat (accepted_as purpose who flat).world
@@ -98,7 +105,7 @@ module _ (R : Flat → Flat → Type 0) (kept : HoldsOfChanges R) where
   holds-prompt_base : (base : Base) (who : ℕ) (flat : Flat) → R flat (prompt_base base who flat).world
   holds-prompt_base (Char c) who flat = kept.own who _ flat
   holds-prompt_base Ret who flat = holds-accepted (purpose_of who flat) who flat
-  holds-prompt_base Esc who flat = kept.own who _ flat
+  holds-prompt_base Esc who flat = holds-left who flat
   holds-prompt_base _ who flat = kept.own who _ flat
 
   holds-prompt_control : (base : Base) (key : Key) (who : ℕ) (flat : Flat) → R flat (prompt_control base key who flat).world

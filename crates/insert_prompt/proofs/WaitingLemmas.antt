@@ -5,7 +5,7 @@ use Rattle.std.specs.declared.option.Option.{Option}
 use Rattle.edit_line.specs.Edits.{put_before_cursor}
 use Rattle.kak_world.specs.declared.ask.EditError.TheVariants.{NoSuchRegister}
 use Rattle.kak_world.specs.Flat.{Flat}
-use Rattle.kak_world.specs.Rows.{RowEnd, does, fails}
+use Rattle.kak_world.specs.Rows.{does, fails}
 use Rattle.kak_world.proofs.WorldLaws.{own_twice}
 use Rattle.key_rows.specs.Reading.{strings_read, joined_text}
 use Rattle.key_rows.specs.Edits.{with_strings}

@@ -8,7 +8,7 @@ use Rattle.key_names.specs.Modified.{is_modified}
 use Rattle.edit_line.specs.Halves.{Halves, whole, empty}
 use Rattle.edit_line.specs.Edits.{put_before_cursor, erased_before, erased_at, gone_left, gone_right, gone_home, gone_to_end}
 use Rattle.kak_world.specs.declared.ask.Ask.TheVariants.{Commands}
-use Rattle.kak_world.specs.declared.own.Mode.TheVariants.{Normal}
+use Rattle.kak_world.specs.declared.own.Mode.TheVariants.{Normal, Insert, Prompt}
 use Rattle.edit_ops.specs.declared.kinds.Erase.{Erase}
 use Rattle.edit_ops.specs.declared.kinds.Erase.TheVariants.{BeforeCursor, AtCursor}
 use Rattle.edit_ops.specs.declared.kinds.Put.TheVariants.{BeforeCursor as PutBeforeCursor}
@@ -34,6 +34,7 @@ use Rattle.kak_world.specs.Flat.{Flat, sels_of, pending_of, is_appending, purpos
 use Rattle.kak_world.specs.Changing.{commits}
 use Rattle.kak_world.specs.Rows.{RowEnd, Asks, does}
 use Rattle.kak_world.specs.Editing.{edit_row}
+use Rattle.kak_world.specs.Events.{mode_left, character_typed}
 
 -- characters go in before each cursor
 abbrev pub typed : List ℕ → ℕ → Flat → RowEnd
@@ -43,20 +44,24 @@ typed s who flat = edit_row (map (typed_before s) (sels_of who flat).list) who f
 abbrev pub erased_row : Erase → ℕ → Flat → RowEnd
 erased_row what who flat = edit_row (erasures what (sels_of who flat).list) who flat
 
+-- a character goes in before each cursor, which hooks hear once
+abbrev pub character_row : ℕ → ℕ → Flat → RowEnd
+character_row c who flat = then_row (typed (c ∷ []) who flat) (λ w. does (character_typed c who w))
+
 -- where insert mode was entered behind selections, the cursors go back
 abbrev pub taken_back : ℕ → Flat → Flat
 taken_back who flat = if is_appending who flat then each_changed (each.Reshaped OneBack) who flat else flat
 
--- the client is in normal mode
+-- the client is in normal mode, which hooks hear
 abbrev pub leave_insert : ℕ → Flat → Flat
-leave_insert who flat = with_own who (λ o. record o { mode = Normal; appending = false }) (taken_back who flat)
+leave_insert who flat = with_own who (λ o. record o { mode = Normal; appending = false }) (taken_back who (mode_left Insert who flat))
 
 -- the row of a key without modifiers in insert mode: a character goes in as itself, return as a newline (10), tab as a
 -- tab (9); others erase or move
 abbrev pub insert_base : Base → ℕ → Flat → RowEnd
-insert_base (Char c) who flat = typed (c ∷ []) who flat
-insert_base Ret who flat = typed (10 ∷ []) who flat
-insert_base Tab who flat = typed (9 ∷ []) who flat
+insert_base (Char c) who flat = character_row c who flat
+insert_base Ret who flat = character_row 10 who flat
+insert_base Tab who flat = character_row 9 who flat
 insert_base Backspace who flat = erased_row BeforeCursor who flat
 insert_base Del who flat = erased_row AtCursor who flat
 insert_base Left who flat = does (each_moved (Step Backward) Select who flat)
@@ -119,13 +124,17 @@ line_edited Home line = gone_home line
 line_edited End line = gone_to_end line
 line_edited _ line = line
 
--- the prompt is left, and is empty
+-- the prompt is left, which hooks hear, and is empty
 abbrev pub leave_prompt : ℕ → Flat → Flat
-leave_prompt who flat = with_own who (λ o. record o { mode = Normal; prompt = empty }) flat
+leave_prompt who flat = with_own who (λ o. record o { mode = Normal; prompt = empty }) (mode_left Prompt who flat)
+
+-- what was typed, as a register holds it
+abbrev pub typed_strings : ℕ → Flat → List (List ℕ)
+typed_strings who flat = encode_utf8_all (whole (prompt_of who flat)) ∷ []
 
 -- the prompt is left, and a register holds what was typed
 abbrev pub typed_kept : ℕ → ℕ → Flat → RowEnd
-typed_kept name who flat = set_row name (encode_utf8_all (whole (prompt_of who flat)) ∷ []) (leave_prompt who flat)
+typed_kept name who flat = set_row name (typed_strings who flat) (leave_prompt who flat)
 
 -- what was typed is run as commands, and held by register `:` (58)
 abbrev pub commands_accepted : ℕ → Flat → RowEnd

@@ -1,13 +1,13 @@
 //! The rows of insert mode.
 #![tactic(auto, using(kak_world::proofs::WorldLaws::world_laws))]
 
-ghost use Rattle.std.specs.Prelude.{◌≡◌, true, None, Some, ◌∷◌, [], IsErrOf};
+ghost use Rattle.std.specs.Prelude.{◌≡◌, true, None, Some, ◌∷◌, [], OnOk, IsErrOf};
 ghost use Rattle.kak_world.specs.declared.ask.EditError.TheVariants.{NoMemory};
 ghost use Rattle.kak_world.specs.Flat.{acts, pending_of};
-ghost use Rattle.kak_world.specs.Rows.{GivesRow, does};
+ghost use Rattle.kak_world.specs.Rows.{Answers, GivesRow, does};
 ghost use Rattle.key_rows.specs.Each.{each_changed, each_moved};
 ghost use Rattle.key_rows.specs.Naming.{register_named};
-ghost use Rattle.insert_prompt.specs.Rows.{typed, erased_row, leave_insert, awaiting, insert_control, put_register, put_named, insert_base, insert_first, row_insert};
+ghost use Rattle.insert_prompt.specs.Rows.{typed, character_row, erased_row, leave_insert, awaiting, insert_control, put_register, put_named, insert_base, insert_first, row_insert};
 ghost use Rattle.insert_prompt.specs.Wanting.{is_part_of_typing, is_part_of_erasing, is_part_of_putting, IsPartOfBase, IsPartOfInsert};
 
 use directions::Direction;
@@ -20,6 +20,26 @@ use regex_ports::Pattern;
 use std::alloc::Global;
 
 // Puts a character in before each cursor.
+fn type_in<P: Pattern, T: Turn>(
+    alloc: Global,
+    world: &mut World<P, T>,
+    who: u32,
+    c: char,
+) -> Result<(), EditError>
+    requires { acts who world.old.flat ≡ true }
+    ensures row { Answers result world.new.flat (typed (c ∷ []) who world.old.flat) }
+    ensures made { OnOk result (is_part_of_typing c who world.old.flat world.new.flat) }
+    ensures acts { OnOk result (acts who world.new.flat ≡ true) }
+    ensures wanting { IsErrOf result NoMemory → is_part_of_typing c who world.old.flat world.new.flat }
+{
+    let splices = before_cursors(alloc, world.sels(who).as_slice(), &[c])?;
+    match world.edit(alloc, who, splices.as_slice()) {
+        Ok(_) => Ok(()),
+        Err(error) => Err(error),
+    }
+}
+
+// Puts a character in before each cursor, which hooks hear once.
 fn put_in<P: Pattern, T: Turn>(
     alloc: Global,
     world: &mut World<P, T>,
@@ -27,14 +47,12 @@ fn put_in<P: Pattern, T: Turn>(
     c: char,
 ) -> Result<Ask, EditError>
     requires { acts who world.old.flat ≡ true }
-    ensures row { GivesRow result world.new.flat (typed (c ∷ []) who world.old.flat) }
+    ensures row { GivesRow result world.new.flat (character_row c who world.old.flat) }
     ensures wanting { IsErrOf result NoMemory → is_part_of_typing c who world.old.flat world.new.flat }
 {
-    let splices = before_cursors(alloc, world.sels(who).as_slice(), &[c])?;
-    match world.edit(alloc, who, splices.as_slice()) {
-        Ok(_) => Ok(Ask::Nothing),
-        Err(error) => Err(error),
-    }
+    type_in(alloc, world, who, c)?;
+    world.note_typed(alloc, who, c)?;
+    Ok(Ask::Nothing)
 }
 
 // Erases a character before each cursor, or at it.
@@ -82,7 +100,7 @@ fn change<P: Pattern, T: Turn>(
     Ok(Ask::Nothing)
 }
 
-// Leaves insert mode; where it was entered behind selections, the cursors go back.
+// Leaves insert mode, which hooks hear; where it was entered behind selections, the cursors go back.
 fn leave<P: Pattern, T: Turn>(
     alloc: Global,
     world: &mut World<P, T>,
@@ -90,8 +108,9 @@ fn leave<P: Pattern, T: Turn>(
 ) -> Result<Ask, EditError>
     requires { acts who world.old.flat ≡ true }
     ensures row { GivesRow result world.new.flat (does (leave_insert who world.old.flat)) }
-    ensures wanting { IsErrOf result NoMemory → world.new.flat ≡ world.old.flat }
+    ensures wanting { IsErrOf result NoMemory → IsPartOfBase Base.Esc who world.old.flat world.new.flat }
 {
+    world.note_left(alloc, who, Mode::Insert)?;
     if world.own(who).appending {
         change_each(alloc, world, who, Each::Reshaped(Shape::OneBack))?;
     }

@@ -7,7 +7,9 @@ ghost use Rattle.edit_line.specs.Halves.{whole};
 ghost use Rattle.kak_world.specs.declared.ask.EditError.TheVariants.{NoMemory};
 ghost use Rattle.kak_world.specs.Flat.{acts, prompt_of};
 ghost use Rattle.kak_world.specs.Rows.{Answers, GivesRow, does, row_of};
+ghost use Rattle.kak_world.specs.Events.{has_hooks};
 ghost use Rattle.key_rows.specs.Naming.{register_named};
+ghost use Rattle.insert_prompt.specs.Wanting.{IsPartOfTyped, IsPartOfPrompt};
 ghost use Rattle.insert_prompt.specs.Rows.{awaiting, prompt_edited, line_edited, leave_prompt, typed_kept, commands_accepted, pattern_typed, accepted, prompt_base, prompt_control, prompt_register, prompt_named, prompt_first, row_prompt};
 
 use crate::inserts::set_pending;
@@ -20,27 +22,41 @@ use key_rows::{ask_for_last, register_named, register_text, string_of};
 use regex_ports::Pattern;
 use std::alloc::{AllocError, Global};
 
-// Leaves the prompt, and gives its line.
-fn leave<P: Pattern, T: Turn>(alloc: Global, world: &mut World<P, T>, who: u32) -> EditLine
+// Leaves the prompt, which hooks hear, and gives its line. An `Err` leaves the world, and comes only where a hook is held.
+fn leave<P: Pattern, T: Turn>(
+    alloc: Global,
+    world: &mut World<P, T>,
+    who: u32,
+) -> Result<EditLine, AllocError>
     requires { acts who world.old.flat ≡ true }
-    ensures typed { result ≡ prompt_of who world.old.flat }
-    ensures left { world.new.flat ≡ leave_prompt who world.old.flat }
+    ensures typed { IfOk result (λ line. line ≡ prompt_of who world.old.flat) }
+    ensures left { OnOk result (world.new.flat ≡ leave_prompt who world.old.flat) }
+    ensures err { OnErr result (world.new.flat ≡ world.old.flat) }
+    ensures held { OnErr result (has_hooks world.new.flat ≡ true) }
 {
+    world.note_left(alloc, who, Mode::Prompt)?;
     let own = world.own_mut(who);
     own.mode = Mode::Normal;
-    std::mem::replace(&mut own.prompt, EditLine::new(alloc))
+    Ok(std::mem::replace(&mut own.prompt, EditLine::new(alloc)))
 }
 
-// Leaves the prompt, since a register can't hold what was typed; want of memory leaves the world.
-fn refuse<P: Pattern, T: Turn>(alloc: Global, world: &mut World<P, T>, who: u32, error: &EditError)
+// Leaves the prompt, since a register can't hold what was typed; want of memory leaves the world, then and now.
+fn refuse<P: Pattern, T: Turn>(
+    alloc: Global,
+    world: &mut World<P, T>,
+    who: u32,
+    error: &EditError,
+) -> Result<(), AllocError>
     requires { acts who world.old.flat ≡ true }
-    ensures left { IfSome (row_of error.now) (λ row. world.new.flat ≡ leave_prompt who world.old.flat) }
-    ensures wanting { error.now ≡ NoMemory → world.new.flat ≡ world.old.flat }
+    ensures left { OnOk result (IfSome (row_of error.now) (λ row. world.new.flat ≡ leave_prompt who world.old.flat)) }
+    ensures wanting { OnOk result (error.now ≡ NoMemory → world.new.flat ≡ world.old.flat) }
+    ensures err { OnErr result (world.new.flat ≡ world.old.flat) }
 {
     match error {
-        EditError::NoMemory => {}
+        EditError::NoMemory => Ok(()),
         _ => {
-            let _typed = leave(alloc, world, who);
+            let _typed = leave(alloc, world, who)?;
+            Ok(())
         }
     }
 }
@@ -55,17 +71,17 @@ fn keep_typed<P: Pattern, T: Turn>(
     requires { acts who world.old.flat ≡ true }
     ensures row { Answers result world.new.flat (typed_kept name who world.old.flat) }
     ensures typed { IfOk result (λ typed. typed ≡ whole (prompt_of who world.old.flat)) }
-    ensures wanting { IsErrOf result NoMemory → world.new.flat ≡ world.old.flat }
+    ensures wanting { IsErrOf result NoMemory → IsPartOfTyped name who world.old.flat world.new.flat }
 {
     let mut strings = Words::new(alloc);
     strings.push(string_of(alloc, world.own(who).prompt.whole())?)?;
     match world.set_register(name, strings) {
         Ok(()) => {
-            let typed = leave(alloc, world, who);
+            let typed = leave(alloc, world, who)?;
             Ok(Chars::of_vec(typed.into_vec()))
         }
         Err(error) => {
-            refuse(alloc, world, who, &error);
+            refuse(alloc, world, who, &error)?;
             Err(error)
         }
     }
@@ -79,7 +95,7 @@ fn accept_commands<P: Pattern, T: Turn>(
 ) -> Result<Ask, EditError>
     requires { acts who world.old.flat ≡ true }
     ensures row { GivesRow result world.new.flat (commands_accepted who world.old.flat) }
-    ensures wanting { IsErrOf result NoMemory → world.new.flat ≡ world.old.flat }
+    ensures wanting { IsErrOf result NoMemory → IsPartOfTyped 58 who world.old.flat world.new.flat }
 {
     let typed = keep_typed(alloc, world, who, ':')?;
     Ok(Ask::Commands(typed))
@@ -94,11 +110,11 @@ fn accept_pattern<P: Pattern, T: Turn>(
 ) -> Result<Ask, EditError>
     requires { acts who world.old.flat ≡ true }
     ensures row { GivesRow result world.new.flat (pattern_typed (whole (prompt_of who world.old.flat)) wanted who world.old.flat) }
-    ensures wanting { IsErrOf result NoMemory → world.new.flat ≡ world.old.flat }
+    ensures wanting { IsErrOf result NoMemory → IsPartOfTyped 47 who world.old.flat world.new.flat }
 {
     if world.own(who).prompt.whole().is_empty() {
         let ask = ask_for_last(alloc, world, wanted)?;
-        let _nothing = leave(alloc, world, who);
+        let _nothing = leave(alloc, world, who)?;
         return Ok(ask);
     }
     let pattern = keep_typed(alloc, world, who, '/')?;
@@ -116,7 +132,7 @@ fn accept<P: Pattern, T: Turn>(
 ) -> Result<Ask, EditError>
     requires { acts who world.old.flat ≡ true }
     ensures row { GivesRow result world.new.flat (accepted who world.old.flat) }
-    ensures wanting { IsErrOf result NoMemory → world.new.flat ≡ world.old.flat }
+    ensures wanting { IsErrOf result NoMemory → IsPartOfPrompt who world.old.flat world.new.flat }
 {
     let purpose = world.own(who).purpose;
     match purpose {
@@ -173,7 +189,7 @@ fn run_plain<P: Pattern, T: Turn>(
 ) -> Result<Ask, EditError>
     requires { acts who world.old.flat ≡ true }
     ensures row { GivesRow result world.new.flat (prompt_base base who world.old.flat) }
-    ensures wanting { IsErrOf result NoMemory → world.new.flat ≡ world.old.flat }
+    ensures wanting { IsErrOf result NoMemory → IsPartOfPrompt who world.old.flat world.new.flat }
 {
     match base {
         Base::Char(c) => {
@@ -182,7 +198,7 @@ fn run_plain<P: Pattern, T: Turn>(
         }
         Base::Ret => accept(alloc, world, who),
         Base::Esc => {
-            let _typed = leave(alloc, world, who);
+            let _typed = leave(alloc, world, who)?;
             Ok(Ask::Nothing)
         }
         base => {
@@ -212,7 +228,7 @@ fn run_first<P: Pattern, T: Turn>(
 ) -> Result<Ask, EditError>
     requires { acts who world.old.flat ≡ true }
     ensures row { GivesRow result world.new.flat (prompt_first key who world.old.flat) }
-    ensures wanting { IsErrOf result NoMemory → world.new.flat ≡ world.old.flat }
+    ensures wanting { IsErrOf result NoMemory → IsPartOfPrompt who world.old.flat world.new.flat }
 {
     if key.control && !(key.alt || key.shift) {
         run_control(world, who, key);
@@ -270,8 +286,8 @@ fn run_named<P: Pattern, T: Turn>(
 
 /// Runs one key of a prompt. `RegisterFull` comes where more was typed than a register may hold; the prompt is left then, and
 /// nothing is run or looked for. `NoSuchRegister` comes where a key names no register, and leaves the prompt as it is. Want of memory leaves
-/// the world. It costs the characters of the prompt from the cursor on, and of a register those of its strings; `<ret>` costs all
-/// that was typed.
+/// the world; where a hook is held, a register may hold what was typed by then. It costs the characters of the prompt from the cursor on,
+/// and of a register those of its strings; `<ret>` costs all that was typed.
 #[tactic(auto, using(kak_world::proofs::WorldLaws::world_laws), unfolding(crate::specs::Rows::row_prompt))]
 pub fn prompt_key<P: Pattern, T: Turn>(
     alloc: Global,
@@ -281,7 +297,7 @@ pub fn prompt_key<P: Pattern, T: Turn>(
 ) -> Result<Ask, EditError>
     requires { acts who world.old.flat ≡ true }
     ensures row { GivesRow result world.new.flat (row_prompt key who world.old.flat) }
-    ensures wanting { IsErrOf result NoMemory → world.new.flat ≡ world.old.flat }
+    ensures wanting { IsErrOf result NoMemory → IsPartOfPrompt who world.old.flat world.new.flat }
 {
     match world.own(who).pending {
         None => run_first(alloc, world, who, key),

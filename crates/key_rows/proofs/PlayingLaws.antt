@@ -1,6 +1,6 @@
 -- A macro leaves the world: what it does is only asked for.
-use Rattle.std.proofs.Common.{◌≡◌, ℕ, true, List, [], refl}
-use Rattle.std.specs.Prelude.{Bool, Ok, Err, Some, None, slice_index_or}
+use Rattle.std.proofs.Common.{◌≡◌, ℕ, List, [], refl}
+use Rattle.std.specs.Prelude.{Ok, Err, Some, None, slice_index_or}
 use Rattle.std.specs.declared.option.Option.{Option}
 use Rattle.std.specs.declared.result.Result.{Result}
 use Rattle.std.specs.Str.{chars}
@@ -10,16 +10,16 @@ use Rattle.kak_world.specs.Flat.{Flat}
 use Rattle.key_rows.specs.Playing.{keys_asked, text_played, run_further, strings_played, row_macro}
 use Rattle.key_rows.specs.Reading.{strings_read}
 
-asked-stays : (read : Result (List Key) ℕ) (maps : Bool) (again : Option Macro) (flat : Flat) → (keys_asked read maps again flat).world ≡ flat
-asked-stays (Ok keys) maps again flat = refl
-asked-stays (Err at) maps again flat = refl
+asked-stays : (read : Result (List Key) ℕ) (again : Option Macro) (flat : Flat) → (keys_asked read again flat).world ≡ flat
+asked-stays (Ok keys) again flat = refl
+asked-stays (Err at) again flat = refl
 
-pub text_stays : (text : List ℕ) (maps : Bool) (again : Option Macro) (flat : Flat) → (text_played text maps again flat).world ≡ flat
-text_stays text maps again flat = asked-stays _ maps again flat
+pub text_stays : (text : List ℕ) (again : Option Macro) (flat : Flat) → (text_played text again flat).world ≡ flat
+text_stays text again flat = asked-stays _ again flat
 
 strings-stay : (strings : Option (List (List ℕ))) (again : Macro) (flat : Flat) → (strings_played strings again flat).world ≡ flat
 strings-stay None again flat = refl
-strings-stay (Some strings) again flat = text_stays (chars (slice_index_or strings 0 [])) true (run_further again.register again.further) flat
+strings-stay (Some strings) again flat = text_stays (chars (slice_index_or strings 0 [])) (run_further again.register again.further) flat
 
 pub macro_stays : (again : Macro) (who : ℕ) (flat : Flat) → (row_macro again who flat).world ≡ flat
 unfolding row_macro

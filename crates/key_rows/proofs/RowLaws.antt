@@ -14,6 +14,10 @@ use Rattle.edit_ops.specs.declared.kinds.Put.TheVariants.{Over}
 use Rattle.edit_ops.specs.Putting.{put_in_at}
 use Rattle.edit_ops.specs.Aligning.{shares_line, alignments}
 use Rattle.kak_world.specs.declared.own.Own.{Own}
+use Rattle.kak_world.specs.declared.own.Mode.TheVariants.{Insert}
+use Rattle.kak_world.specs.declared.events.HookEvent.{HookEvent}
+use Rattle.kak_world.specs.Events.{noted, mode_entered}
+use Rattle.kak_world.proofs.EventLaws.{keeps_noted, units_noted}
 use Rattle.kak_world.specs.Flat.{Flat, text_of, tabstop_of, sels_of, story_of, units_of, with_own, with_sels, with_units}
 use Rattle.kak_world.specs.Changing.{splice_changes_of, edited_by, traveled_by, commits}
 use Rattle.kak_world.specs.Rows.{Row, RowEnd, Asks, Fails, GivesUp, does, fails}
@@ -30,7 +34,7 @@ use Rattle.key_rows.specs.declared.entries.InsertEntry.{InsertEntry}
 use Rattle.key_rows.specs.declared.entries.InsertEntry.TheVariants as entry
 use Rattle.key_rows.specs.Sequence.{behind, then_row}
 use Rattle.key_rows.specs.Each.{each_changed}
-use Rattle.key_rows.specs.Reading.{used, strings_read}
+use Rattle.key_rows.specs.Reading.{used, own_strings, strings_read}
 use Rattle.key_rows.specs.Edits.{leaving_row, erase_row, keep_row, cut_row, with_strings, put_row, align_row, edit_done}
 use Rattle.key_rows.specs.Entering.{reaches_end, room_row, place_row, enter_row}
 
@@ -46,6 +50,7 @@ pub record HoldsOfChanges (R : Flat → Flat → Type 0) : Type 0 where
   pub own : (who : ℕ) (f : Own → Own) (flat : Flat) → R flat (with_own who f flat)
   pub sels : (who : ℕ) (sels : Selected) (flat : Flat) → R flat (with_sels who sels flat)
   pub commits : (who : ℕ) (flat : Flat) → R flat (commits who flat)
+  pub notes : (event : HookEvent) (flat : Flat) → R flat (noted event flat)
   pub registers : (name : ℕ) (strings : List (List ℕ)) (flat : Flat) → R flat (set_row name strings flat).world
   pub edits : (splices : List Splice) (who : ℕ) (flat : Flat) → R flat (edit_row splices who flat).world
   pub travels : (travel : Travel) (who : ℕ) (flat : Flat) → R flat (travel_row travel who flat).world
@@ -59,6 +64,7 @@ clients_kept = record {
   own = keeps_own;
   sels = keeps_sels;
   commits = keeps_commits;
+  notes = keeps_noted;
   registers = keeps_set_row;
   edits = keeps_edit_row;
   travels = keeps_travel_row;
@@ -111,6 +117,7 @@ units_taken = record {
   own = λ who f flat. as-many _ _ (ap units_in (rest_own who f flat));
   sels = λ who sels flat. as-many _ _ (ap units_in (rest_sels who sels flat));
   commits = λ who flat. as-many _ _ (ap units_of (commits_writes who flat) ∙ ap units_in (rest_buffers _ flat));
+  notes = λ event flat. as-many _ _ (units_noted event flat);
   registers = units-registers;
   edits = units-edits;
   travels = units-travels;
@@ -135,8 +142,11 @@ module _ (R : Flat → Flat → Type 0) (kept : HoldsOfChanges R) where
   holds-erase : (who : ℕ) → HoldsIn R (erase_row who)
   holds-erase who flat = holds_leaving _ who flat
 
+  holds-keep : (register : Option ℕ) (who : ℕ) → HoldsIn R (keep_row register who)
+  holds-keep register who = holds-then (λ flat. set_row (used register) (own_strings who flat) flat) _ (λ flat. kept.registers _ _ flat) (λ w. kept.notes _ w)
+
   holds-cut : (register : Option ℕ) (who : ℕ) → HoldsIn R (cut_row register who)
-  holds-cut register who = holds-then (keep_row register who) (erase_row who) (λ flat. kept.registers _ _ flat) (holds-erase who)
+  holds-cut register who = holds-then (keep_row register who) (erase_row who) (holds-keep register who) (holds-erase who)
 
   holds-with : (strings : Option (List (List ℕ))) (name : ℕ) (row : List (List ℕ) → Flat → RowEnd) → ((given : List (List ℕ)) → HoldsIn R (row given)) → HoldsIn R (with_strings strings name row)
   holds-with None name row k flat = kept.same flat
@@ -155,7 +165,7 @@ module _ (R : Flat → Flat → Type 0) (kept : HoldsOfChanges R) where
   pub holds_edit : (what : Edit) (register : Option ℕ) (who : ℕ) → HoldsIn R (edit_done what register who)
   holds_edit edit.Cut register who = holds-cut register who
   holds_edit edit.Erase register who = holds-erase who
-  holds_edit edit.Keep register who = λ flat. kept.registers _ _ flat
+  holds_edit edit.Keep register who = holds-keep register who
   holds_edit edit.Replace register who = holds_put Over register who
   holds_edit (edit.Rotate direction) register who = λ flat. holds_leaving _ who flat
   holds_edit (edit.Indent how) register who = λ flat. kept.edits _ who flat
@@ -179,4 +189,4 @@ module _ (R : Flat → Flat → Type 0) (kept : HoldsOfChanges R) where
   holds_place (entry.Open direction) register who flat = holds_leaving _ who flat
 
   pub holds_entry : (how : InsertEntry) (register : Option ℕ) (who : ℕ) → HoldsIn R (enter_row how register who)
-  holds_entry how register who = holds-then (place_row how register who) _ (holds_place how register who) (λ w. kept.own who _ w)
+  holds_entry how register who = holds-then (place_row how register who) _ (holds_place how register who) (λ w. kept.behind w (mode_entered Insert who w) _ (kept.notes _ w) (kept.own who _ (mode_entered Insert who w)))

@@ -23,6 +23,7 @@ use Rattle.kak_world.specs.Flat.{Flat, text_of, tabstop_of, indentwidth_of, sels
 use Rattle.kak_world.specs.Rows.{RowEnd, does, fails}
 use Rattle.kak_world.specs.Editing.{edit_row}
 use Rattle.kak_world.specs.Registers.{set_row}
+use Rattle.kak_world.specs.Events.{register_modified}
 use Rattle.key_rows.specs.declared.edits.Edit.{Edit}
 use Rattle.key_rows.specs.declared.edits.Edit.TheVariants as edit
 use Rattle.key_rows.specs.Sequence.{then_row}
@@ -63,9 +64,9 @@ align_row who flat =
 abbrev pub fill_row : ℕ → ℕ → Flat → RowEnd
 fill_row c who flat = leaving_row (fillings c (sels_of who flat).list) who flat
 
--- a register is set to the texts of the selections
+-- a register is set to the texts of the selections, which hooks hear
 abbrev pub keep_row : Option ℕ → ℕ → Flat → RowEnd
-keep_row register who flat = set_row (used register) (own_strings who flat) flat
+keep_row register who flat = then_row (set_row (used register) (own_strings who flat) flat) (λ w. does (register_modified (used register) who w))
 
 -- the same, and then they are erased
 abbrev pub cut_row : Option ℕ → ℕ → Flat → RowEnd

@@ -8,6 +8,7 @@ use Rattle.kak_world.specs.declared.own.Mode.TheVariants.{Insert}
 use Rattle.kak_world.specs.Flat.{Flat, text_of, sels_of, with_own}
 use Rattle.kak_world.specs.Rows.{RowEnd, does}
 use Rattle.kak_world.specs.Editing.{edit_row}
+use Rattle.kak_world.specs.Events.{mode_entered}
 use Rattle.key_rows.specs.declared.shapes.Shape.TheVariants as shape
 use Rattle.key_rows.specs.declared.each.Each.TheVariants as each
 use Rattle.key_rows.specs.declared.entries.InsertEntry.{InsertEntry}
@@ -50,9 +51,9 @@ edits_first entry.FirstLine = false
 edits_first entry.LastNewline = false
 edits_first _ = true
 
--- a client is in insert mode
+-- a client is in insert mode, which hooks hear
 abbrev pub inserting : InsertEntry → ℕ → Flat → Flat
-inserting entry who flat = with_own who (λ o. record o { mode = Insert; appending = appends entry }) flat
+inserting entry who flat = with_own who (λ o. record o { mode = Insert; appending = appends entry }) (mode_entered Insert who flat)
 
 -- insert mode is entered
 abbrev pub enter_row : InsertEntry → Option ℕ → ℕ → Flat → RowEnd

@@ -8,7 +8,7 @@ ghost use Rattle.kak_world.specs.Rows.{Answers};
 ghost use Rattle.key_rows.specs.Handing.{AreAlignments, IsUnaligned};
 ghost use Rattle.key_rows.specs.Edits.{erase_row, open_row, rotate_row, indent_row, join_row, align_row, fill_row, cut_row, put_row, edit_done};
 ghost use Rattle.key_rows.specs.declared.entries.InsertEntry.TheVariants.{Open};
-ghost use Rattle.key_rows.specs.Wanting.{IsPartOfPut, IsPartOfFill, IsPartOfEdit, IsPartOfEntry};
+ghost use Rattle.key_rows.specs.Wanting.{IsPartOfPut, IsPartOfFill, IsPartOfEdit, IsPartOfPlace};
 
 use crate::leaving::edit_leaving;
 use crate::reading::{is_stored, keep, register_puts, used};
@@ -63,7 +63,7 @@ pub(crate) fn open<P: Pattern, T: Turn>(
 ) -> Result<(), EditError>
     requires { acts who world.old.flat ≡ true }
     ensures row { Answers result world.new.flat (open_row direction who world.old.flat) }
-    ensures wanting { IsErrOf result NoMemory → IsPartOfEntry (Open direction) None who world.old.flat world.new.flat }
+    ensures wanting { IsErrOf result NoMemory → IsPartOfPlace (Open direction) None who world.old.flat world.new.flat }
 {
     let splices = edit_ops::open(alloc, world.lines(who), world.sels(who), direction)?;
     edit_leaving(alloc, world, who, splices.as_slice())

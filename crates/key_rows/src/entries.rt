@@ -9,7 +9,8 @@ ghost use Rattle.kak_world.specs.declared.ask.EditError.TheVariants.{NoMemory};
 ghost use Rattle.kak_world.specs.Flat.{acts, sels_of};
 ghost use Rattle.kak_world.specs.Rows.{Answers};
 ghost use Rattle.key_rows.specs.Entering.{reaches_end, room_row, place_row, edits_first, appends, enter_row};
-ghost use Rattle.key_rows.specs.Wanting.{IsPartOfEntry};
+ghost use Rattle.kak_world.specs.Events.{has_hooks};
+ghost use Rattle.key_rows.specs.Wanting.{IsPartOfPlace, IsPartOfEntry};
 
 use crate::each::{Each, change_each};
 use crate::edits::{cut, erase, open};
@@ -78,8 +79,8 @@ fn make_room<P: Pattern, T: Turn>(
 ) -> Result<(), EditError>
     requires { acts who world.old.flat ≡ true }
     ensures row { Answers result world.new.flat (room_row who world.old.flat) }
-    ensures made { OnOk result (IsPartOfEntry InsertEntry.Behind None who world.old.flat world.new.flat) }
-    ensures wanting { IsErrOf result NoMemory → IsPartOfEntry InsertEntry.Behind None who world.old.flat world.new.flat }
+    ensures made { OnOk result (IsPartOfPlace InsertEntry.Behind None who world.old.flat world.new.flat) }
+    ensures wanting { IsErrOf result NoMemory → IsPartOfPlace InsertEntry.Behind None who world.old.flat world.new.flat }
     ensures acts { OnOk result (acts who world.new.flat ≡ true) }
 {
     if !reaches_end(world.lines(who), world.sels(who).as_slice()) {
@@ -100,7 +101,7 @@ fn place<P: Pattern, T: Turn>(
 ) -> Result<(), EditError>
     requires { acts who world.old.flat ≡ true }
     ensures row { Answers result world.new.flat (place_row entry register who world.old.flat) }
-    ensures wanting { IsErrOf result NoMemory → IsPartOfEntry entry register who world.old.flat world.new.flat }
+    ensures wanting { IsErrOf result NoMemory → IsPartOfPlace entry register who world.old.flat world.new.flat }
     ensures few { length (sels_of who world.old.flat).list ≤ 4 → edits_first entry ≡ false → IsOk result }
 {
     match entry {
@@ -131,7 +132,7 @@ fn appends(entry: InsertEntry) -> bool
 }
 
 /// Enters insert mode. It is refused as the edits are that go before it, and then the mode stays. Where no edit goes before,
-/// it takes no memory for at most four selections.
+/// and no hook is held, it takes no memory for at most four selections.
 pub fn enter_insert<P: Pattern, T: Turn>(
     alloc: Global,
     world: &mut World<P, T>,
@@ -142,9 +143,10 @@ pub fn enter_insert<P: Pattern, T: Turn>(
     requires { acts who world.old.flat ≡ true }
     ensures row { Answers result world.new.flat (enter_row entry register who world.old.flat) }
     ensures wanting { IsErrOf result NoMemory → IsPartOfEntry entry register who world.old.flat world.new.flat }
-    ensures few { length (sels_of who world.old.flat).list ≤ 4 → edits_first entry ≡ false → IsOk result }
+    ensures few { has_hooks world.old.flat ≡ false → length (sels_of who world.old.flat).list ≤ 4 → edits_first entry ≡ false → IsOk result }
 {
     place(alloc, world, who, entry, register)?;
+    world.note_entered(alloc, who, Mode::Insert)?;
     let own = world.own_mut(who);
     own.mode = Mode::Insert;
     own.appending = appends(entry);

@@ -13,20 +13,16 @@ use key_names::{KeyError, Keys, read_keys};
 use regex_ports::Pattern;
 use std::alloc::Global;
 
-/// The keys of a text, to be run: they stand for those that they are mapped to where maps are asked for, and a macro comes behind
-/// them, if one does. `BadKey` tells the character of the text, from 0, at which no key can be read.
-pub fn play_text(
-    alloc: Global,
-    text: &str,
-    maps: bool,
-    again: Option<Macro>,
-) -> Result<PlayKeys, EditError>
-    ensures { (flat : Flat) → GivesPlay result flat (text_played (chars text.now) maps again flat) }
+/// The keys of a text, to be run: they stand for those that they are mapped to, hooks are run of what they do, and a macro comes
+/// behind them, if one does. `BadKey` tells the character of the text, from 0, at which no key can be read.
+pub fn play_text(alloc: Global, text: &str, again: Option<Macro>) -> Result<PlayKeys, EditError>
+    ensures { (flat : Flat) → GivesPlay result flat (text_played (chars text.now) again flat) }
 {
     match read_keys(alloc, text) {
         Ok(keys) => Ok(PlayKeys {
             keys: Keys::of_vec(keys),
-            maps,
+            hooks: true,
+            maps: true,
             again,
         }),
         Err(KeyError::BadKey(at)) => Err(EditError::Command(CommandError::BadKey(at))),
@@ -74,7 +70,7 @@ pub fn run_macro<P: Pattern, T: Turn>(
         None => Err(EditError::NoSuchRegister(register)),
         Some(strings) => {
             let further = run_further(register, again.further);
-            play_text(alloc, first_of(&strings), true, further)
+            play_text(alloc, first_of(&strings), further)
         }
     }
 }

@@ -7,10 +7,11 @@ ghost use Rattle.buffer_store.specs.Buffers.{flat_splices, AreSplicesOf};
 ghost use Rattle.kak_registers.specs.Names.{is_settable};
 ghost use Rattle.kak_world.specs.declared.ask.EditError.TheVariants.{NoMemory};
 ghost use Rattle.kak_world.specs.Flat.{acts, name_of, sels_of, text_of};
-ghost use Rattle.kak_world.specs.Registers.{with_register};
+ghost use Rattle.kak_world.specs.Registers.{with_register, set_row};
 ghost use Rattle.kak_world.specs.Rows.{Answers};
 ghost use Rattle.key_rows.specs.Reading.{used, own_strings, numbers_from, strings_read, joined_text};
 ghost use Rattle.key_rows.specs.Edits.{puts_of, keep_row};
+ghost use Rattle.key_rows.specs.Wanting.{kept_in, IsPartOfKeep};
 ghost use Rattle.key_rows.specs.Handing.{ArePuts, IsTooMuch, AreStringsRefused};
 
 use buffer_store::Splice;
@@ -30,8 +31,25 @@ pub(crate) fn used(chosen: Option<char>) -> char
     chosen.unwrap_or('"')
 }
 
-/// Sets a register, or `"` where none was chosen, to the texts of a client's selections. It is refused where the register can't
-/// be set, by the name for that; an error leaves the world.
+// Sets a register to the texts of a client's selections, which no hook hears yet. An error leaves the world.
+fn store<P: Pattern, T: Turn>(
+    alloc: Global,
+    world: &mut World<P, T>,
+    who: u32,
+    name: char,
+) -> Result<(), EditError>
+    requires { acts who world.old.flat ≡ true }
+    ensures row { Answers result world.new.flat (set_row name (own_strings who world.old.flat) world.old.flat) }
+    ensures sets { OnOk result (world.new.flat ≡ with_register name (own_strings who world.old.flat) world.old.flat) }
+    ensures wanting { IsErrOf result NoMemory → world.new.flat ≡ world.old.flat }
+    ensures acts { OnOk result (acts who world.new.flat ≡ true) }
+{
+    let texts = strings(alloc, world.lines(who), world.sels(who))?;
+    world.set_register(name, texts)
+}
+
+/// Sets a register, or `"` where none was chosen, to the texts of a client's selections, which hooks hear. It is refused where the
+/// register can't be set, by the name for that, and leaves the world.
 pub fn keep<P: Pattern, T: Turn>(
     alloc: Global,
     world: &mut World<P, T>,
@@ -40,11 +58,13 @@ pub fn keep<P: Pattern, T: Turn>(
 ) -> Result<(), EditError>
     requires { acts who world.old.flat ≡ true }
     ensures row { Answers result world.new.flat (keep_row register who world.old.flat) }
-    ensures sets { OnOk result (world.new.flat ≡ with_register (used register) (own_strings who world.old.flat) world.old.flat) }
-    ensures wanting { IsErrOf result NoMemory → world.new.flat ≡ world.old.flat }
+    ensures sets { OnOk result (world.new.flat ≡ kept_in register who world.old.flat) }
+    ensures wanting { IsErrOf result NoMemory → IsPartOfKeep register who world.old.flat world.new.flat }
 {
-    let texts = strings(alloc, world.lines(who), world.sels(who))?;
-    world.set_register(used(register), texts)
+    let name = used(register);
+    store(alloc, world, who, name)?;
+    world.note_register(alloc, who, name)?;
+    Ok(())
 }
 
 /// Characters as a string.

@@ -17,7 +17,9 @@ use Rattle.list_keys.specs.Changes.{changed_list, made_count}
 use Rattle.kak_world.specs.declared.ask.EditError.TheVariants.{TooManySelections}
 use Rattle.kak_world.specs.Flat.{Flat, text_of, sels_of, node_number_of, units_of, with_units, pending_of}
 use Rattle.kak_world.specs.Rows.{RowEnd, fails}
+use Rattle.kak_world.specs.declared.own.Mode.TheVariants.{Prompt}
 use Rattle.kak_world.specs.declared.own.Recording.{Recording}
+use Rattle.kak_world.specs.Events.{mode_entered}
 use Rattle.normal_keys.specs.declared.actions.Action.{Action}
 use Rattle.normal_keys.specs.declared.actions.Action.TheVariants as action
 use Rattle.normal_keys.specs.declared.actions.Repeated.{Repeated}
@@ -36,7 +38,7 @@ use Rattle.normal_keys.specs.Actions.{action_of}
 use Rattle.normal_keys.specs.Running.{further_runs, runs}
 use Rattle.normal_keys.specs.Listing.{taken_if_any, taken_if_few}
 use Rattle.normal_keys.specs.Repeating.{node_below, node_row, once}
-use Rattle.normal_keys.specs.Rows.{prefix_of, client_cleared, waiting, go_to_line, acted, character_of, place_of, sought_character, sought_place, object_of, sought_object, filled_row, chosen_register, answered, row_pending, row_normal}
+use Rattle.normal_keys.specs.Rows.{prefix_of, client_cleared, waiting, open_prompt, go_to_line, acted, character_of, place_of, sought_character, sought_place, object_of, sought_object, filled_row, chosen_register, answered, row_pending, row_normal}
 
 module _ (R : Flat → Flat → Type 0) (kept : HoldsOfChanges R) where
   -- a change of the world of which it holds
@@ -118,7 +120,7 @@ module _ (R : Flat → Flat → Type 0) (kept : HoldsOfChanges R) where
   holds-acted key (action.SelectsObject extent) prefix who flat = kept.own who _ flat
   holds-acted key action.Fills prefix who flat = kept.own who _ flat
   holds-acted key (action.Inserts entry) prefix who flat = holds_entry R kept entry prefix.register who flat
-  holds-acted key (action.Prompts purpose) prefix who flat = kept.own who _ flat
+  holds-acted key (action.Prompts purpose) prefix who flat = kept.behind flat (mode_entered Prompt who flat) (open_prompt purpose who flat) (kept.notes _ flat) (kept.own who _ (mode_entered Prompt who flat))
   holds-acted key (action.StepsToMatch direction) prefix who flat = kept.same flat
   holds-acted key (action.AddsMatch direction) prefix who flat = kept.same flat
   holds-acted key (action.Remembers bounds) prefix who flat = kept.registers _ _ flat

@@ -1,9 +1,15 @@
 -- The keys that can change the text, add selections to a list, handle a pattern or run a macro, or end what is recorded.
-use Rattle.std.specs.Prelude.{Bool, true, false, None, Some, is_some}
+use Rattle.std.specs.Prelude.{◌≡◌, ◌≤◌, ℕ, Bool, true, false, length, None, Some, is_some, IsErrOf}
 use Rattle.std.specs.declared.option.Option.{Option}
+use Rattle.std.specs.declared.result.Result.{Result}
 use Rattle.key_names.specs.declared.key.Key.{Key}
 use Rattle.list_keys.specs.Changes.{change_adds}
+use Rattle.kak_world.specs.declared.ask.Ask.{Ask}
+use Rattle.kak_world.specs.declared.ask.EditError.{EditError}
+use Rattle.kak_world.specs.declared.ask.EditError.TheVariants.{NoMemory}
 use Rattle.kak_world.specs.declared.own.Recording.{Recording}
+use Rattle.kak_world.specs.Events.{has_hooks}
+use Rattle.kak_world.specs.Flat.{Flat, sels_of}
 use Rattle.key_rows.specs.Entering.{edits_first}
 use Rattle.normal_keys.specs.declared.actions.Action.{Action}
 use Rattle.normal_keys.specs.declared.actions.Action.TheVariants.{Lists, Repeats, Edits, Inserts, Fills, StepsToMatch, AddsMatch, Remembers, Records, EndsRecording, Plays}
@@ -33,3 +39,7 @@ answer_grows _ = false
 abbrev pub key_grows : Option Recording → Option Key → Key → Bool
 key_grows recording None key = action_grows recording (action_of key)
 key_grows recording (Some waiting) key = answer_grows (action_of waiting)
+
+-- where no hook is held and the client has at most four selections, memory is wanting only for what can grow
+abbrev pub IsWantedToGrow : Result Ask EditError → Bool → ℕ → Flat → Type 0
+IsWantedToGrow result grows who flat = has_hooks flat ≡ false → length (sels_of who flat).list ≤ 4 → IsErrOf result NoMemory → grows ≡ true

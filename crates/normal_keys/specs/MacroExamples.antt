@@ -37,7 +37,7 @@ holding strings = record beginning { rest = record beginning.rest { registers = 
 
 -- that keys are asked for as a macro, and the one that is run behind them
 abbrev pub playing : List Key → Option Macro → Row
-playing ks again = Asks (Play (record { keys = ks; maps = true; again = again }))
+playing ks again = Asks (Play (record { keys = ks; hooks = true; maps = true; again = again }))
 
 -- recordings
 pub record RecordingExamples : Type 0 where

@@ -16,6 +16,7 @@ use Rattle.kak_world.specs.declared.purpose.Purpose.{Purpose}
 use Rattle.kak_world.specs.declared.purpose.Use.TheVariants.{Step, Add}
 use Rattle.kak_world.specs.Flat.{Flat, count_of, register_of, pending_of, with_own}
 use Rattle.kak_world.specs.Rows.{RowEnd, does}
+use Rattle.kak_world.specs.Events.{mode_entered}
 use Rattle.text_objects.specs.declared.kinds.Object.{Object}
 use Rattle.text_objects.specs.declared.kinds.Object.TheVariants as object
 use Rattle.key_rows.specs.declared.each.Extent.{Extent}
@@ -56,9 +57,9 @@ prefixed count register who flat = with_own who (λ o. record o { count = count;
 abbrev pub waiting : Key → ℕ → ℕ → Flat → Flat
 waiting key count who flat = with_own who (λ o. record o { count = count; pending = Some key }) flat
 
--- an empty prompt
+-- an empty prompt, which hooks hear
 abbrev pub open_prompt : Purpose → ℕ → Flat → Flat
-open_prompt purpose who flat = with_own who (λ o. record o { mode = Prompt; purpose = purpose; prompt = empty }) flat
+open_prompt purpose who flat = with_own who (λ o. record o { mode = Prompt; purpose = purpose; prompt = empty }) (mode_entered Prompt who flat)
 
 -- the first character of the line that the count says, or, without one, waiting for the name of a place
 abbrev pub go_to_line : Key → Reach → ℕ → ℕ → Flat → Flat

@@ -1,13 +1,14 @@
 //! The rows of normal mode.
 #![tactic(auto, using(kak_world::proofs::WorldLaws::world_laws))]
 
-ghost use Rattle.std.specs.Prelude.{◌≡◌, ◌≤◌, true, length, IsErrOf};
+ghost use Rattle.std.specs.Prelude.{◌≡◌, ◌≤◌, true, false, length, IsErrOf, IsOk, OnOk, OnErr};
 ghost use Rattle.kak_world.specs.Flat.{acts, sels_of, pending_of};
 ghost use Rattle.kak_world.specs.Rows.{GivesRow, does};
+ghost use Rattle.kak_world.specs.Events.{has_hooks};
 ghost use Rattle.key_rows.specs.Each.{each_changed};
 ghost use Rattle.normal_keys.specs.Rows.{open_prompt, go_to_line, acted, sought_character, chosen_register, answered, row_pending, row_normal};
 ghost use Rattle.normal_keys.specs.Recording.{recording_of};
-ghost use Rattle.normal_keys.specs.Growing.{action_grows, answer_grows, key_grows};
+ghost use Rattle.normal_keys.specs.Growing.{action_grows, answer_grows, key_grows, IsWantedToGrow};
 ghost use Rattle.normal_keys.specs.Wanting.{is_part_of_seeking, IsPartOfAction, IsPartOfAnswer, IsPartOfKey, IsPartOfNormal};
 
 use crate::actions::{Action, Repeated, action_of};
@@ -25,7 +26,7 @@ use key_rows::{
 };
 use motion_keys::{CharSearch, Motion, Place, Reach};
 use regex_ports::Pattern;
-use std::alloc::Global;
+use std::alloc::{AllocError, Global};
 
 // Does something to each selection once.
 fn change<P: Pattern, T: Turn>(
@@ -43,20 +44,24 @@ fn change<P: Pattern, T: Turn>(
     Ok(Ask::Nothing)
 }
 
-// Opens an empty prompt.
+// Opens an empty prompt. An `Err` leaves the world, and comes only where a hook is held.
 fn begin_prompt<P: Pattern, T: Turn>(
     alloc: Global,
     world: &mut World<P, T>,
     who: u32,
     purpose: Purpose,
-)
+) -> Result<(), AllocError>
     requires { acts who world.old.flat ≡ true }
-    ensures { world.new.flat ≡ open_prompt purpose who world.old.flat }
+    ensures opens { OnOk result (world.new.flat ≡ open_prompt purpose who world.old.flat) }
+    ensures err { OnErr result (world.new.flat ≡ world.old.flat) }
+    ensures calm { has_hooks world.old.flat ≡ false → IsOk result }
 {
+    world.note_entered(alloc, who, Mode::Prompt)?;
     let own = world.own_mut(who);
     own.mode = Mode::Prompt;
     own.purpose = purpose;
     own.prompt = EditLine::new(alloc);
+    Ok(())
 }
 
 // Goes to the line that a count says, or waits for the name of a place.
@@ -93,7 +98,7 @@ fn act<P: Pattern, T: Turn>(
     requires { acts who world.old.flat ≡ true }
     ensures row { GivesRow result world.new.flat (acted key action prefix who world.old.flat) }
     ensures wanting { IsErrOf result EditError.NoMemory → IsPartOfAction action prefix who world.old.flat world.new.flat }
-    ensures few { length (sels_of who world.old.flat).list ≤ 4 → IsErrOf result EditError.NoMemory → action_grows (recording_of who world.old.flat) action ≡ true }
+    ensures few { IsWantedToGrow result (action_grows (recording_of who world.old.flat) action) who world.old.flat }
 {
     let Prefix { count, register } = prefix;
     match action {
@@ -123,7 +128,7 @@ fn act<P: Pattern, T: Turn>(
             Ok(Ask::Nothing)
         }
         Action::Prompts(purpose) => {
-            begin_prompt(alloc, world, who, purpose);
+            begin_prompt(alloc, world, who, purpose)?;
             Ok(Ask::Nothing)
         }
         Action::StepsToMatch(direction) => {
@@ -237,7 +242,7 @@ fn run_pending<P: Pattern, T: Turn>(
     requires { acts who world.old.flat ≡ true }
     ensures row { GivesRow result world.new.flat (row_pending pending key prefix who world.old.flat) }
     ensures wanting { IsErrOf result EditError.NoMemory → IsPartOfKey pending key prefix who world.old.flat world.new.flat }
-    ensures few { length (sels_of who world.old.flat).list ≤ 4 → IsErrOf result EditError.NoMemory → key_grows (recording_of who world.old.flat) pending key ≡ true }
+    ensures few { IsWantedToGrow result (key_grows (recording_of who world.old.flat) pending key) who world.old.flat }
 {
     match pending {
         None => act(alloc, world, who, prefix, key, action_of(key)),
@@ -247,8 +252,8 @@ fn run_pending<P: Pattern, T: Turn>(
 
 /// Runs one key of normal mode, on each selection of a client. A refusal leaves the world behind the runs of the key before
 /// it, and takes what stood before the key away; its text is what the user is told. `BudgetSpent` comes where a further run was
-/// due and no unit was left. For at most four selections, only a key that edits or
-/// keeps texts, moves in the history, can add selections, handles a pattern, runs a macro or ends a recording takes memory.
+/// due and no unit was left. For at most four selections, and where no hook is held, only a key that edits or keeps texts, moves in
+/// the history, can add selections, handles a pattern, runs a macro or ends a recording takes memory.
 #[tactic(auto, unfolding(crate::specs::Rows::row_normal), using(kak_world::proofs::WorldLaws::world_laws))]
 pub fn normal_key<P: Pattern, T: Turn>(
     alloc: Global,
@@ -259,7 +264,7 @@ pub fn normal_key<P: Pattern, T: Turn>(
     requires { acts who world.old.flat ≡ true }
     ensures row { GivesRow result world.new.flat (row_normal key who world.old.flat) }
     ensures wanting { IsErrOf result EditError.NoMemory → IsPartOfNormal key who world.old.flat world.new.flat }
-    ensures few { length (sels_of who world.old.flat).list ≤ 4 → IsErrOf result EditError.NoMemory → key_grows (recording_of who world.old.flat) (pending_of who world.old.flat) key ≡ true }
+    ensures few { IsWantedToGrow result (key_grows (recording_of who world.old.flat) (pending_of who world.old.flat) key) who world.old.flat }
 {
     let (prefix, pending) = take_prefix(world, who);
     run_pending(alloc, world, who, prefix, pending, key)

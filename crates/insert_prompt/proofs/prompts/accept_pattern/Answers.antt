@@ -12,4 +12,4 @@ returns-then-is_empty-clause-row g c =
     let flat = c.args.world.now.flat in
     let typed : c.whole.result.now ≡ whole (prompt_of who flat) = c.whole.ensures ∙ ap (λ (o : Own). whole o.prompt) c.own.ensures in
     let none : length (whole (prompt_of who flat)) ≡ 0 = omega (arith, eqb-true (length c.whole.result.now) 0 (sym c.is_empty.ensures ∙ c.if-is_empty.true), ap length typed) in
-    nothing-typed (whole (prompt_of who flat)) c.args.wanted who flat c.leave-nothing.new.world.flat c.in_ok-ask.ask none c.in_ok-ask.ensures.row c.leave-nothing.ensures.left
+    nothing-typed (whole (prompt_of who flat)) c.args.wanted who flat c.leave.new.world.flat c.in_ok-ask.ask none c.in_ok-ask.ensures.row c.in_ok-_nothing.ensures.left

@@ -1,4 +1,4 @@
-use Rattle.std.proofs.Common.{Some, ap, sym, ◌∙◌}
+use Rattle.std.proofs.Common.{ap, sym, ◌∙◌}
 use Rattle.edit_line.specs.Edits.{put_before_cursor}
 use Rattle.insert_prompt.specs.Rows.{prompt_edited}
 use Rattle.insert_prompt.proofs.WaitingLemmas.{register-goes-in, register-is-none}
