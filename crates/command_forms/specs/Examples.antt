@@ -71,6 +71,10 @@ abbrev pub defining_order : ℕ → ℕ → List ℕ → List ℕ → Option (Re
 defining_order least most name commands =
     tables_to (table.Define (record { name = name; allowed = allowed least most; commands = commands }))
 
+abbrev pub hooking_order : List ℕ → Bool → Option (Result Order OrderError)
+hooking_order group once =
+    tables_to (table.Hook (record { scope = codes "global"; name = codes "N"; pattern = codes "p"; commands = codes "c"; group = group; once = once }))
+
 abbrev pub playing_order : Bool → Bool → Option (Result Order OrderError)
 playing_order hooks maps = reads (order.Play (record { keys = codes "l"; hooks = hooks; maps = maps }))
 
@@ -202,6 +206,13 @@ pub record WorkedExamples : Type 0 where
   pub parameters_of_word : order_in (codes "def -params x -y") ≡ refuses BadValue
   pub parameters_lack : order_in (codes "def -params") ≡ refuses WrongArgumentCount
   pub define_of_one : order_in (codes "def x") ≡ refuses WrongArgumentCount
+  -- hooks
+  pub hook : order_in (codes "hook global N p c") ≡ hooking_order [] false
+  pub hook_of_group : order_in (codes "hook -once -group g -always global N p c") ≡ hooking_order (codes "g") true
+  pub last_group : order_in (codes "hook -group g -group h global N p c") ≡ hooking_order (codes "h") false
+  pub hook_of_three : order_in (codes "hook global N p") ≡ refuses WrongArgumentCount
+  pub hooks_removed : order_in (codes "rmhooks global g") ≡ tables_to (table.RemoveHooks (record { scope = codes "global"; group = codes "g" }))
+  pub hooks_removed_of_one : order_in (codes "remove-hooks global") ≡ refuses WrongArgumentCount
   -- what is run
   pub keys : order_in (codes "exec l") ≡ playing_order false false
   pub keys_with_maps : order_in (codes "execute-keys -with-maps l") ≡ playing_order false true

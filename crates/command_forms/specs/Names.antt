@@ -33,6 +33,8 @@ full_names =
     ∷ row (codes "alias") name.Alias
     ∷ row (codes "unalias") name.Unalias
     ∷ row (codes "define-command") name.Define
+    ∷ row (codes "hook") name.Hook
+    ∷ row (codes "remove-hooks") name.RemoveHooks
     ∷ row (codes "execute-keys") name.ExecuteKeys
     ∷ row (codes "evaluate-commands") name.Evaluate
     ∷ row (codes "try") name.Try
@@ -57,6 +59,7 @@ short_names =
     ∷ row (codes "addhl") name.AddHighlighter
     ∷ row (codes "rmhl") name.RemoveHighlighter
     ∷ row (codes "def") name.Define
+    ∷ row (codes "rmhooks") name.RemoveHooks
     ∷ row (codes "exec") name.ExecuteKeys
     ∷ row (codes "eval") name.Evaluate
     ∷ []

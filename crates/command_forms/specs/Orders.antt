@@ -19,7 +19,7 @@ use Rattle.command_forms.specs.Switches.{TakenSwitches, is_given, word_or_empty,
 use Rattle.command_forms.specs.Arguments.{Headed, Paired, no_words, one_word, optional_word, headed, paired}
 use Rattle.command_forms.specs.Places.{descriptions}
 use Rattle.command_forms.specs.Painters.{highlighter_added, highlighter_removed}
-use Rattle.command_forms.specs.TableOrders.{mapping, unmapping, aliasing, unaliasing, defining}
+use Rattle.command_forms.specs.TableOrders.{mapping, unmapping, aliasing, unaliasing, defining, hooking, hooks_removed}
 use Rattle.command_forms.specs.Runs.{playing, trying}
 
 -- the type that a word names
@@ -114,6 +114,8 @@ order_by name.Unmap given ws = then_as order.Table (unmapping ws)
 order_by name.Alias given ws = then_as order.Table (aliasing ws)
 order_by name.Unalias given ws = then_as order.Table (unaliasing ws)
 order_by name.Define given ws = then_as order.Table (defining given ws)
+order_by name.Hook given ws = then_as order.Table (hooking given ws)
+order_by name.RemoveHooks given ws = then_as order.Table (hooks_removed ws)
 order_by name.ExecuteKeys given ws = playing given ws
 order_by name.Evaluate given ws = then_as order.Eval (one_word ws)
 order_by name.Try given ws = trying ws

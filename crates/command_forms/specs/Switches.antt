@@ -31,6 +31,11 @@ define_switch word =
     (row (codes "-override") switch.Override ∷ row (codes "-hidden") switch.Hidden ∷ row (codes "-docstring") switch.Docstring
     ∷ row (codes "-params") switch.Params ∷ [])
 
+-- of the one that adds hooks
+abbrev pub hook_switch : List ℕ → Option Switch
+hook_switch word =
+    looked_up word (row (codes "-group") switch.Group ∷ row (codes "-once") switch.Once ∷ row (codes "-always") switch.Always ∷ [])
+
 -- of the one that runs keys
 abbrev pub keys_switch : List ℕ → Option Switch
 keys_switch word =
@@ -46,6 +51,7 @@ number_switch word = looked_up word (row (codes "-hlcursor") switch.HlCursor ∷
 abbrev pub command_switch : CommandName → List ℕ → Option Switch
 command_switch name.Declare word = declare_switch word
 command_switch name.Define word = define_switch word
+command_switch name.Hook word = hook_switch word
 command_switch name.ExecuteKeys word = keys_switch word
 command_switch name.Set word = looked_up word (row (codes "-add") switch.Add ∷ [])
 command_switch name.Select word = looked_up word (row (codes "-codepoint") switch.Codepoint ∷ [])
@@ -64,6 +70,7 @@ abbrev pub takes_word : Switch → Bool
 takes_word switch.Docstring = true
 takes_word switch.Title = true
 takes_word switch.Separator = true
+takes_word switch.Group = true
 takes_word switch.Params = true
 takes_word _ = false
 
@@ -82,9 +89,12 @@ switch_number switch.Title = 4
 switch_number switch.Override = 5
 switch_number switch.HlCursor = 6
 switch_number switch.Separator = 7
-switch_number switch.Params = 8
-switch_number switch.WithHooks = 9
-switch_number switch.WithMaps = 10
+switch_number switch.Group = 8
+switch_number switch.Once = 9
+switch_number switch.Always = 10
+switch_number switch.Params = 11
+switch_number switch.WithHooks = 12
+switch_number switch.WithMaps = 13
 
 -- whether two switches are one
 abbrev pub is_same_switch : Switch → Switch → Bool

@@ -33,4 +33,6 @@ pub use parting::parted;
 pub use places::{ArgumentPlace, Columns, Described, Descriptions, Selection};
 pub use reading::read_order_of;
 pub use runs::{PlayOrder, TryOrder};
-pub use table_orders::{AliasName, AliasWords, CommandTexts, KeyMapping, KeyName, TableOrder};
+pub use table_orders::{
+    AliasName, AliasWords, CommandTexts, HookGroup, HookWords, KeyMapping, KeyName, TableOrder,
+};

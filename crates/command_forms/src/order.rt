@@ -50,7 +50,7 @@ pub enum Order {
     UnsetFace(FaceName),
     /// Add or remove a highlighter.
     Highlighter(HighlighterOrder),
-    /// Change a table of maps, aliases or defined commands.
+    /// Change a table of maps, aliases, defined commands or hooks.
     Table(TableOrder),
     /// Run keys.
     Play(PlayOrder),

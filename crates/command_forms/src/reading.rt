@@ -15,7 +15,9 @@ use crate::painters::{highlighter_added, highlighter_removed};
 use crate::places::{Columns, Selection};
 use crate::runs::{playing, trying};
 use crate::switches::{Given, Owner, Switch, is_given, take_switches, word_or_empty};
-use crate::table_orders::{aliasing, defining, mapping, unaliasing, unmapping};
+use crate::table_orders::{
+    aliasing, defining, hooking, hooks_removed, mapping, unaliasing, unmapping,
+};
 use byte_texts::Words;
 use scope_options::OptionType;
 use std::alloc::{AllocError, Global};
@@ -213,6 +215,8 @@ fn order_by(
         CommandName::Alias => Ok(Order::Table(aliasing(alloc, words)?)),
         CommandName::Unalias => Ok(Order::Table(unaliasing(alloc, words)?)),
         CommandName::Define => Ok(Order::Table(defining(alloc, given, words)?)),
+        CommandName::Hook => Ok(Order::Table(hooking(alloc, given, words)?)),
+        CommandName::RemoveHooks => Ok(Order::Table(hooks_removed(alloc, words)?)),
         CommandName::ExecuteKeys => playing(alloc, given, words),
         CommandName::Evaluate => Ok(Order::Eval(one_word(alloc, words)?)),
         CommandName::Try => trying(alloc, words),

@@ -3,7 +3,7 @@
 ghost use Rattle.std.specs.Prelude.{◌≡◌, ◌==◌, ◌++◌, ◌∷◌, [], map, string_bytes, slice_index, unwrap_or, Ok, None, IfOk, IfErr, OnOk};
 ghost use Rattle.std.specs.Option.{option_copied};
 ghost use Rattle.std.specs.List.{list_any};
-ghost use Rattle.command_forms.specs.Switches.{begins_dash, switch_named, declare_switch, define_switch, keys_switch, number_switch, command_switch, takes_word, is_good, switch_number, is_same_switch, is_given, word_given, word_or_empty, taken, AreSwitchesTaken};
+ghost use Rattle.command_forms.specs.Switches.{begins_dash, switch_named, declare_switch, define_switch, hook_switch, keys_switch, number_switch, command_switch, takes_word, is_good, switch_number, is_same_switch, is_given, word_given, word_or_empty, taken, AreSwitchesTaken};
 ghost use Rattle.command_forms.specs.Errors.{IsDue};
 
 use crate::error::OrderError;
@@ -23,6 +23,9 @@ pub enum Switch {
     Override,
     HlCursor,
     Separator,
+    Group,
+    Once,
+    Always,
     Params,
     WithHooks,
     WithMaps,
@@ -83,6 +86,18 @@ fn define_switch(word: &str) -> Option<Switch>
     }
 }
 
+// The switch of the command that adds hooks.
+fn hook_switch(word: &str) -> Option<Switch>
+    ensures { result ≡ hook_switch word.now }
+{
+    match word {
+        "-group" => Some(Switch::Group),
+        "-once" => Some(Switch::Once),
+        "-always" => Some(Switch::Always),
+        _ => None,
+    }
+}
+
 // The switch of the command that runs keys.
 fn keys_switch(word: &str) -> Option<Switch>
     ensures { result ≡ keys_switch word.now }
@@ -112,6 +127,7 @@ fn command_switch(name: CommandName, word: &str) -> Option<Switch>
     match name {
         CommandName::Declare => declare_switch(word),
         CommandName::Define => define_switch(word),
+        CommandName::Hook => hook_switch(word),
         CommandName::ExecuteKeys => keys_switch(word),
         CommandName::Set if word == "-add" => Some(Switch::Add),
         CommandName::Select if word == "-codepoint" => Some(Switch::Codepoint),
@@ -138,7 +154,7 @@ fn takes_word(switch: Switch) -> bool
 {
     matches!(
         switch,
-        Switch::Docstring | Switch::Title | Switch::Separator | Switch::Params
+        Switch::Docstring | Switch::Title | Switch::Separator | Switch::Group | Switch::Params
     )
 }
 
@@ -165,9 +181,12 @@ fn switch_number(switch: Switch) -> u8
         Switch::Override => 5,
         Switch::HlCursor => 6,
         Switch::Separator => 7,
-        Switch::Params => 8,
-        Switch::WithHooks => 9,
-        Switch::WithMaps => 10,
+        Switch::Group => 8,
+        Switch::Once => 9,
+        Switch::Always => 10,
+        Switch::Params => 11,
+        Switch::WithHooks => 12,
+        Switch::WithMaps => 13,
     }
 }
 

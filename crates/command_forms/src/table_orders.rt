@@ -1,17 +1,17 @@
-//! Maps, aliases and defined commands, as commands order them.
+//! Maps, aliases, defined commands and hooks, as commands order them.
 
 ghost use Rattle.std.specs.Prelude.{◌≡◌, map, string_bytes, Ok, IfOk, IfErr};
-ghost use Rattle.command_forms.specs.TableOrders.{mapping, unmapping, aliasing, unaliasing, defining};
+ghost use Rattle.command_forms.specs.TableOrders.{mapping, unmapping, aliasing, unaliasing, defining, hooking, hooks_removed};
 ghost use Rattle.command_forms.specs.Errors.{IsDue};
 
 use crate::arguments::{no_words, one_word, paired, text_of};
 use crate::error::OrderError;
 use crate::parameters::{Allowed, allowed_given};
-use crate::switches::Given;
+use crate::switches::{Given, Switch, is_given, word_or_empty};
 use byte_texts::Utf8Text;
 use std::alloc::Global;
 
-/// What is to be changed in the tables. Scopes, modes and keys aren't read yet.
+/// What is to be changed in the tables. Scopes, modes, names of hooks and keys aren't read yet.
 #[derive(Drop, Debug)]
 pub enum TableOrder {
     /// Have a key stand for others.
@@ -24,6 +24,10 @@ pub enum TableOrder {
     Unalias(AliasName),
     /// Define a command.
     Define(CommandTexts),
+    /// Add a hook.
+    Hook(HookWords),
+    /// Remove the hooks of a group.
+    RemoveHooks(HookGroup),
 }
 
 /// A key, in a mode and at a scope, and the keys that it is to stand for.
@@ -64,6 +68,26 @@ pub struct CommandTexts {
     pub name: Utf8Text,
     pub allowed: Allowed,
     pub commands: Utf8Text,
+}
+
+/// A hook that is to be added at a scope.
+#[derive(Drop, Debug)]
+pub struct HookWords {
+    pub scope: Utf8Text,
+    pub name: Utf8Text,
+    pub pattern: Utf8Text,
+    pub commands: Utf8Text,
+    /// The group by which it may be removed; empty where it is given none.
+    pub group: Utf8Text,
+    /// Whether it is removed before it is run.
+    pub once: bool,
+}
+
+/// The hooks of a group, at a scope.
+#[derive(Drop, Debug)]
+pub struct HookGroup {
+    pub scope: Utf8Text,
+    pub group: Utf8Text,
 }
 
 /// Mapping takes a scope, a mode, a key and keys.
@@ -137,4 +161,39 @@ pub(crate) fn defining(
         commands: text_of(alloc, commands)?,
     };
     no_words(TableOrder::Define(definition), more)
+}
+
+/// A hook takes a scope, the name of its event, a pattern and commands.
+pub(crate) fn hooking(
+    alloc: Global,
+    given: &[Given],
+    words: &[String],
+) -> Result<TableOrder, OrderError>
+    ensures order { IfOk result (λ o. hooking given.now (map (λ w. string_bytes w) words.now) ≡ Ok o) }
+    ensures refused { IfErr result (λ e. IsDue e (hooking given.now (map (λ w. string_bytes w) words.now))) }
+{
+    let (scope, name, more) = paired(words)?;
+    let (pattern, commands, more) = paired(more)?;
+    let hook = HookWords {
+        scope: text_of(alloc, scope)?,
+        name: text_of(alloc, name)?,
+        pattern: text_of(alloc, pattern)?,
+        commands: text_of(alloc, commands)?,
+        group: word_or_empty(alloc, Switch::Group, given)?,
+        once: is_given(Switch::Once, given),
+    };
+    no_words(TableOrder::Hook(hook), more)
+}
+
+/// Removing hooks takes a scope and a group.
+pub(crate) fn hooks_removed(alloc: Global, words: &[String]) -> Result<TableOrder, OrderError>
+    ensures order { IfOk result (λ o. hooks_removed (map (λ w. string_bytes w) words.now) ≡ Ok o) }
+    ensures refused { IfErr result (λ e. IsDue e (hooks_removed (map (λ w. string_bytes w) words.now))) }
+{
+    let (scope, group, more) = paired(words)?;
+    let hooks = HookGroup {
+        scope: text_of(alloc, scope)?,
+        group: text_of(alloc, group)?,
+    };
+    no_words(TableOrder::RemoveHooks(hooks), more)
 }

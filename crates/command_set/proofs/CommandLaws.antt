@@ -1,6 +1,6 @@
 -- Commands and what is made of files take no units, and keep those that have joined.
-use Rattle.std.proofs.Common.{◌≡◌, ◌<◌, ◌+◌, ◌*◌, ℕ, zero, suc, Bool, true, false, List, [], ◌∷◌, refl, sym, ap, ◌∙◌, arith}
-use Rattle.std.specs.Prelude.{if◌then◌else◌, is_some, unwrap_or, slice_index_or, encode_utf8_all, chars, Some, None, Ok, Err}
+use Rattle.std.proofs.Common.{◌≡◌, ◌<◌, ◌+◌, ◌*◌, ℕ, suc, Bool, true, false, List, [], ◌∷◌, refl, sym, ap, ◌∙◌, arith}
+use Rattle.std.specs.Prelude.{if◌then◌else◌, is_some, unwrap_or, slice_index_or, chars, Some, None, Ok, Err}
 use Rattle.std.specs.declared.option.Option.{Option}
 use Rattle.std.specs.declared.result.Result.{Result}
 use Rattle.tables.proofs.TableLemmas.{by_test}
@@ -23,27 +23,28 @@ use Rattle.face_texts.specs.Tables.{face_set_in, word_text}
 use Rattle.scope_options.specs.declared.scope.Scope.{Scope}
 use Rattle.scope_tables.specs.declared.definitions.Definition.{Definition}
 use Rattle.scope_tables.specs.Definitions.{definition_of}
-use Rattle.scope_options.specs.declared.scope.Scope.TheVariants.{Buffer as InBuffer}
 use Rattle.scope_options.specs.declared.setting.Setting.{Setting}
 use Rattle.scope_options.specs.declared.options.OptionError.{OptionError}
 use Rattle.scope_options.specs.Changes.{declare_in, option_set_in, option_unset_in}
-use Rattle.kak_world.specs.declared.ask.Saving.{Saving}
-use Rattle.kak_world.specs.Flat.{Buffer, Flat, shown_of, name_of, units_of, options_of, faces_of, tables_of, is_there, with_own, with_sels, with_options, with_faces}
+use Rattle.kak_world.specs.Flat.{Buffer, Flat, shown_of, units_of, options_of, faces_of, tables_of, status_of, is_there, with_own, with_sels, with_options, with_faces}
 use Rattle.kak_world.specs.Registers.{set_unless, set_row}
-use Rattle.kak_world.specs.Dropping.{KeepsJoined, dropped}
-use Rattle.kak_world.specs.Showing.{first_gap, buffer_placed, has_all_buffers, buffer_opened, shows}
-use Rattle.kak_world.specs.Saving.{is_named, buffer_number_from, number_named, unsaved_names, others_leave, saved_in}
-use Rattle.kak_world.specs.Rows.{Row, RowEnd, Asks, does, stages_of}
+use Rattle.kak_world.specs.Dropping.{KeepsJoined}
+use Rattle.kak_world.specs.Showing.{has_all_buffers, shows}
+use Rattle.kak_world.specs.Saving.{is_named, buffer_number_from, number_named, unsaved_names, others_leave}
+use Rattle.kak_world.specs.declared.ask.Ask.TheVariants.{Nothing}
+use Rattle.kak_world.specs.Rows.{Row, RowEnd, Asks, Fails, GivesUp, does}
 use Rattle.kak_world.proofs.WorldLaws.{units_in, rest_own, rest_rest, rest_sels}
 use Rattle.kak_world.proofs.KeepingLaws.{keeps_own, keeps_rest, keeps_sels, keeps_set_row}
-use Rattle.kak_world.proofs.ShownLaws.{rest_shows, rest_dropped}
-use Rattle.kak_world.proofs.StayingLemmas.{keeps_dropped}
-use Rattle.kak_world.proofs.GapLemmas.{gaps_are_taken, keeps_opened}
+use Rattle.kak_world.proofs.ShownLaws.{rest_shows}
 use Rattle.kak_world.proofs.SavingLemmas.{named-some}
-use Rattle.kak_world.proofs.JoinedLemmas.{joined_kept, joined_same, joined_then, stays_shows, keeps_saved}
-use Rattle.command_set.specs.Buffers.{shown_if, show_row, edited_by_number, edit_named_row, dropped_unless, drop_at, drop_if, drop_row, quit_unless, quit_row, write_row, unsaved_in}
-use Rattle.command_set.specs.Options.{scope_named, is_declared, options_row, declare_row, set_scoped, set_option_row, unset_scoped, unset_option_row}
-use Rattle.command_set.specs.Registers.{register_set, register_row, echo_row}
+use Rattle.kak_world.proofs.JoinedLemmas.{joined_kept, stays_shows}
+use Rattle.command_set.specs.Buffers.{shown_if, show_row, edited_by_number, edit_named_row, dropped_unless, drop_at, drop_if, drop_row, quit_unless, quit_row, unsaved_in}
+use Rattle.command_set.specs.Options.{scope_named, is_declared, options_row, set_scoped, option_modified, unset_scoped}
+use Rattle.kak_world.specs.declared.own.StatusText.TheVariants.{Said}
+use Rattle.kak_world.specs.Events.{displayed, register_modified}
+use Rattle.key_rows.specs.Sequence.{behind, then_row}
+use Rattle.key_rows.specs.Reading.{joined_text}
+use Rattle.command_set.specs.Registers.{register_set, is_refusal, echo_row}
 use Rattle.command_set.specs.Selecting.{described_selected}
 use Rattle.command_set.specs.Expanding.{table_of}
 use Rattle.command_set.specs.Running.{call_row}
@@ -53,6 +54,7 @@ use Rattle.command_set.specs.Faces.{faces_row, face_read_row, set_face_row, unse
 use Rattle.command_set.specs.Laws.{IsTame}
 use Rattle.command_set.proofs.PaintingLaws.{tame-same, tame-if, tame-told, tame-highlighter}
 use Rattle.command_set.proofs.TableLaws.{tame-table}
+use Rattle.command_set.proofs.NotingLaws.{tame_noted}
 
 -- a number that is found by a name is a buffer's
 named-from : (k : ℕ) (name : List ℕ) (bs : List (Option Buffer)) (n : ℕ) → buffer_number_from k name bs ≡ Some n → (m : ℕ) × (n ≡ k + m) × (is_there m bs ≡ true)
@@ -68,8 +70,8 @@ named-there name flat n e =
     let found = named-from 0 name flat.buffers n e in
     ap (λ k. is_there k flat.buffers) (let same : n ≡ found.0 = omega (arith, found.1) in same) ∙ found.2
 
-tame-shows : (who n : ℕ) (flat : Flat) → is_there n flat.buffers ≡ true → IsTame flat (does (shows who n flat))
-tame-shows who n flat t = record { units = ap units_in (rest_shows who n flat); keeps = stays_shows who n flat t }
+tame-shows : (who n : ℕ) (flat : Flat) → is_there n flat.buffers ≡ true → IsTame flat (does (displayed who (shows who n flat)))
+tame-shows who n flat t = tame_noted _ flat (shows who n flat) (Asks Nothing) (Asks Nothing) (record { units = ap units_in (rest_shows who n flat); keeps = stays_shows who n flat t })
 
 tame-show : (name : List ℕ) (who : ℕ) (flat : Flat) → IsTame flat (show_row name who flat)
 tame-show name who flat = by (number_named (chars name) flat) refl
@@ -86,7 +88,7 @@ tame-edit name who flat = by (number_named (chars name) flat) refl
     by (Some n) e = tame-shows who n flat (named-there (chars name) flat n e)
 
 tame-dropped : (o : Option (List ℕ)) (n : ℕ) (flat : Flat) → IsTame flat (dropped_unless o n flat)
-tame-dropped None n flat = record { units = ap units_in (rest_dropped n flat); keeps = keeps_dropped n flat }
+tame-dropped None n flat = tame_noted _ flat flat (Asks Nothing) _ (tame-same flat _)
 tame-dropped (Some name) n flat = tame-same flat _
 
 tame-drop_at : (forced : Bool) (n : ℕ) (flat : Flat) → IsTame flat (drop_at forced n flat)
@@ -113,9 +115,20 @@ tame-options : (name word : List ℕ) (r : Result (List Setting) OptionError) (f
 tame-options name word (Ok rows) flat = record { units = ap units_in (rest_rest _ flat); keeps = joined_kept flat (with_options rows flat) (keeps_rest _ flat (λ r. refl)) }
 tame-options name word (Err e) flat = tame-same flat _
 
-tame-set_scoped : (o : Option Scope) (add : Bool) (word name : List ℕ) (values : List (List ℕ)) (flat : Flat) → IsTame flat (set_scoped o add word name values flat)
-tame-set_scoped None add word name values flat = tame-same flat _
-tame-set_scoped (Some scope) add word name values flat = tame-options name word (option_set_in scope name values add (options_of flat)) flat
+-- a row that goes on with what hooks are to hear, where it is done
+tame-then : (flat : Flat) (end : RowEnd) (next : Flat → RowEnd) → IsTame flat end → ((w : Flat) → IsTame flat (does w) → IsTame flat (next w)) → IsTame flat (then_row end next)
+tame-then flat end next t h = by end.row end.world (record { units = t.units; keeps = t.keeps })
+  where
+    by : (row : Row) (w : Flat) → IsTame flat (does w) → IsTame flat (behind row next w)
+    by (Asks ask) w k = h w k
+    by (Fails text) w k = record { units = k.units; keeps = k.keeps }
+    by GivesUp w k = record { units = k.units; keeps = k.keeps }
+
+tame-set_scoped : (o : Option Scope) (add : Bool) (word name : List ℕ) (values : List (List ℕ)) (who : ℕ) (flat : Flat) → IsTame flat (set_scoped o add word name values who flat)
+tame-set_scoped None add word name values who flat = tame-same flat _
+tame-set_scoped (Some scope) add word name values who flat =
+    tame-then flat (options_row name word (option_set_in scope name values add (options_of flat)) flat) (λ w. does (option_modified scope name who w))
+    (tame-options name word (option_set_in scope name values add (options_of flat)) flat) (λ w k. tame_noted _ flat w (Asks Nothing) (Asks Nothing) k)
 
 tame-unset_scoped : (o : Option Scope) (word name : List ℕ) (flat : Flat) → IsTame flat (unset_scoped o word name flat)
 tame-unset_scoped None word name flat = tame-same flat _
@@ -130,9 +143,11 @@ units-row : (c : ℕ) (values : List (List ℕ)) (flat : Flat) → units_of (set
 unfolding set_row
 units-row c values flat = units-set (register_refusal c values) c values flat
 
-tame-register : (o : Option ℕ) (name : List ℕ) (values : List (List ℕ)) (flat : Flat) → IsTame flat (register_set o name values flat)
-tame-register None name values flat = tame-same flat _
-tame-register (Some c) name values flat = record { units = units-row c values flat; keeps = joined_kept flat (set_row c values flat).world (keeps_set_row c values flat) }
+tame-register : (o : Option ℕ) (name : List ℕ) (values : List (List ℕ)) (who : ℕ) (flat : Flat) → IsTame flat (register_set o name values who flat)
+tame-register None name values who flat = tame-same flat _
+tame-register (Some c) name values who flat =
+    tame-then flat (set_row c values flat) (λ w. does (register_modified c who w))
+    (record { units = units-row c values flat; keeps = joined_kept flat (set_row c values flat).world (keeps_set_row c values flat) }) (λ w k. tame_noted _ flat w (Asks Nothing) (Asks Nothing) k)
 
 -- selections
 tame-selected : (columns : Columns) (ds : List Described) (who : ℕ) (flat : Flat) → IsTame flat (described_selected columns ds who flat)
@@ -142,7 +157,14 @@ tame-selected columns (d ∷ ds) who flat =
 
 -- what is said
 tame-echo : (words : List (List ℕ)) (who : ℕ) (flat : Flat) → IsTame flat (echo_row words who flat)
-tame-echo words who flat = record { units = ap units_in (rest_own who _ flat); keeps = joined_kept flat (with_own who _ flat) (keeps_own who _ flat) }
+tame-echo words who flat = by (is_refusal (status_of who flat))
+  where
+    said : Flat
+    said = with_own who (λ o. record o { status = Said (joined_text words) }) flat
+
+    by : (t : Bool) → IsTame flat (does (if t then flat else said))
+    by true = tame-same flat _
+    by false = record { units = ap units_in (rest_own who _ flat); keeps = joined_kept flat said (keeps_own who _ flat) }
 
 -- boxes
 tame-info : (title : List ℕ) (text : Option (List ℕ)) (who : ℕ) (flat : Flat) → IsTame flat (info_row title text who flat)
@@ -170,8 +192,8 @@ tame-unset_face scope name flat = tame-if flat _ _ _ (tame-if flat _ _ _ (tame-w
 tame-order : (o : Order) (who : ℕ) (flat : Flat) → IsTame flat (row_order o who flat)
 tame-order order.Nothing who flat = tame-same flat _
 tame-order (order.Edit name) who flat = tame-edit name who flat
-tame-order (order.Write file) who flat = tame-same flat _
-tame-order order.WriteQuit who flat = tame-same flat _
+tame-order (order.Write file) who flat = tame_noted _ flat flat (Asks Nothing) _ (tame-same flat _)
+tame-order order.WriteQuit who flat = tame_noted _ flat flat (Asks Nothing) _ (tame-same flat _)
 tame-order order.Quit who flat = tame-quit who flat
 tame-order order.QuitForced who flat = tame-same flat _
 tame-order (order.Buffer name) who flat = tame-show name who flat
@@ -179,9 +201,9 @@ tame-order (order.Delete name) who flat = tame-drop false name who flat
 tame-order (order.DeleteForced name) who flat = tame-drop true name who flat
 tame-order (order.Declare d) who flat = tame-options d.name [] (declare_in d.kind d.name d.values (options_of flat)) flat
 tame-order (order.Set s) who flat =
-    tame-if flat (is_declared s.option.name flat) _ _ (tame-set_scoped (scope_named s.option.scope who flat) s.add s.option.scope s.option.name s.values flat) (tame-same flat _)
+    tame-if flat (is_declared s.option.name flat) _ _ (tame-set_scoped (scope_named s.option.scope who flat) s.add s.option.scope s.option.name s.values who flat) (tame-same flat _)
 tame-order (order.Unset o) who flat = tame-if flat (is_declared o.name flat) _ _ (tame-unset_scoped (scope_named o.scope who flat) o.scope o.name flat) (tame-same flat _)
-tame-order (order.SetRegister r) who flat = tame-register (named r.name) r.name r.values flat
+tame-order (order.SetRegister r) who flat = tame-register (named r.name) r.name r.values who flat
 tame-order (order.Select s) who flat = tame-selected s.columns s.ranges who flat
 tame-order (order.Echo words) who flat = tame-echo words who flat
 tame-order (order.Fail text) who flat = tame-same flat _

@@ -1,8 +1,7 @@
--- What is made of files takes no units, keeps those that have joined, and asks for nothing that a row comes behind.
-use Rattle.std.proofs.Common.{◌≡◌, ◌<◌, ◌+◌, ◌*◌, ℕ, Bool, true, false, List, [], ◌∷◌, refl, sym, ap, ap₂, ◌∙◌, arith}
+-- What is made of files takes no units, keeps those that have joined, and has fewer rows behind it than what asked for them.
+use Rattle.std.proofs.Common.{◌≡◌, ◌<◌, ◌+◌, ◌*◌, ℕ, Bool, true, false, List, [], ◌∷◌, refl, ap, ap₂, ◌∙◌, arith}
 use Rattle.std.proofs.lemmas.Bool.{and_from}
-use Rattle.std.specs.Prelude.{if◌then◌else◌, is_some, slice_index_or, chars, Some, None, Ok, Err}
-use Rattle.std.specs.declared.option.Option.{Option}
+use Rattle.std.specs.Prelude.{if◌then◌else◌, is_some, slice_index_or, chars, None, Ok, Err}
 use Rattle.std.specs.declared.result.Result.{Result}
 use Rattle.kak_ports.specs.declared.sink.Put.{Put}
 use Rattle.kak_ports.specs.declared.sink.Put.TheVariants as put
@@ -19,18 +18,21 @@ use Rattle.scope_options.specs.declared.setting.Setting.{Setting}
 use Rattle.scope_options.specs.declared.options.OptionError.{OptionError}
 use Rattle.scope_options.specs.Changes.{option_set_in}
 use Rattle.kak_world.specs.declared.ask.Saving.{Saving}
-use Rattle.kak_world.specs.Flat.{Buffer, Flat, units_of, options_of, is_there, is_joined, turn_of, is_turn_of, acts, with_options, with_rest}
+use Rattle.kak_world.specs.Flat.{Flat, units_of, options_of, is_there, is_joined, turn_of, is_turn_of, acts, with_options, with_rest}
 use Rattle.kak_world.specs.Dropping.{KeepsJoined}
-use Rattle.kak_world.specs.Showing.{first_gap, buffer_placed, has_all_buffers, buffer_opened, shows}
-use Rattle.kak_world.specs.Saving.{is_named, unsaved_names, others_leave, saved_in}
-use Rattle.kak_world.specs.Rows.{Row, RowEnd, does, stages_of}
+use Rattle.kak_world.specs.Showing.{first_gap, has_all_buffers, buffer_opened, shows}
+use Rattle.kak_world.specs.Saving.{is_named, saved_in}
+use Rattle.scope_tables.specs.declared.names.HookName.TheVariants.{BufCreate, BufOpenFile, BufWritePost}
+use Rattle.kak_world.specs.declared.events.HookEvent.{HookEvent}
+use Rattle.kak_world.specs.Events.{event_of, noted, displayed}
+use Rattle.kak_world.specs.Rows.{RowEnd, stages_of, stages_of_write}
+use Rattle.kak_world.proofs.EventLaws.{keeps_noted, units_noted}
 use Rattle.kak_world.proofs.KeepingLaws.{keeps_rest}
 use Rattle.kak_world.proofs.WorldLaws.{units_in, rest_rest, acts_joined, acts_turned}
 use Rattle.kak_world.proofs.ShownLaws.{rest_shows, rest_opened}
 use Rattle.kak_world.proofs.GapLemmas.{gaps_are_taken, keeps_opened}
 use Rattle.kak_world.proofs.JoinedLemmas.{joined_kept, joined_same, joined_then, stays_shows, keeps_saved as keeps_marked, rest_saved}
-use Rattle.command_set.specs.Buffers.{quit_unless, quit_row}
-use Rattle.command_set.specs.Files.{set_or_same, set_to, formatted, eol_word, bom_word, load_row, empty_row, loaded_row, row_read, marked_if_own, behind_write, row_saved}
+use Rattle.command_set.specs.Files.{set_or_same, set_to, formatted, eol_word, bom_word, made_noted, loaded_noted, load_row, empty_row, loaded_row, row_read, marked_if_own, behind_write, row_saved}
 use Rattle.command_set.specs.Laws.{IsTame}
 
 -- a world that came of another, without a unit taken, and with those that had joined
@@ -86,6 +88,19 @@ follows-opened name file text flat = record { units = ap units_in (rest_opened n
 follows-shows : (who n : ℕ) (flat : Flat) → is_there n flat.buffers ≡ true → Follows flat (shows who n flat)
 follows-shows who n flat t = record { units = ap units_in (rest_shows who n flat); keeps = stays_shows who n flat t }
 
+-- hooks are to hear something
+follows-noted : (event : HookEvent) (flat : Flat) → Follows flat (noted event flat)
+follows-noted event flat = record { units = units_noted event flat; keeps = joined_kept flat (noted event flat) (keeps_noted event flat) }
+
+follows-made : (name : List ℕ) (n who : ℕ) (flat : Flat) → Follows flat (made_noted name n who flat)
+follows-made name n who flat = let w : Flat = noted (event_of BufCreate name n) flat in follows-then flat w (displayed who w) (follows-noted _ flat) (follows-noted _ w)
+
+follows-loaded : (name : List ℕ) (n who : ℕ) (flat : Flat) → Follows flat (loaded_noted name n who flat)
+follows-loaded name n who flat =
+    let made : Flat = noted (event_of BufCreate name n) flat in
+    let opened : Flat = noted (event_of BufOpenFile name n) made in
+    follows-then flat made (displayed who opened) (follows-noted _ flat) (follows-then made opened (displayed who opened) (follows-noted _ made) (follows-noted _ opened))
+
 ends-load : (name : List ℕ) (l : Loaded) (who : ℕ) (flat : Flat) → Ends flat (load_row name l who flat)
 ends-load name l who flat =
     let n : ℕ = first_gap flat.buffers in
@@ -93,17 +108,25 @@ ends-load name l who flat =
     let set : Flat = formatted n l.eol l.bom new in
     ends-if flat (has_all_buffers flat) _ _ (record { world = follows-same flat; last = refl })
     (record {
-      world = follows-then flat new _ (follows-opened (chars name) true l.text flat)
+      world = follows-then flat (shows who n set) _
+          (follows-then flat new _ (follows-opened (chars name) true l.text flat)
           (follows-then new set _ (follows-form n l.eol l.bom new)
-          (follows-shows who n set (ap (is_there n) (buffers_form n l.eol l.bom new) ∙ opened_there (chars name) true l.text flat)));
+          (follows-shows who n set (ap (is_there n) (buffers_form n l.eol l.bom new) ∙ opened_there (chars name) true l.text flat))))
+          (follows-loaded name n who (shows who n set));
       last = refl;
     })
 
 ends-empty : (name : List ℕ) (who : ℕ) (flat : Flat) → Ends flat (empty_row name who flat)
 ends-empty name who flat =
+    let n : ℕ = first_gap flat.buffers in
     let new : Flat = buffer_opened (chars name) true (10 ∷ []) flat in
     ends-if flat (has_all_buffers flat) _ _ (record { world = follows-same flat; last = refl })
-    (record { world = follows-then flat new _ (follows-opened (chars name) true (10 ∷ []) flat) (follows-shows who (first_gap flat.buffers) new (opened_there (chars name) true (10 ∷ []) flat)); last = refl })
+    (record {
+      world = follows-then flat (shows who n new) _
+          (follows-then flat new _ (follows-opened (chars name) true (10 ∷ []) flat) (follows-shows who n new (opened_there (chars name) true (10 ∷ []) flat)))
+          (follows-made name n who (shows who n new));
+      last = refl;
+    })
 
 ends-loaded : (r : Result Loaded DecodeError) (name : List ℕ) (who : ℕ) (flat : Flat) → Ends flat (loaded_row r name who flat)
 ends-loaded (Ok l) name who flat = ends-load name l who flat
@@ -124,23 +147,25 @@ follows-marked saving flat = by (is_named (chars saving.file) (slice_index_or fl
     by true = record { units = ap units_in (rest_saved saving.buffer flat); keeps = joined_kept flat (saved_in saving.buffer flat) (keeps_marked saving.buffer flat) }
     by false = follows-same flat
 
-ends-quit : (who : ℕ) (flat : Flat) → Ends flat (quit_row who flat)
-ends-quit who flat = ends-if flat (others_leave who flat) _ _ (by (unsaved_names flat)) (record { world = follows-same flat; last = refl })
-  where
-    by : (o : Option (List ℕ)) → Ends flat (quit_unless o flat)
-    by None = record { world = follows-same flat; last = refl }
-    by (Some names) = record { world = follows-same flat; last = refl }
+-- behind a write hooks are to hear of it, and a row may come by which the client leaves
+follows-behind : (quits : Bool) (old flat : Flat) → Follows old flat → Follows old (behind_write quits flat).world
+follows-behind true old flat h = h
+follows-behind false old flat h = h
 
-ends-behind : (quits : Bool) (who : ℕ) (flat : Flat) → Ends flat (behind_write quits who flat)
-ends-behind true who flat = ends-quit who flat
-ends-behind false who flat = record { world = follows-same flat; last = refl }
+stages-behind : (quits : Bool) (flat : Flat) → stages_of (behind_write quits flat).row < stages_of_write quits
+stages-behind true flat = omega arith
+stages-behind false flat = omega arith
 
-ends-saved : (saving : Saving) (answer : Put) (who : ℕ) (flat : Flat) → Ends flat (row_saved saving answer who flat)
+none-behind : (quits : Bool) → 0 < stages_of_write quits
+none-behind true = omega arith
+none-behind false = omega arith
+
+follows-saved : (saving : Saving) (answer : Put) (who : ℕ) (flat : Flat) → Follows flat (row_saved saving answer who flat).world
 unfolding row_saved
-ends-saved saving put.Failed who flat = record { world = follows-same flat; last = refl }
-ends-saved saving put.Done who flat =
-    let later = ends-behind saving.quits who (marked_if_own saving flat) in
-    record { world = follows-then flat (marked_if_own saving flat) _ (follows-marked saving flat) later.world; last = later.last }
+follows-saved saving put.Failed who flat = follows-same flat
+follows-saved saving put.Done who flat =
+    let marked : Flat = marked_if_own saving flat in
+    follows-behind saving.quits flat _ (follows-then flat marked _ (follows-marked saving flat) (follows-noted (event_of BufWritePost saving.file saving.buffer) marked))
 
 tame-ends : (flat : Flat) (end : RowEnd) → Ends flat end → IsTame flat end
 tame-ends flat end h = record { units = h.world.units; keeps = h.world.keeps }
@@ -149,22 +174,24 @@ pub tame_read : (name : List ℕ) (answer : FileRead) (who : ℕ) (flat : Flat) 
 tame_read name answer who flat = tame-ends flat _ (ends-read name answer who flat)
 
 pub tame_saved : (saving : Saving) (answer : Put) (who : ℕ) (flat : Flat) → IsTame flat (row_saved saving answer who flat)
-tame_saved saving answer who flat = tame-ends flat _ (ends-saved saving answer who flat)
+tame_saved saving answer who flat = record { units = (follows-saved saving answer who flat).units; keeps = (follows-saved saving answer who flat).keeps }
 
 pub read_ends : (name : List ℕ) (answer : FileRead) (who : ℕ) (flat : Flat) → stages_of (row_read name answer who flat).row ≡ 0
 read_ends name answer who flat = (ends-read name answer who flat).last
 
-pub saved_ends : (saving : Saving) (answer : Put) (who : ℕ) (flat : Flat) → stages_of (row_saved saving answer who flat).row ≡ 0
-saved_ends saving answer who flat = (ends-saved saving answer who flat).last
+pub saved_fewer : (saving : Saving) (answer : Put) (who : ℕ) (flat : Flat) → stages_of (row_saved saving answer who flat).row < stages_of_write saving.quits
+unfolding row_saved
+saved_fewer saving put.Failed who flat = none-behind saving.quits
+saved_fewer saving put.Done who flat = stages-behind saving.quits _
 
 -- what may come behind is less than what might have come before
 pub read_falls : (name : List ℕ) (answer : FileRead) (who : ℕ) (flat : Flat)
-    → 3 * units_of (row_read name answer who flat).world + stages_of (row_read name answer who flat).row < 3 * units_of flat + 1
+    → 4 * units_of (row_read name answer who flat).world + stages_of (row_read name answer who flat).row < 4 * units_of flat + 1
 read_falls name answer who flat = omega (arith, (tame_read name answer who flat).units, read_ends name answer who flat)
 
 pub saved_falls : (saving : Saving) (answer : Put) (who : ℕ) (flat : Flat)
-    → 3 * units_of (row_saved saving answer who flat).world + stages_of (row_saved saving answer who flat).row < 3 * units_of flat + 1
-saved_falls saving answer who flat = omega (arith, (tame_saved saving answer who flat).units, saved_ends saving answer who flat)
+    → 4 * units_of (row_saved saving answer who flat).world + stages_of (row_saved saving answer who flat).row < 4 * units_of flat + stages_of_write saving.quits
+saved_falls saving answer who flat = omega (arith, (tame_saved saving answer who flat).units, saved_fewer saving answer who flat)
 
 pub keeps_read : (name : List ℕ) (answer : FileRead) (who : ℕ) (flat : Flat) → KeepsJoined flat (row_read name answer who flat).world
 keeps_read name answer who flat = (tame_read name answer who flat).keeps

@@ -3,9 +3,12 @@ pub mod PlainLemmas
 pub mod MappingLemmas
 pub mod PaintingLaws
 pub mod TableLaws
+pub mod NotingLaws
 pub mod CommandLaws
 pub mod ExpandingLemmas
 pub mod FileLaws
+pub mod LaterLaws
 pub mod FinishLaws
 pub mod UseLemmas
 pub mod WantingLemmas
+pub mod SpacedLemmas

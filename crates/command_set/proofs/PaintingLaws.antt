@@ -1,4 +1,4 @@
--- What commands do to highlighters takes no units, and keeps those that have joined.
+-- What commands do to highlighters and hooks takes no units, and keeps those that have joined.
 use Rattle.std.proofs.Common.{◌≡◌, ℕ, Bool, true, false, List, refl, ap}
 use Rattle.std.specs.Prelude.{if◌then◌else◌, Some, None, Ok, Err}
 use Rattle.std.specs.declared.option.Option.{Option}
@@ -14,6 +14,7 @@ use Rattle.highlight_paint.specs.declared.highlighters.PaintError.{PaintError}
 use Rattle.highlight_paint.specs.Painters.{MarksLine, MarksColumn}
 use Rattle.kak_world.specs.declared.ask.EditError.{EditError}
 use Rattle.kak_world.specs.declared.purpose.NewHighlighter.{NewHighlighter}
+use Rattle.kak_world.specs.declared.purpose.NewHook.{NewHook}
 use Rattle.kak_world.specs.Flat.{Scoped, Flat, units_of, faces_of, with_scoped}
 use Rattle.kak_world.specs.Keeping.{KeepsClients}
 use Rattle.kak_world.specs.Rows.{Row, RowEnd, Fails, does, stages_of}
@@ -23,6 +24,7 @@ use Rattle.kak_world.proofs.JoinedLemmas.{joined_kept, joined_same}
 use Rattle.command_set.specs.declared.painting.Place.{Place}
 use Rattle.command_set.specs.Painters.{face_told, number_told, full_path}
 use Rattle.command_set.specs.Painting.{told_row, lays, painter_row, unless_refused, place_at, added_at, removed_at, highlighter_row, painted_row}
+use Rattle.command_set.specs.Hooking.{hooked_row}
 use Rattle.command_set.specs.Laws.{IsTame}
 
 -- a row that leaves the world
@@ -79,10 +81,17 @@ settles-painted : (o : Option PaintError) (written full : List ℕ) (f : Scoped 
 settles-painted None written full f flat = Changes f
 settles-painted (Some e) written full f flat = Refuses _
 
+settles-if : (flat : Flat) (t : Bool) (a b : RowEnd) → Settles flat a → Settles flat b → Settles flat (if t then a else b)
+settles-if flat true a b h g = h
+settles-if flat false a b h g = g
+
 settles_painted : (new : NewHighlighter) (source : List ℕ) (flat : Flat) → Settles flat (painted_row new source flat)
 settles_painted new source flat = settles-painted _ _ _ _ flat
 
--- the row of a highlighter whose pattern was made: no units, nothing behind it, and the same clients
+settles_hooked : (new : NewHook) (source : List ℕ) (flat : Flat) → Settles flat (hooked_row new source flat)
+settles_hooked new source flat = settles-if flat _ _ _ (Refuses _) (Changes _)
+
+-- the row of a highlighter or a hook whose pattern was made: no units, nothing behind it, and the same clients
 pub record IsLast (flat : Flat) (end : RowEnd) : Type 0 where
   pub units : units_of end.world ≡ units_of flat
   pub ends : stages_of end.row ≡ 0
@@ -94,3 +103,6 @@ last-settled flat end (Refuses text) = record { units = refl; ends = refl; keeps
 
 pub last-painted : (new : NewHighlighter) (source : List ℕ) (flat : Flat) → IsLast flat (painted_row new source flat)
 last-painted new source flat = last-settled flat _ (settles_painted new source flat)
+
+pub last-hooked : (new : NewHook) (source : List ℕ) (flat : Flat) → IsLast flat (hooked_row new source flat)
+last-hooked new source flat = last-settled flat _ (settles_hooked new source flat)

@@ -4,6 +4,9 @@ use Rattle.std.specs.Prelude.{Some, None}
 use Rattle.std.specs.declared.option.Option.{Option}
 use Rattle.std.specs.declared.result.Result.{Result}
 use Rattle.scope_options.specs.declared.scope.Scope.{Scope}
+use Rattle.scope_tables.specs.declared.names.HookName.{HookName}
+use Rattle.scope_tables.specs.Names.{hook_named}
+use Rattle.command_forms.specs.declared.table_orders.HookWords.{HookWords}
 use Rattle.command_forms.specs.declared.table_orders.TableOrder.{TableOrder}
 use Rattle.command_forms.specs.declared.table_orders.TableOrder.TheVariants as order
 use Rattle.std.specs.Str.{chars}
@@ -17,13 +20,17 @@ use Rattle.kak_world.specs.Scoping.{with_maps}
 use Rattle.kak_world.specs.Rows.{RowEnd, does}
 use Rattle.command_set.specs.Options.{scope_named}
 use Rattle.command_set.specs.Painting.{told_row}
-use Rattle.command_set.specs.Tables.{at_scope, mode_named, mode_told, keys_told, key_told, map_at, unmap_at, table_row}
+use Rattle.command_set.specs.Tables.{at_scope, hook_named_at, mode_named, mode_told, keys_told, key_told, map_at, unmap_at, table_row}
 use Rattle.command_set.specs.Laws.{IsTame}
 use Rattle.command_set.proofs.PaintingLaws.{tame-same, tame-scoped, tame-told}
 
 tame-at_scope : (word : List ℕ) (row : Scope → RowEnd) (flat : Flat) (o : Option Scope) → ((scope : Scope) → IsTame flat (row scope)) → IsTame flat (at_scope word row flat o)
 tame-at_scope word row flat None h = tame-same flat _
 tame-at_scope word row flat (Some scope) h = h scope
+
+tame-hook : (h : HookWords) (flat : Flat) (scope : Scope) (o : Option HookName) → IsTame flat (hook_named_at h flat scope o)
+tame-hook h flat scope None = tame-same flat _
+tame-hook h flat scope (Some name) = tame-same flat _
 
 tame-mapped : (scope : Scope) (mode : Mode) (key : Key) (keys : Result (List Key) EditError) (flat : Flat) → IsTame flat (told_row (λ keys. does (with_maps (with_map scope mode key keys) flat)) flat keys)
 tame-mapped scope mode key keys flat = tame-told (λ keys. does (with_maps (with_map scope mode key keys) flat)) flat keys (λ keys. tame-scoped _ flat)
@@ -53,3 +60,5 @@ tame-table (order.Unmap k) who flat =
 tame-table (order.Alias a) who flat = tame-at_scope _ _ flat _ (λ scope. tame-scoped _ flat)
 tame-table (order.Unalias a) who flat = tame-at_scope _ _ flat _ (λ scope. tame-scoped _ flat)
 tame-table (order.Define d) who flat = tame-scoped _ flat
+tame-table (order.Hook h) who flat = tame-at_scope _ _ flat _ (λ scope. tame-hook h flat scope (hook_named h.name))
+tame-table (order.RemoveHooks g) who flat = tame-at_scope _ _ flat _ (λ scope. tame-scoped _ flat)

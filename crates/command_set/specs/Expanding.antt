@@ -11,6 +11,7 @@ use Rattle.list_model.specs.Ranges.{Range, cursor}
 use Rattle.selection_set.specs.Held.{main_of}
 use Rattle.kak_world.specs.Flat.{Flat, option_of, name_of, number_of, text_of, sels_of, story_of}
 use Rattle.kak_world.specs.Running.{arguments_of}
+use Rattle.kak_world.specs.Events.{parameter_of}
 use Rattle.edit_ops.specs.Reading.{text_of_range}
 use Rattle.key_rows.specs.Reading.{strings_read, own_strings}
 use Rattle.command_forms.specs.Numbers.{whole_number}
@@ -98,10 +99,19 @@ arguments name words = if bytes_eq name (codes "@") then Some words else option_
 abbrev pub given_words : Flat → List (List ℕ)
 given_words flat = unwrap_or (arguments_of flat) []
 
+-- the parameter of the hook that runs, as a string; none where no hook runs
+abbrev pub parameter_strings : Flat → Option (List (List ℕ))
+parameter_strings flat = option_map (λ p. p ∷ []) (parameter_of flat)
+
+-- the strings of the value of a name: one of a client, or that parameter
+abbrev pub value_found : List ℕ → ℕ → Flat → Option (List (List ℕ))
+value_found name who flat =
+    if bytes_eq name (codes "hook_param") then parameter_strings flat else option_map (λ v. value_strings v who flat) (value_named name)
+
 -- the strings of an expansion of a kind, by its name
 abbrev pub strings_named : Option Kind → ℕ → Flat → List ℕ → Option (List (List ℕ))
 strings_named None who flat name = None
-strings_named (Some Value) who flat name = option_map (λ v. value_strings v who flat) (value_named name)
+strings_named (Some Value) who flat name = value_found name who flat
 strings_named (Some OfOption) who flat name = option_map option_strings (option_of name who flat)
 strings_named (Some OfRegister) who flat name = register_strings (named name) who flat
 strings_named (Some Argument) who flat name = arguments name (given_words flat)

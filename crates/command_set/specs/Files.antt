@@ -31,7 +31,11 @@ use Rattle.kak_world.specs.Flat.{Buffer, Flat, options_of, with_options}
 use Rattle.kak_world.specs.Rows.{RowEnd, does, fails}
 use Rattle.kak_world.specs.Saving.{is_named, saved_in}
 use Rattle.kak_world.specs.Showing.{first_gap, has_all_buffers, buffer_opened, shows}
-use Rattle.command_set.specs.Buffers.{refuses, quit_row}
+use Rattle.scope_tables.specs.declared.names.HookName.TheVariants.{BufCreate, BufOpenFile, BufWritePost}
+use Rattle.kak_world.specs.declared.ask.Ask.TheVariants.{Then}
+use Rattle.kak_world.specs.declared.ask.Later.TheVariants.{Quit}
+use Rattle.kak_world.specs.Events.{event_of, noted, displayed}
+use Rattle.command_set.specs.Buffers.{asks, refuses}
 
 -- the world with an option set at a scope to a word, where the option takes it
 abbrev pub set_or_same : Result (List Setting) OptionError → Flat → Flat
@@ -54,17 +58,32 @@ bom_word Utf8 = codes "utf8"
 abbrev pub formatted : ℕ → Eol → Bom → Flat → Flat
 formatted n eol bom flat = set_to (InBuffer n) (codes "BOM") (bom_word bom) (set_to (InBuffer n) (codes "eolformat") (eol_word eol) flat)
 
--- a file's text is opened as a buffer and shown to a client, in the form that the file had
+-- a client was shown a buffer that was made, and, where that was done so, was made of a file: hooks hear the one behind the other
+abbrev pub made_noted : List ℕ → ℕ → ℕ → Flat → Flat
+made_noted name n who flat = displayed who (noted (event_of BufCreate name n) flat)
+
+abbrev pub loaded_noted : List ℕ → ℕ → ℕ → Flat → Flat
+loaded_noted name n who flat = displayed who (noted (event_of BufOpenFile name n) (noted (event_of BufCreate name n) flat))
+
+-- a file's text as a buffer that is shown to a client, in the form that the file had
+abbrev pub loaded_as : List ℕ → Loaded → ℕ → Flat → Flat
+loaded_as name l who flat = shows who (first_gap flat.buffers) (formatted (first_gap flat.buffers) l.eol l.bom (buffer_opened (chars name) true l.text flat))
+
+-- a file's text is opened so
 abbrev pub load_row : List ℕ → Loaded → ℕ → Flat → RowEnd
 load_row name l who flat =
     if has_all_buffers flat then refuses TooManyBuffers flat
-    else does (shows who (first_gap flat.buffers) (formatted (first_gap flat.buffers) l.eol l.bom (buffer_opened (chars name) true l.text flat)))
+    else does (loaded_noted name (first_gap flat.buffers) who (loaded_as name l who flat))
 
--- a buffer is opened for a file that isn't there, with a text of one newline, and shown to a client
+-- an empty buffer for a file that isn't there, with a text of one newline, that is shown to a client
+abbrev pub made_empty : List ℕ → ℕ → Flat → Flat
+made_empty name who flat = shows who (first_gap flat.buffers) (buffer_opened (chars name) true (10 ∷ []) flat)
+
+-- a buffer is opened so
 abbrev pub empty_row : List ℕ → ℕ → Flat → RowEnd
 empty_row name who flat =
     if has_all_buffers flat then refuses TooManyBuffers flat
-    else does (shows who (first_gap flat.buffers) (buffer_opened (chars name) true (10 ∷ []) flat))
+    else does (made_noted name (first_gap flat.buffers) who (made_empty name who flat))
 
 -- by what a client is told why bytes are no text
 abbrev pub coding_refusal : DecodeError → EditError
@@ -115,12 +134,12 @@ abbrev pub marked_if_own : Saving → Flat → Flat
 marked_if_own saving flat =
     if is_named (chars saving.file) (slice_index_or flat.buffers saving.buffer None) then saved_in saving.buffer flat else flat
 
--- a client may be to leave behind a write
-abbrev pub behind_write : Bool → ℕ → Flat → RowEnd
-behind_write true who flat = quit_row who flat
-behind_write false who flat = does flat
+-- a client may be to leave behind a write, once hooks heard of that
+abbrev pub behind_write : Bool → Flat → RowEnd
+behind_write true flat = asks (Then Quit) flat
+behind_write false flat = does flat
 
--- what is made of a file that was to be written
+-- what is made of a file that was to be written, which hooks hear where it was
 unfoldable pub row_saved : Saving → Put → ℕ → Flat → RowEnd
-row_saved saving put.Done who flat = behind_write saving.quits who (marked_if_own saving flat)
+row_saved saving put.Done who flat = behind_write saving.quits (noted (event_of BufWritePost saving.file saving.buffer) (marked_if_own saving flat))
 row_saved saving put.Failed who flat = refuses (FileFault saving.file) flat

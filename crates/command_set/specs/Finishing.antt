@@ -14,12 +14,13 @@ use Rattle.kak_world.specs.declared.ask.EditError.TheVariants.{BadPattern, Nothi
 use Rattle.kak_world.specs.declared.purpose.Use.{Use}
 use Rattle.kak_world.specs.declared.purpose.Use.TheVariants.{Select, Split, Keep, Drop, Search, Reach, Step, Add}
 use Rattle.kak_world.specs.declared.purpose.Wanted.{Wanted}
-use Rattle.kak_world.specs.declared.purpose.Wanted.TheVariants.{Selects, Paints}
+use Rattle.kak_world.specs.declared.purpose.Wanted.TheVariants.{Selects, Paints, Hooks}
 use Rattle.kak_world.specs.Flat.{Flat, text_of, sels_of, units_of, with_sels}
 use Rattle.kak_world.specs.Rows.{RowEnd, does, fails}
 use Rattle.key_rows.specs.Sequence.{then_row, after_unit}
 use Rattle.key_rows.specs.Patterns.{asks_for_last}
 use Rattle.command_set.specs.Painting.{painted_row}
+use Rattle.command_set.specs.Hooking.{hooked_row}
 
 -- the pattern that was made, by the text that it was made of, in UTF-8; none where that was refused
 abbrev pub source_of : {P : Type 0} → (P → List ℕ) → Made P → Option (List ℕ)
@@ -83,10 +84,11 @@ further_asked (Some next) flat = after_unit (units_of flat) (asks_for_last next)
 abbrev pub pattern_used : Use → List ℕ → ℕ → Flat → RowEnd
 pattern_used wanted source who flat = then_row (list_used wanted source who flat) (further_asked (next_use wanted))
 
--- what is made of the pattern that a text is: a use of its matches, or a highlighter
+-- what is made of the pattern that a text is: a use of its matches, a highlighter, or a hook
 abbrev pub made_row : Wanted → List ℕ → ℕ → Flat → RowEnd
 made_row (Selects what) source who flat = pattern_used what source who flat
 made_row (Paints new) source who flat = painted_row new source flat
+made_row (Hooks new) source who flat = hooked_row new source flat
 
 -- the row of what was asked for a pattern: what is made of it, or that it was refused
 unfoldable pub row_finish : Wanted → Option (List ℕ) → ℕ → Flat → RowEnd

@@ -7,6 +7,7 @@ pub mod Boxes
 pub mod Faces
 pub mod Painters
 pub mod Painting
+pub mod Hooking
 pub mod Tables
 pub mod Running
 pub mod Expanding

@@ -18,7 +18,7 @@ use Rattle.command_set.specs.Tables.{keys_told}
 -- keys are to be run, if they can be read
 abbrev pub play_row : PlayOrder → Flat → RowEnd
 play_row p flat =
-    told_row (λ keys. asks (Play (record { keys = keys; maps = p.maps; again = None })) flat) flat (keys_told (read_text (chars p.keys)))
+    told_row (λ keys. asks (Play (record { keys = keys; hooks = p.hooks; maps = p.maps; again = None })) flat) flat (keys_told (read_text (chars p.keys)))
 
 -- a text is to be run as commands
 abbrev pub eval_row : List ℕ → Flat → RowEnd

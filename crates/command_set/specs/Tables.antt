@@ -1,4 +1,4 @@
--- What commands do to key maps, aliases and defined commands.
+-- What commands do to key maps, aliases, defined commands and hooks.
 use Rattle.std.specs.Prelude.{ℕ, List, [], ◌∷◌, codes, None, Some, Ok, Err}
 use Rattle.std.specs.declared.option.Option.{Option}
 use Rattle.std.specs.declared.result.Result.{Result}
@@ -9,22 +9,28 @@ use Rattle.scope_options.specs.declared.scope.Scope.{Scope}
 use Rattle.scope_tables.specs.declared.definitions.ParameterCount.{ParameterCount}
 use Rattle.scope_tables.specs.declared.maps.Mode.{Mode}
 use Rattle.scope_tables.specs.declared.maps.Mode.TheVariants.{Normal, Insert, Prompt}
+use Rattle.scope_tables.specs.declared.names.HookName.{HookName}
+use Rattle.scope_tables.specs.Names.{hook_named}
 use Rattle.scope_tables.specs.Maps.{with_map, without_map}
 use Rattle.scope_tables.specs.Aliases.{with_alias, without_alias}
 use Rattle.scope_tables.specs.Definitions.{with_definition}
+use Rattle.scope_tables.specs.Hooks.{without_group}
 use Rattle.command_forms.specs.declared.parameters.Allowed.{Allowed}
+use Rattle.command_forms.specs.declared.table_orders.HookWords.{HookWords}
 use Rattle.command_forms.specs.declared.table_orders.KeyMapping.{KeyMapping}
 use Rattle.command_forms.specs.declared.table_orders.KeyName.{KeyName}
 use Rattle.command_forms.specs.declared.table_orders.TableOrder.{TableOrder}
 use Rattle.command_forms.specs.declared.table_orders.TableOrder.TheVariants as order
 use Rattle.command_forms.specs.Lookup.{row, looked_up}
+use Rattle.kak_world.specs.declared.ask.Ask.TheVariants.{Make}
 use Rattle.kak_world.specs.declared.ask.EditError.{EditError}
 use Rattle.kak_world.specs.declared.ask.EditError.TheVariants.{Command as OfCommand}
-use Rattle.kak_world.specs.declared.command_error.CommandError.TheVariants.{NoSuchScope, NoSuchMode, BadKey}
+use Rattle.kak_world.specs.declared.command_error.CommandError.TheVariants.{NoSuchScope, NoSuchMode, NoSuchHook, BadKey}
+use Rattle.kak_world.specs.declared.purpose.Wanted.TheVariants.{Hooks as ToHook}
 use Rattle.kak_world.specs.Flat.{Flat}
-use Rattle.kak_world.specs.Scoping.{with_maps, with_aliases, with_definitions}
+use Rattle.kak_world.specs.Scoping.{with_hooks, with_maps, with_aliases, with_definitions}
 use Rattle.kak_world.specs.Rows.{RowEnd, does}
-use Rattle.command_set.specs.Buffers.{refuses}
+use Rattle.command_set.specs.Buffers.{asks, refuses}
 use Rattle.command_set.specs.Options.{scope_named}
 use Rattle.command_set.specs.Painting.{told_row}
 
@@ -72,6 +78,15 @@ unmap_at k flat scope =
 abbrev pub count_of : Allowed → ParameterCount
 count_of a = record { least = a.least; most = a.most }
 
+-- a hook at a scope: its name is judged, and then its pattern is asked for
+abbrev pub hook_named_at : HookWords → Flat → Scope → Option HookName → RowEnd
+hook_named_at h flat scope None = refuses (NoSuchHook h.name) flat
+hook_named_at h flat scope (Some name) =
+    asks (Make (record { pattern = chars h.pattern; then = ToHook (record { scope = scope; name = name; group = h.group; once = h.once; commands = h.commands }) })) flat
+
+abbrev pub hook_at : HookWords → Flat → Scope → RowEnd
+hook_at h flat scope = hook_named_at h flat scope (hook_named h.name)
+
 -- what is ordered of the tables
 abbrev pub table_row : TableOrder → ℕ → Flat → RowEnd
 table_row (order.Map m) who flat = scoped_row m.scope (map_at m flat) who flat
@@ -79,3 +94,5 @@ table_row (order.Unmap k) who flat = scoped_row k.scope (unmap_at k flat) who fl
 table_row (order.Alias a) who flat = scoped_row a.scope (λ scope. does (with_aliases (with_alias scope a.word a.command) flat)) who flat
 table_row (order.Unalias a) who flat = scoped_row a.scope (λ scope. does (with_aliases (without_alias scope a.word) flat)) who flat
 table_row (order.Define d) who flat = does (with_definitions (with_definition d.name (count_of d.allowed) d.commands) flat)
+table_row (order.Hook h) who flat = scoped_row h.scope (hook_at h flat) who flat
+table_row (order.RemoveHooks g) who flat = scoped_row g.scope (λ scope. does (with_hooks (without_group scope g.group) flat)) who flat

@@ -1,19 +1,22 @@
 //! What commands do to buffers, and when a client may leave.
 #![tactic(auto, using(kak_world::proofs::WorldLaws::world_laws))]
 
-ghost use Rattle.std.specs.Prelude.{◌≡◌, true, slice_index_or, unwrap_or, encode_utf8_all, IfOk, IfSome, IsErrOf, None};
+ghost use Rattle.std.specs.Prelude.{◌≡◌, true, slice_index_or, unwrap_or, encode_utf8_all, IfOk, IfSome, IsErrOf, OnOk, OnErr, None};
 ghost use Rattle.std.specs.Str.{chars};
 ghost use Rattle.kak_world.specs.declared.ask.EditError.TheVariants.{NoMemory};
 ghost use Rattle.kak_world.specs.Flat.{acts, is_there, name_of};
-ghost use Rattle.kak_world.specs.Rows.{GivesRow, Answers};
-ghost use Rattle.command_set.specs.Buffers.{show_row, edit_named_row, unsaved_in, drop_at, drop_row, drop_if, quit_row, write_row};
+ghost use Rattle.kak_world.specs.Rows.{GivesRow, Answers, does};
+ghost use Rattle.kak_world.specs.Events.{displayed, IsUnheard};
+ghost use Rattle.kak_world.specs.Showing.{shows};
+ghost use Rattle.command_set.specs.Buffers.{show_row, edit_named_row, unsaved_in, name_at, closing, drop_at, drop_row, drop_if, quit_row, write_row, drop_noted, written_later, dropped_later, row_later};
 ghost use Rattle.kak_world.specs.Saving.{number_named};
 
 use byte_texts::Utf8Text;
 use kak_text::Chars;
-use kak_world::{Ask, CommandError, EditError, Saving, Turn, World};
+use kak_world::{Ask, CommandError, Dropping, EditError, Later, Saving, Turn, World};
 use key_rows::string_of;
 use regex_ports::Pattern;
+use scope_tables::HookName;
 use std::alloc::{AllocError, Global};
 
 // The number of the buffer of a name, if there is one.
@@ -29,7 +32,23 @@ fn number_named<P: Pattern, T: Turn>(
     Ok(world.number_named(name.as_slice()))
 }
 
-/// Shows a client the buffer of a name. An error leaves the world.
+// Shows a client the buffer of a number, which hooks hear.
+fn show_at<P: Pattern, T: Turn>(
+    alloc: Global,
+    world: &mut World<P, T>,
+    who: u32,
+    n: u32,
+) -> Result<(), AllocError>
+    requires acts { acts who world.old.flat ≡ true }
+    requires there { is_there n world.old.flat.buffers ≡ true }
+    ensures ok { OnOk result (world.new.flat ≡ displayed who (shows who n world.old.flat)) }
+    ensures err { OnErr result (IsUnheard (does (displayed who (shows who n world.old.flat))) world.old.flat world.new.flat) }
+{
+    world.show(alloc, who, n)?;
+    world.note_displayed(alloc, who)
+}
+
+/// Shows a client the buffer of a name, which hooks hear. A refusal leaves the world; behind want of memory it may be shown.
 pub(crate) fn show<P: Pattern, T: Turn>(
     alloc: Global,
     world: &mut World<P, T>,
@@ -38,18 +57,19 @@ pub(crate) fn show<P: Pattern, T: Turn>(
 ) -> Result<(), EditError>
     requires { acts who world.old.flat ≡ true }
     ensures row { Answers result world.new.flat (show_row name who world.old.flat) }
-    ensures wanting { IsErrOf result NoMemory → world.new.flat ≡ world.old.flat }
+    ensures wanting { IsErrOf result NoMemory → IsUnheard (show_row name who world.old.flat) world.old.flat world.new.flat }
 {
     match number_named(alloc, world, name.as_str())? {
         None => Err(EditError::Command(CommandError::NoSuchBuffer(name))),
         Some(n) => {
-            world.show(alloc, who, n)?;
+            show_at(alloc, world, who, n)?;
             Ok(())
         }
     }
 }
 
-/// Shows a client the buffer of a name, or asks for the file of that name. An error leaves the world.
+/// Shows a client the buffer of a name, or asks for the file of that name. A refusal leaves the world; behind want of memory the
+/// buffer may be shown.
 pub(crate) fn edit<P: Pattern, T: Turn>(
     alloc: Global,
     world: &mut World<P, T>,
@@ -58,11 +78,11 @@ pub(crate) fn edit<P: Pattern, T: Turn>(
 ) -> Result<Ask, EditError>
     requires { acts who world.old.flat ≡ true }
     ensures row { GivesRow result world.new.flat (edit_named_row name who world.old.flat) }
-    ensures wanting { IsErrOf result NoMemory → world.new.flat ≡ world.old.flat }
+    ensures wanting { IsErrOf result NoMemory → IsUnheard (edit_named_row name who world.old.flat) world.old.flat world.new.flat }
 {
     match number_named(alloc, world, name.as_str())? {
         Some(n) => {
-            world.show(alloc, who, n)?;
+            show_at(alloc, world, who, n)?;
             Ok(Ask::Nothing)
         }
         None if world.has_all_buffers() => Err(EditError::Command(CommandError::TooManyBuffers)),
@@ -86,15 +106,45 @@ fn unsaved_in<P: Pattern, T: Turn>(
     }
 }
 
-// Drops a buffer, unless something would be lost, or where that is forced.
+// The name of the buffer of a number.
+fn name_at<P: Pattern, T: Turn>(
+    alloc: Global,
+    world: &World<P, T>,
+    n: u32,
+) -> Result<Utf8Text, AllocError>
+    requires { is_there n world.now.flat.buffers ≡ true }
+    ensures { IfOk result (λ name. name ≡ name_at n world.now.flat) }
+{
+    match world.buffer(n) {
+        None => unreachable!(),
+        Some(buffer) => Ok(Utf8Text::of_string(string_of(alloc, buffer.name())?)),
+    }
+}
+
+// Has hooks hear that a buffer is to be dropped, and asks for that.
+fn close<P: Pattern, T: Turn>(
+    alloc: Global,
+    world: &mut World<P, T>,
+    n: u32,
+) -> Result<Ask, EditError>
+    requires { is_there n world.old.flat.buffers ≡ true }
+    ensures row { GivesRow result world.new.flat (closing n world.old.flat) }
+    ensures wanting { IsErrOf result NoMemory → world.new.flat ≡ world.old.flat }
+{
+    let name = name_at(alloc, world, n)?;
+    world.note(alloc, HookName::BufClose, name.as_str(), n)?;
+    Ok(Ask::Then(Later::Drop(Dropping { buffer: n, name })))
+}
+
+// Asks for a buffer to be dropped, unless something would be lost, or where that is forced.
 fn drop_at<P: Pattern, T: Turn>(
     alloc: Global,
     world: &mut World<P, T>,
     n: u32,
     forced: bool,
-) -> Result<(), EditError>
+) -> Result<Ask, EditError>
     requires { is_there n world.old.flat.buffers ≡ true }
-    ensures row { Answers result world.new.flat (drop_at forced n world.old.flat) }
+    ensures row { GivesRow result world.new.flat (drop_at forced n world.old.flat) }
     ensures wanting { IsErrOf result NoMemory → world.new.flat ≡ world.old.flat }
 {
     if !forced {
@@ -102,18 +152,17 @@ fn drop_at<P: Pattern, T: Turn>(
             return Err(EditError::Command(CommandError::ModifiedRemain(name)));
         }
     }
-    world.drop_buffer(alloc, n)?;
-    Ok(())
+    close(alloc, world, n)
 }
 
-// Drops the buffer of a name.
+// Asks for the buffer of a name to be dropped.
 fn drop_named<P: Pattern, T: Turn>(
     alloc: Global,
     world: &mut World<P, T>,
     name: Utf8Text,
     forced: bool,
-) -> Result<(), EditError>
-    ensures row { Answers result world.new.flat (drop_if (number_named (chars name) world.old.flat) forced name world.old.flat) }
+) -> Result<Ask, EditError>
+    ensures row { GivesRow result world.new.flat (drop_if (number_named (chars name) world.old.flat) forced name world.old.flat) }
     ensures wanting { IsErrOf result NoMemory → world.new.flat ≡ world.old.flat }
 {
     match number_named(alloc, world, name.as_str())? {
@@ -122,17 +171,17 @@ fn drop_named<P: Pattern, T: Turn>(
     }
 }
 
-/// Drops the buffer of a name, or the one that a client sees. `ModifiedRemain` doesn't come where the drop is forced. An error
-/// leaves the world.
+/// Asks for the buffer of a name to be dropped, or for the one that a client sees, once hooks heard that. `ModifiedRemain` doesn't
+/// come where the drop is forced. An error leaves the world.
 pub(crate) fn drop_buffer<P: Pattern, T: Turn>(
     alloc: Global,
     world: &mut World<P, T>,
     who: u32,
     name: Option<Utf8Text>,
     forced: bool,
-) -> Result<(), EditError>
+) -> Result<Ask, EditError>
     requires { acts who world.old.flat ≡ true }
-    ensures row { Answers result world.new.flat (drop_row forced name who world.old.flat) }
+    ensures row { GivesRow result world.new.flat (drop_row forced name who world.old.flat) }
     ensures wanting { IsErrOf result NoMemory → world.new.flat ≡ world.old.flat }
 {
     match name {
@@ -177,21 +226,106 @@ fn file_or_name<P: Pattern, T: Turn>(
     }
 }
 
-/// Asks for the text that a client sees to be written, to a file or to that of the buffer's name, and whether it is to
-/// leave then.
-pub(crate) fn write<P: Pattern, T: Turn>(
+// The name of the buffer that a client sees.
+fn own_name<P: Pattern, T: Turn>(
     alloc: Global,
     world: &World<P, T>,
+    who: u32,
+) -> Result<Utf8Text, AllocError>
+    requires { acts who world.now.flat ≡ true }
+    ensures { IfOk result (λ name. name ≡ encode_utf8_all (name_of who world.now.flat)) }
+{
+    Ok(Utf8Text::of_string(string_of(alloc, world.buffer_name(who))?))
+}
+
+/// Asks for the text that a client sees to be written, once hooks heard that, to a file or to that of the buffer's name, and whether
+/// the client is to leave then. Want of memory leaves the world.
+pub(crate) fn write<P: Pattern, T: Turn>(
+    alloc: Global,
+    world: &mut World<P, T>,
     who: u32,
     file: Option<Utf8Text>,
     quits: bool,
 ) -> Result<Ask, EditError>
-    requires { acts who world.now.flat ≡ true }
-    ensures row { GivesRow result world.now.flat (write_row file quits who world.now.flat) }
+    requires { acts who world.old.flat ≡ true }
+    ensures row { GivesRow result world.new.flat (write_row file quits who world.old.flat) }
+    ensures wanting { IsErrOf result NoMemory → world.new.flat ≡ world.old.flat }
 {
-    Ok(Ask::Write(Saving {
-        file: file_or_name(alloc, world, who, file)?,
-        buffer: world.shown_number(who),
+    let file = file_or_name(alloc, world, who, file)?;
+    let name = own_name(alloc, world, who)?;
+    let buffer = world.shown_number(who);
+    world.note(alloc, HookName::BufWritePre, file.as_str(), buffer)?;
+    Ok(Ask::Then(Later::Write(Saving {
+        file,
+        buffer,
+        name,
         quits,
-    }))
+    })))
+}
+
+// Goes on with a buffer that is to be written, if it is there still.
+#[tactic(auto, using(kak_world::proofs::WorldLaws::world_laws), unfolding(crate::specs::Buffers::written_later))]
+fn go_on_writing<P: Pattern, T: Turn>(world: &World<P, T>, saving: Saving) -> Result<Ask, EditError>
+    ensures row { GivesRow result world.now.flat (written_later saving world.now.flat) }
+    ensures memory { ¬ IsErrOf result NoMemory }
+{
+    if world.buffer(saving.buffer).is_none() {
+        return Err(EditError::Command(CommandError::NoSuchBuffer(saving.name)));
+    }
+    Ok(Ask::Write(saving))
+}
+
+// Drops a buffer; where it was the only one, hooks hear that another one was made.
+fn drop_now<P: Pattern, T: Turn>(
+    alloc: Global,
+    world: &mut World<P, T>,
+    n: u32,
+) -> Result<(), AllocError>
+    requires { is_there n world.old.flat.buffers ≡ true }
+    ensures ok { OnOk result (world.new.flat ≡ drop_noted n world.old.flat) }
+    ensures err { OnErr result (IsUnheard (does (drop_noted n world.old.flat)) world.old.flat world.new.flat) }
+{
+    let only = world.is_only(n);
+    world.drop_buffer(alloc, n)?;
+    if !only {
+        return Ok(());
+    }
+    world.note(alloc, HookName::BufCreate, "*scratch*", 0)
+}
+
+// Goes on with a buffer that is to be dropped, if it is there still.
+#[tactic(auto, using(kak_world::proofs::WorldLaws::world_laws), unfolding(crate::specs::Buffers::dropped_later))]
+fn go_on_dropping<P: Pattern, T: Turn>(
+    alloc: Global,
+    world: &mut World<P, T>,
+    dropping: Dropping,
+) -> Result<Ask, EditError>
+    ensures row { GivesRow result world.new.flat (dropped_later dropping world.old.flat) }
+    ensures wanting { IsErrOf result NoMemory → IsUnheard (dropped_later dropping world.old.flat) world.old.flat world.new.flat }
+{
+    let Dropping { buffer, name } = dropping;
+    if world.buffer(buffer).is_none() {
+        return Err(EditError::Command(CommandError::NoSuchBuffer(name)));
+    }
+    drop_now(alloc, world, buffer)?;
+    Ok(Ask::Nothing)
+}
+
+/// Goes on with a row, once the hooks of what it did were run. `NoSuchBuffer` comes where its buffer isn't there any more, and
+/// `ModifiedRemain` as where a client leaves; they leave the world. Behind want of memory a buffer may be dropped.
+#[tactic(auto, using(kak_world::proofs::WorldLaws::world_laws), unfolding(crate::specs::Buffers::row_later))]
+pub fn go_later<P: Pattern, T: Turn>(
+    alloc: Global,
+    world: &mut World<P, T>,
+    who: u32,
+    later: Later,
+) -> Result<Ask, EditError>
+    ensures row { GivesRow result world.new.flat (row_later later who world.old.flat) }
+    ensures wanting { IsErrOf result NoMemory → IsUnheard (row_later later who world.old.flat) world.old.flat world.new.flat }
+{
+    match later {
+        Later::Write(saving) => go_on_writing(world, saving),
+        Later::Quit => quit(alloc, world, who),
+        Later::Drop(dropping) => go_on_dropping(alloc, world, dropping),
+    }
 }

@@ -6,6 +6,7 @@ ghost use Rattle.kak_words.specs.Expanding.{expanded as words_expanded};
 ghost use Rattle.kak_world.specs.declared.ask.EditError.TheVariants.{NoMemory};
 ghost use Rattle.kak_world.specs.Flat.{acts};
 ghost use Rattle.kak_world.specs.Rows.{GivesRow, row_of};
+ghost use Rattle.kak_world.specs.Events.{IsUnheard};
 ghost use Rattle.command_forms.specs.Names.{named};
 ghost use Rattle.command_set.specs.Reading.{commands_told};
 ghost use Rattle.command_set.specs.Expanding.{table_of};
@@ -49,7 +50,7 @@ fn run_order<P: Pattern, T: Turn>(
 ) -> Result<Ask, EditError>
     requires { acts who world.old.flat ≡ true }
     ensures row { GivesRow result world.new.flat (row_order order who world.old.flat) }
-    ensures wanting { IsErrOf result NoMemory → world.new.flat ≡ world.old.flat }
+    ensures wanting { IsErrOf result NoMemory → IsUnheard (row_order order who world.old.flat) world.old.flat world.new.flat }
 {
     match order {
         Order::Nothing => {}
@@ -59,12 +60,12 @@ fn run_order<P: Pattern, T: Turn>(
         Order::Quit => return buffers::quit(alloc, world, who),
         Order::QuitForced => return Ok(Ask::Leave),
         Order::Buffer(name) => buffers::show(alloc, world, who, name)?,
-        Order::Delete(name) => buffers::drop_buffer(alloc, world, who, name, false)?,
-        Order::DeleteForced(name) => buffers::drop_buffer(alloc, world, who, name, true)?,
+        Order::Delete(name) => return buffers::drop_buffer(alloc, world, who, name, false),
+        Order::DeleteForced(name) => return buffers::drop_buffer(alloc, world, who, name, true),
         Order::Declare(declaration) => options::declare(alloc, world, declaration)?,
         Order::Set(setting) => options::set(alloc, world, who, setting)?,
         Order::Unset(option) => options::unset(world, who, option)?,
-        Order::SetRegister(register) => registers::set(alloc, world, register)?,
+        Order::SetRegister(register) => registers::set(alloc, world, who, register)?,
         Order::Select(selection) => selecting::select(alloc, world, who, &selection)?,
         Order::Echo(words) => registers::echo(alloc, world, who, &words)?,
         Order::Fail(text) => return Err(registers::fail(alloc, text)),
@@ -123,7 +124,7 @@ fn run_named<P: Pattern, T: Turn>(
 ) -> Result<Ask, EditError>
     requires { acts who world.old.flat ≡ true }
     ensures row { GivesRow result world.new.flat (row_meant name.now typed.now (map (λ w. string_bytes w) words.now) who world.old.flat) }
-    ensures wanting { IsErrOf result NoMemory → world.new.flat ≡ world.old.flat }
+    ensures wanting { IsErrOf result NoMemory → IsUnheard (row_meant name.now typed.now (map (λ w. string_bytes w) words.now) who world.old.flat) world.old.flat world.new.flat }
 {
     let Some(command) = command_named(name) else {
         return running::call(alloc, world, name, typed, words);
@@ -136,7 +137,7 @@ fn run_named<P: Pattern, T: Turn>(
 
 /// Runs one command, by its words, of which the first names it, has an alias that does, or was defined: `NoSuchCommand`
 /// comes where none of this holds. No words do nothing. A
-/// refusal leaves the world, and so does want of memory.
+/// refusal leaves the world; where memory was wanting it is as before, or all was done, but that hooks aren't to hear the last of it.
 #[tactic(auto, using(kak_world::proofs::WorldLaws::world_laws), unfolding(crate::specs::Rows::row_words))]
 pub fn command<P: Pattern, T: Turn>(
     alloc: Global,
@@ -146,7 +147,7 @@ pub fn command<P: Pattern, T: Turn>(
 ) -> Result<Ask, EditError>
     requires { acts who world.old.flat ≡ true }
     ensures row { GivesRow result world.new.flat (row_words (map (λ w. string_bytes w) words.now) who world.old.flat) }
-    ensures wanting { IsErrOf result NoMemory → world.new.flat ≡ world.old.flat }
+    ensures wanting { IsErrOf result NoMemory → IsUnheard (row_words (map (λ w. string_bytes w) words.now) who world.old.flat) world.old.flat world.new.flat }
 {
     match words {
         [] => Ok(Ask::Nothing),
@@ -180,7 +181,7 @@ fn expanded<P: Pattern, T: Turn>(
 }
 
 /// Runs one command, whose words are expanded first: `UnknownExpansion` comes where there is no such expansion. A refusal
-/// leaves the world, and so does want of memory.
+/// leaves the world; where memory was wanting it is as before, or all was done, but that hooks aren't to hear the last of it.
 #[tactic(auto, using(kak_world::proofs::WorldLaws::world_laws), unfolding(crate::specs::Rows::row_command))]
 pub fn run_command<P: Pattern, T: Turn>(
     alloc: Global,
@@ -190,7 +191,7 @@ pub fn run_command<P: Pattern, T: Turn>(
 ) -> Result<Ask, EditError>
     requires { acts who world.old.flat ≡ true }
     ensures row { GivesRow result world.new.flat (row_command command_read.now who world.old.flat) }
-    ensures wanting { IsErrOf result NoMemory → world.new.flat ≡ world.old.flat }
+    ensures wanting { IsErrOf result NoMemory → IsUnheard (row_command command_read.now who world.old.flat) world.old.flat world.new.flat }
 {
     let words = expanded(alloc, world, who, command_read)?;
     command(alloc, world, who, words.as_slice())

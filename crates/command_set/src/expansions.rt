@@ -8,7 +8,7 @@ ghost use Rattle.selection_set.specs.Inside.{IsInside, range_of};
 ghost use Rattle.selection_texts.specs.Telling.{told_text};
 ghost use Rattle.kak_registers.specs.Names.{named};
 ghost use Rattle.kak_world.specs.Flat.{acts, option_of, text_of, story_of};
-ghost use Rattle.command_set.specs.Expanding.{truth, main_selection, main_place, value_strings, value_named, option_strings, register_strings, argument_at, arguments, given_words, table_of};
+ghost use Rattle.command_set.specs.Expanding.{truth, main_selection, main_place, value_strings, value_named, parameter_strings, value_found, option_strings, register_strings, argument_at, arguments, given_words, table_of};
 
 use crate::value_names::{Kind, ValueName, kind_named, value_named};
 use byte_texts::Words;
@@ -160,8 +160,8 @@ fn value_strings<P: Pattern, T: Turn>(
     }
 }
 
-// The strings of an option's value.
-fn option_strings(alloc: Global, value: &OptionValue) -> Result<Words, AllocError>
+/// The strings of an option's value.
+pub(crate) fn option_strings(alloc: Global, value: &OptionValue) -> Result<Words, AllocError>
     ensures { IfOk result (λ words. words ≡ option_strings value.now) }
 {
     match value {
@@ -169,6 +169,19 @@ fn option_strings(alloc: Global, value: &OptionValue) -> Result<Words, AllocErro
         OptionValue::Bool(is) => only(alloc, String::from_str(alloc, truth(*is))?),
         OptionValue::Str(text) => only(alloc, String::from_str(alloc, text.as_str())?),
         OptionValue::StrList(list) => list.copy(alloc),
+    }
+}
+
+// The parameter of the hook that runs, as a string.
+fn parameter_strings<P: Pattern, T: Turn>(
+    alloc: Global,
+    world: &World<P, T>,
+) -> Result<Option<Words>, AllocError>
+    ensures { IfOk result (λ words. words ≡ parameter_strings world.now.flat) }
+{
+    match world.parameter() {
+        None => Ok(None),
+        Some(text) => Ok(Some(only(alloc, String::from_str(alloc, text.as_str())?)?)),
     }
 }
 
@@ -180,8 +193,11 @@ fn named_value<P: Pattern, T: Turn>(
     name: &str,
 ) -> Result<Option<Words>, AllocError>
     requires { acts who world.now.flat ≡ true }
-    ensures { IfOk result (λ words. words ≡ option_map (λ v. value_strings v who world.now.flat) (value_named name.now)) }
+    ensures { IfOk result (λ words. words ≡ value_found name.now who world.now.flat) }
 {
+    if name == "hook_param" {
+        return parameter_strings(alloc, world);
+    }
     match value_named(name) {
         None => Ok(None),
         Some(value) => Ok(Some(value_strings(alloc, world, who, value)?)),

@@ -7,21 +7,22 @@ ghost use Rattle.std.specs.Str.{chars};
 ghost use Rattle.scope_options.specs.declared.scope.Scope.TheVariants.{Buffer as InBuffer};
 ghost use Rattle.kak_world.specs.Flat.{acts, options_of};
 ghost use Rattle.kak_world.specs.Rows.{GivesRow};
+ghost use Rattle.kak_world.specs.Events.{WantsEvents};
 ghost use Rattle.kak_world.specs.Saving.{is_named};
 ghost use Rattle.kak_world.specs.Showing.{first_gap, has_all_buffers, buffer_opened};
-ghost use Rattle.command_set.specs.Files.{set_to, eol_word, bom_word, formatted, load_row, empty_row, coding_refusal, loaded_row, row_read, is_text, is_seen_as, eol_of, bom_of, saved_bytes, marked_if_own, behind_write, row_saved};
+ghost use Rattle.command_set.specs.Files.{set_to, eol_word, bom_word, formatted, made_noted, loaded_noted, load_row, empty_row, coding_refusal, loaded_row, row_read, is_text, is_seen_as, eol_of, bom_of, saved_bytes, marked_if_own, behind_write, row_saved};
 ghost use Rattle.command_set.specs.Wanting.{IsPartOfFormat, IsPartOfLoad, IsPartOfEmpty, IsPartOfLoaded, IsPartOfRead, IsPartOfSaved};
 ghost use Rattle.text_coding.specs.Coding.{loaded};
 
-use crate::buffers::quit;
 use byte_texts::{Utf8Text, Words};
 use kak_files::FileRead;
 use kak_ports::Put;
 use kak_text::{Chars, Text};
-use kak_world::{Ask, CommandError, EditError, Saving, Turn, World, WorldError};
+use kak_world::{Ask, CommandError, EditError, Later, Saving, Turn, World, WorldError};
 use line_buffer::Lines;
 use regex_ports::Pattern;
 use scope_options::{OptionError, OptionValue, Scope};
+use scope_tables::HookName;
 use std::alloc::{AllocError, Global};
 use text_coding::{Bom, DecodeError, Eol, Loaded, decode, encode};
 
@@ -101,7 +102,41 @@ fn open<P: Pattern, T: Turn>(
     }
 }
 
-// Opens a file's text as a buffer, in the form that it had, and shows that to a client.
+// Has hooks hear of a buffer that was made and is shown to a client. An `Err` leaves all but events, and comes
+// only where a hook is held.
+fn note_made<P: Pattern, T: Turn>(
+    alloc: Global,
+    world: &mut World<P, T>,
+    who: u32,
+    name: &str,
+    n: u32,
+) -> Result<(), AllocError>
+    requires { acts who world.old.flat ≡ true }
+    ensures notes { OnOk result (world.new.flat ≡ made_noted name.now n who world.old.flat) }
+    ensures err { OnErr result (WantsEvents (made_noted name.now n who world.old.flat) world.new.flat) }
+{
+    world.note(alloc, HookName::BufCreate, name, n)?;
+    world.note_displayed(alloc, who)
+}
+
+// The same of one that was made of a file.
+fn note_loaded<P: Pattern, T: Turn>(
+    alloc: Global,
+    world: &mut World<P, T>,
+    who: u32,
+    name: &str,
+    n: u32,
+) -> Result<(), AllocError>
+    requires { acts who world.old.flat ≡ true }
+    ensures notes { OnOk result (world.new.flat ≡ loaded_noted name.now n who world.old.flat) }
+    ensures err { OnErr result (WantsEvents (loaded_noted name.now n who world.old.flat) world.new.flat) }
+{
+    world.note(alloc, HookName::BufCreate, name, n)?;
+    world.note(alloc, HookName::BufOpenFile, name, n)?;
+    world.note_displayed(alloc, who)
+}
+
+// Opens a file's text as a buffer, in the form that it had, and shows that to a client, which hooks hear.
 fn load<P: Pattern, T: Turn>(
     alloc: Global,
     world: &mut World<P, T>,
@@ -111,7 +146,7 @@ fn load<P: Pattern, T: Turn>(
 ) -> Result<Ask, EditError>
     requires { acts who world.old.flat ≡ true }
     ensures row { GivesRow result world.new.flat (load_row name.now loaded who world.old.flat) }
-    ensures err { OnErr result (IsPartOfLoad name.now loaded world.old.flat world.new.flat) }
+    ensures err { OnErr result (IsPartOfLoad name.now loaded who world.old.flat world.new.flat) }
 {
     if world.has_all_buffers() {
         return Err(EditError::Command(CommandError::TooManyBuffers));
@@ -120,10 +155,11 @@ fn load<P: Pattern, T: Turn>(
     let n = open(alloc, world, name, text)?;
     set_format(alloc, world, n, eol, bom)?;
     world.show(alloc, who, n)?;
+    note_loaded(alloc, world, who, name, n)?;
     Ok(Ask::Nothing)
 }
 
-// Opens an empty buffer for a file that isn't there, and shows that to a client.
+// Opens an empty buffer for a file that isn't there, and shows that to a client, which hooks hear.
 fn open_empty<P: Pattern, T: Turn>(
     alloc: Global,
     world: &mut World<P, T>,
@@ -132,7 +168,7 @@ fn open_empty<P: Pattern, T: Turn>(
 ) -> Result<Ask, EditError>
     requires { acts who world.old.flat ≡ true }
     ensures row { GivesRow result world.new.flat (empty_row name.now who world.old.flat) }
-    ensures err { OnErr result (IsPartOfEmpty name.now world.old.flat world.new.flat) }
+    ensures err { OnErr result (IsPartOfEmpty name.now who world.old.flat world.new.flat) }
 {
     if world.has_all_buffers() {
         return Err(EditError::Command(CommandError::TooManyBuffers));
@@ -140,6 +176,7 @@ fn open_empty<P: Pattern, T: Turn>(
     let text = Text::newline(alloc)?;
     let n = open(alloc, world, name, Lines::of_text(alloc, &text)?)?;
     world.show(alloc, who, n)?;
+    note_made(alloc, world, who, name, n)?;
     Ok(Ask::Nothing)
 }
 
@@ -164,7 +201,7 @@ fn open_bytes<P: Pattern, T: Turn>(
 ) -> Result<Ask, EditError>
     requires { acts who world.old.flat ≡ true }
     ensures row { GivesRow result world.new.flat (loaded_row (loaded bytes.now) name.now who world.old.flat) }
-    ensures err { OnErr result (IsPartOfLoaded (loaded bytes.now) name.now world.old.flat world.new.flat) }
+    ensures err { OnErr result (IsPartOfLoaded (loaded bytes.now) name.now who world.old.flat world.new.flat) }
 {
     match decode(alloc, bytes) {
         Ok(loaded) => load(alloc, world, who, name, loaded),
@@ -174,7 +211,7 @@ fn open_bytes<P: Pattern, T: Turn>(
 
 /// Goes on with a file that was to be read: its text is opened as a buffer and shown to the client. `FileFault` comes where the
 /// read failed, `NotUtf8` and `TextFull` where the bytes are no text, and `TooManyBuffers` where no more can be opened;
-/// they leave the world. After want of memory the buffer may be opened, and shown to nobody.
+/// they leave the world. Behind want of memory the buffer may be opened, and shown to nobody or to the client.
 #[tactic(auto, unfolding(crate::specs::Files::row_read))]
 pub fn open_read<P: Pattern, T: Turn>(
     alloc: Global,
@@ -185,7 +222,7 @@ pub fn open_read<P: Pattern, T: Turn>(
 ) -> Result<Ask, EditError>
     requires { acts who world.old.flat ≡ true }
     ensures row { GivesRow result world.new.flat (row_read name read.now who world.old.flat) }
-    ensures err { OnErr result (IsPartOfRead name read.now world.old.flat world.new.flat) }
+    ensures err { OnErr result (IsPartOfRead name read.now who world.old.flat world.new.flat) }
 {
     match read {
         FileRead::Bytes(bytes) => open_bytes(alloc, world, who, name.as_str(), bytes.as_slice()),
@@ -281,9 +318,9 @@ fn mark_if_own<P: Pattern, T: Turn>(
     Ok(())
 }
 
-/// Goes on with a file that was to be written: where it went to the buffer's own name, the text counts as saved; and the client
-/// may be to leave then. `FileFault` comes where the write failed, and leaves the world; `ModifiedRemain` as where a
-/// client leaves, when the text counts as saved already. After want of memory it may count so, too.
+/// Goes on with a file that was to be written: where it went to the buffer's own name, the text counts as saved; hooks hear that it
+/// was written, and then the client may be to leave. `FileFault` comes where the write failed, and leaves the world. Behind want of
+/// memory the text may count as saved, too.
 #[tactic(auto, unfolding(crate::specs::Files::row_saved))]
 pub fn note_saved<P: Pattern, T: Turn>(
     alloc: Global,
@@ -293,14 +330,16 @@ pub fn note_saved<P: Pattern, T: Turn>(
     put: Put,
 ) -> Result<Ask, EditError>
     ensures row { GivesRow result world.new.flat (row_saved saving put who world.old.flat) }
-    ensures err { OnErr result (IsPartOfSaved saving put world.old.flat world.new.flat) }
+    ensures err { OnErr result (IsPartOfSaved saving put who world.old.flat world.new.flat) }
 {
     match put {
         Put::Failed => Err(EditError::Command(CommandError::FileFault(saving.file))),
         Put::Done => {
             mark_if_own(alloc, world, &saving)?;
+            let file = saving.file.as_str();
+            world.note(alloc, HookName::BufWritePost, file, saving.buffer)?;
             if saving.quits {
-                return quit(alloc, world, who);
+                return Ok(Ask::Then(Later::Quit));
             }
             Ok(Ask::Nothing)
         }

@@ -9,7 +9,7 @@ ghost use Rattle.kak_world.specs.Rows.{GivesRow, does};
 ghost use Rattle.command_set.specs.Finishing.{source_of, list_used, next_use, further_asked, pattern_used, made_row, row_finish};
 ghost use Rattle.command_set.specs.Refusing.{refusal_of, IsListOf};
 
-use crate::painting;
+use crate::{hooking, painting};
 use kak_world::{Ask, EditError, Turn, Use, Wanted, World};
 use key_rows::ask_for_last;
 use regex_ports::{Made, Pattern};
@@ -191,13 +191,14 @@ fn make<P: Pattern, T: Turn>(
     match wanted {
         Wanted::Selects(wanted) => make_use(alloc, world, who, wanted, &pattern),
         Wanted::Paints(new) => painting::add_made(alloc, world, new, pattern),
+        Wanted::Hooks(new) => hooking::add_made(world, new, pattern),
     }
 }
 
 /// Makes of a pattern what it was asked for, or tells that it was refused: `BadPattern`. A use of its matches is refused by
 /// `NothingSelected` where nothing would be selected, and by `TooManySelections` where there would be more selections than there
 /// may be; one that is to be made more often takes a unit for each further time, and asks for the pattern again; `BudgetSpent`
-/// comes where none is left. Each other refusal leaves the world, and so does want of memory.
+/// comes where none is left. A hook is refused by `TooManyHooks`. Each other refusal leaves the world, and so does want of memory.
 #[tactic(auto, unfolding(crate::specs::Finishing::row_finish))]
 pub fn finish<P: Pattern, T: Turn>(
     alloc: Global,

@@ -3,16 +3,21 @@
 ghost use Rattle.command_set.specs.Examples.{Examples};
 ghost use Rattle.command_set.specs.PaintingExamples.{PaintingExamples};
 ghost use Rattle.command_set.specs.TableExamples.{TableExamples};
-ghost use Rattle.command_set.specs.Laws.{CommandsAreTame, FilesAreTame, FinishFalls, FinishKeepsClients};
+ghost use Rattle.command_set.specs.Laws.{CommandsAreTame, FilesAreTame, LaterRowsAreTame, FinishFalls, FinishKeepsClients};
 
 /// No command takes units, or lets a client come or go.
 pub fn commands_are_tame()
     ensures { CommandsAreTame }
 {}
 
-/// Nor does what is made of a file, behind which no row comes without a unit.
+/// Nor does what is made of a file, behind which fewer rows come without a unit than behind what asked for it.
 pub fn files_are_tame()
     ensures { FilesAreTame }
+{}
+
+/// Nor does what a row goes on with behind hooks, in the same way.
+pub fn later_rows_are_tame()
+    ensures { LaterRowsAreTame }
 {}
 
 /// What is made of a pattern takes a unit where it asks for more.
@@ -35,7 +40,7 @@ pub fn painting_examples()
     ensures { PaintingExamples }
 {}
 
-/// Key maps, aliases and defined commands, at given words and worlds. The function does nothing; its clause is the list of
+/// Key maps, aliases, defined commands and hooks, at given words and worlds. The function does nothing; its clause is the list of
 /// them.
 pub fn table_examples()
     ensures { TableExamples }

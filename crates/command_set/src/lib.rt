@@ -2,12 +2,13 @@
 #![tactic(auto)]
 
 mod boxes;
-mod buffers;
+pub mod buffers;
 pub mod commands;
 mod expansions;
 mod faces;
 pub mod files;
 pub mod finishing;
+mod hooking;
 pub mod laws;
 mod options;
 mod painters;
@@ -18,6 +19,7 @@ mod selecting;
 mod session_tables;
 mod value_names;
 
+pub use buffers::go_later;
 pub use commands::{command, read, run_command};
 pub use files::{bytes_saved, note_saved, open_read};
 pub use finishing::finish;

@@ -27,6 +27,7 @@ pub(crate) fn play<P: Pattern, T: Turn>(
     let keys = keys_told(alloc, order.keys.as_str())?;
     Ok(Ask::Play(PlayKeys {
         keys: Keys::of_vec(keys),
+        hooks: order.hooks,
         maps: order.maps,
         again: None,
     }))

@@ -1,4 +1,4 @@
-//! What commands do to key maps, aliases and defined commands.
+//! What commands do to key maps, aliases, defined commands and hooks.
 #![tactic(auto, using(kak_world::proofs::WorldLaws::world_laws))]
 
 ghost use Rattle.std.specs.Prelude.{◌≡◌, true, Ok, Err, Some, None, IfOk, IfErr, IfSome, IsErrOf};
@@ -7,7 +7,7 @@ ghost use Rattle.key_names.specs.Reading.{read_text};
 ghost use Rattle.kak_world.specs.declared.ask.EditError.TheVariants.{Command as OfCommand, NoMemory};
 ghost use Rattle.kak_world.specs.declared.command_error.CommandError.TheVariants.{NoSuchScope};
 ghost use Rattle.scope_tables.specs.Definitions.{with_definition};
-ghost use Rattle.command_forms.specs.declared.table_orders.TableOrder.TheVariants.{Alias, Unalias};
+ghost use Rattle.command_forms.specs.declared.table_orders.TableOrder.TheVariants.{Alias, Unalias, Hook, RemoveHooks};
 ghost use Rattle.kak_world.specs.Flat.{acts};
 ghost use Rattle.kak_world.specs.Scoping.{with_definitions};
 ghost use Rattle.kak_world.specs.Rows.{Answers, GivesRow, does, row_of};
@@ -17,13 +17,15 @@ ghost use Rattle.command_set.specs.Tables.{mode_named, mode_told, keys_told, key
 use crate::options::scope_named;
 use byte_texts::Utf8Text;
 use command_forms::{
-    AliasName, AliasWords, Allowed, CommandTexts, KeyMapping, KeyName, TableOrder,
+    AliasName, AliasWords, Allowed, CommandTexts, HookGroup, HookWords, KeyMapping, KeyName,
+    TableOrder,
 };
-use kak_world::{Ask, CommandError, EditError, Turn, World};
+use kak_text::Chars;
+use kak_world::{Ask, CommandError, EditError, NewHook, PatternUse, Turn, Wanted, World};
 use key_names::{Key, KeyError, read_keys};
 use regex_ports::Pattern;
 use scope_options::Scope;
-use scope_tables::{Mode, ParameterCount};
+use scope_tables::{Mode, ParameterCount, hook_named};
 use std::alloc::Global;
 
 // The mode that a word names.
@@ -180,6 +182,57 @@ fn count_of(allowed: Allowed) -> ParameterCount
     }
 }
 
+// Asks for the pattern of a hook. `NoSuchScope` comes where there is no such scope, and else `NoSuchHook` where there is no such
+// name.
+fn hook<P: Pattern, T: Turn>(
+    alloc: Global,
+    world: &World<P, T>,
+    who: u32,
+    hook: HookWords,
+) -> Result<Ask, EditError>
+    requires { acts who world.now.flat ≡ true }
+    ensures row { GivesRow result world.now.flat (table_row (Hook hook) who world.now.flat) }
+{
+    let HookWords {
+        scope,
+        name,
+        pattern,
+        commands,
+        group,
+        once,
+    } = hook;
+    let scope = scope_told(world, who, scope)?;
+    let Some(named) = hook_named(name.as_str()) else {
+        return Err(EditError::Command(CommandError::NoSuchHook(name)));
+    };
+    Ok(Ask::Make(PatternUse {
+        pattern: Chars::from_str(alloc, pattern.as_str())?,
+        then: Wanted::Hooks(NewHook {
+            scope,
+            name: named,
+            group,
+            once,
+            commands,
+        }),
+    }))
+}
+
+// Removes the hooks of a group. `NoSuchScope` leaves the world.
+fn remove_hooks<P: Pattern, T: Turn>(
+    world: &mut World<P, T>,
+    who: u32,
+    hooks: HookGroup,
+) -> Result<(), EditError>
+    requires { acts who world.old.flat ≡ true }
+    ensures row { Answers result world.new.flat (table_row (RemoveHooks hooks) who world.old.flat) }
+    ensures wanting { IsErrOf result NoMemory → world.new.flat ≡ world.old.flat }
+{
+    let HookGroup { scope, group } = hooks;
+    let scope = scope_told(world, who, scope)?;
+    world.remove_hooks(scope, group.as_str());
+    Ok(())
+}
+
 // Defines a command.
 fn define<P: Pattern, T: Turn>(
     alloc: Global,
@@ -211,6 +264,8 @@ pub(crate) fn change<P: Pattern, T: Turn>(
         TableOrder::Alias(words) => alias(alloc, world, who, words)?,
         TableOrder::Unalias(name) => unalias(world, who, name)?,
         TableOrder::Define(texts) => define(alloc, world, texts)?,
+        TableOrder::Hook(words) => return hook(alloc, world, who, words),
+        TableOrder::RemoveHooks(hooks) => remove_hooks(world, who, hooks)?,
     }
     Ok(Ask::Nothing)
 }
