@@ -1,5 +1,5 @@
 -- How parts of a step are put together from the calls that the code makes.
-use Rattle.std.proofs.Common.{◌≡◌, ℕ, suc, List, [], ◌∷◌, ◌++◌, refl, sym, ap, ◌∙◌, subst, inr, append-nil}
+use Rattle.std.proofs.Common.{◌≡◌, ℕ, suc, List, [], ◌∷◌, ◌++◌, refl, sym, ap, ◌∙◌, subst, inl, inr, append-nil}
 use Rattle.std.proofs.lemmas.List.{append_assoc}
 use Rattle.std.specs.Prelude.{Ok, Err, Some, is_some, IfOk, IfSome, OnOk, OnErr, IsErr, IsErrOf, alloc_error, true, encode_utf8_all}
 use Rattle.std.specs.declared.option.Option.{Option}
@@ -22,7 +22,10 @@ use Rattle.kak_words.specs.declared.parts.Command.{Command}
 use Rattle.kak_world.specs.declared.ask.Ask.{Ask}
 use Rattle.kak_world.specs.declared.ask.EditError.{EditError}
 use Rattle.kak_world.specs.declared.ask.EditError.TheVariants.{BudgetSpent, NoMemory}
+use Rattle.kak_world.specs.declared.ask.Later.{Later}
+use Rattle.kak_world.specs.declared.events.Fault.{Fault}
 use Rattle.kak_world.specs.Dropping.{KeepsJoined}
+use Rattle.kak_world.specs.Events.{faults_of}
 use Rattle.kak_world.specs.Flat.{Flat, acts, units_of, with_units}
 use Rattle.kak_world.specs.Rows.{Row, Asks, Fails, GivesUp, RowEnd, GivesRow, error_text, row_of}
 use Rattle.kak_world.proofs.KeepingLaws.{acts_kept, keeps_units}
@@ -33,12 +36,12 @@ use Rattle.kak_engine.specs.declared.ending.Ending.{Ending}
 use Rattle.kak_engine.specs.Answering.{as_made, as_read, as_put, made_told, is_built, read_told, put_told}
 use Rattle.kak_engine.specs.Asking.{Asked, OfPattern}
 use Rattle.kak_engine.specs.Course.{Task, UsesPattern, ShowsFile, NotesFile, GrantsLeave, Happened, WasAsked, Began, asks_in}
-use Rattle.kak_engine.specs.Doing.{DoingEnd, Fine, Failed, GivenUp, Moment, Outcome, Part, Go, done_as, in_world, granted, task_row, beginning, run_task, end_by_error, each, unit_of, with_unit, go_on, run_command, run_read, taken_as, next_as, go_back, by_making, by_reading, by_writing, Do, budget_spent}
+use Rattle.kak_engine.specs.Doing.{DoingEnd, Fine, Failed, GivenUp, Moment, Outcome, Part, Go, done_as, in_world, and_then, settle, granted, task_row, task_done, beginning, run_task, end_by_error, each, unit_of, with_unit, go_on, run_command, run_read, do_ask, taken_as, next_as, go_back, by_making, by_reading, by_writing, Do, budget_spent}
 use Rattle.kak_engine.specs.declared.place.Place.{Place}
 use Rattle.kak_engine.specs.Honesty.{Outside, IsHonest, MakesPattern, ReadsFile, WritesFile}
-use Rattle.kak_engine.specs.Seen.{Does, IsCutShort, PartEnds, end_seen, moment_of, UnderWay, under_way}
+use Rattle.kak_engine.specs.Seen.{ActsBehind, Does, IsCutShort, PartEnds, end_seen, moment_of, UnderWay, under_way}
 use Rattle.kak_engine.specs.Wanting.{IsPartOfTask, IsWithinTask}
-use Rattle.kak_engine.proofs.AskingLaws.{Grows, grows-row, grows-task, grows-do}
+use Rattle.kak_engine.proofs.AskingLaws.{Grows, grows-row, grows-task, grows-ask, grows-do}
 use Rattle.kak_engine.proofs.CarryingLaws.{Keeps}
 use Rattle.kak_engine.proofs.DoingLemmas.{Do-body}
 use Rattle.kak_engine.proofs.HonestLemmas.{honest-none, honest-same, honest-behind}
@@ -59,9 +62,6 @@ ends-at (Err e) f g old new h d = cut-at f g old new h d
 ends-at (Ok e) f g old new h d = record { used = d.used; course = d.course; kept = d.kept; leads = λ before later. h before (d.used ++ later) ∙ d.leads before later; honest = d.honest; left = d.left }
 
 -- and wherever it begins
-cut-by : (f g : Part) (old new : UnderWay) → ((m : Moment) → f m ≡ g m) → IsCutShort g old new → IsCutShort f old new
-cut-by f g old new h d = cut-at f g old new (λ course answers. h (moment_of course answers old.world)) d
-
 pub ends-by : (r : Result Ending AllocError) (f g : Part) (old new : UnderWay) → ((m : Moment) → f m ≡ g m) → PartEnds r g old new → PartEnds r f old new
 ends-by r f g old new h d = ends-at r f g old new (λ course answers. h (moment_of course answers old.world)) d
 
@@ -88,16 +88,25 @@ cut-before part old new g same stays = record {
   left = stays;
 }
 
--- a client is granted to leave
-pub does-leave : (place : Place) (part : Part) (old now : Flat) (had : List Answered) (o : Outside) → now ≡ granted place.who old → ((m : Moment) → part m ≡ done_as Fine (in_world (granted place.who m.world) (beginning place.who GrantsLeave m)))
-    → Does part (under_way old had o) (under_way now had o) Fine
-does-leave place part old now had o goes h = record {
+-- a task whose row asks for nothing was done, and one for which memory was wanting
+pub does-task : (who : ℕ) (task : Task) (end : DoingEnd) (old now : Flat) (had : List Answered) (o : Outside) → now ≡ (task_row task who old).world → Does (λ m. done_as end (task_done who task m)) (under_way old had o) (under_way now had o) end
+does-task who task end old now had o goes = record {
   used = [];
-  course = Began place.who GrantsLeave old ∷ [];
+  course = Began who task old ∷ [];
   kept = sym (append-nil had);
-  leads = λ before later. h (moment_of before later old) ∙ ap (λ (x : Flat). let q : Outcome = record { moment = moment_of (before ++ Began place.who GrantsLeave old ∷ []) later x; end = Fine } in q) (sym goes);
+  leads = λ before later. ap (λ (x : Flat). let q : Outcome = record { moment = moment_of (before ++ Began who task old ∷ []) later x; end = end } in q) (sym goes);
   honest = honest-none o;
   left = inr goes;
+}
+
+-- a task that was begun, where memory was wanting, in front of a part in which more happens
+pub task-wanting : (who : ℕ) (task : Task) (part : Part) (old now : Flat) (had : List Answered) (o : Outside) → Grows part → IsPartOfTask task who old now → IsCutShort (λ m. part (task_done who task m)) (under_way old had o) (under_way now had o)
+task-wanting who task part old now had o g wants = record {
+  used = [];
+  course = Began who task old ∷ [];
+  begins = λ before. g (task_done who task (moment_of before [] old));
+  honest = honest-none o;
+  left = inl wants;
 }
 
 -- what comes behind a row asks for more
@@ -123,30 +132,36 @@ row-asks place ask (Ok e) now had o new d end g = record {
   left = d.left;
 }
 
--- how a row ends that gives a refusal's text, or gives up
-row-ends : (place : Place) (row : Row) (end : DoingEnd) (e : Ending) (now : Flat) (given : RowEnd) → given ≡ record { world = now; row = row } → ((m : Moment) → Do place row m ≡ record { moment = m; end = end }) → end_seen e ≡ end
-    → (course : List Happened) (answers : List Answered) → go_on Do place given (moment_of course answers now) ≡ record { moment = moment_of course answers now; end = end_seen e }
-row-ends place row end e now given g does f course answers =
+-- a row that gives up, as its code answered that
+pub given-up-row : (place : Place) (error : EditError) (told : ℕ) (text : List ℕ) (now : Flat) (had : List Answered) (o : Outside) → GivenUp text ≡ end_by_error told error
+    → (end : RowEnd) → GivesRow (Err error) now end → Does (λ m. go_on Do place end m) (under_way now had o) (under_way now had o) (GivenUp text)
+given-up-row place BudgetSpent told text now had o f end g =
+    does-alone (λ m. go_on Do place end m) now now had o (GivenUp text) refl (λ course answers.
     ap (λ (x : RowEnd). go_on Do place x (moment_of course answers now)) g
-    ∙ does (moment_of course answers now)
-    ∙ ap (λ (x : DoingEnd). let o : Outcome = record { moment = moment_of course answers now; end = x } in o) (sym f)
+    ∙ Do-body place GivesUp (moment_of course answers now)
+    ∙ ap (λ (x : DoingEnd). let q : Outcome = record { moment = moment_of course answers now; end = x } in q) (sym f))
+given-up-row place NoMemory told text now had o f end g = cc
+given-up-row place error told text now had o f end g = cc
 
-failed-row : (place : Place) (text : List ℕ) (e : Ending) (now : Flat) (end : RowEnd) → end ≡ record { world = now; row = Fails text } → end_seen e ≡ Failed text
-    → (course : List Happened) (answers : List Answered) → go_on Do place end (moment_of course answers now) ≡ record { moment = moment_of course answers now; end = end_seen e }
-failed-row place text e now end g f = row-ends place (Fails text) (Failed text) e now end g (λ m. Do-body place (Fails text) m) f
+-- a row that fails, behind which hooks are run before it ends with its error
+pub failed-row : (place : Place) (error : EditError) (fault : Fault) (r : Result Ending AllocError) (now : Flat) (had : List Answered) (o : Outside) (new : UnderWay) → Failed fault ≡ end_by_error (faults_of now) error → (error ≡ NoMemory → ⊥)
+    → PartEnds r (λ m. and_then (settle Do place m) (done_as (Failed fault))) (under_way now had o) new → (end : RowEnd) → GivesRow (Err error) now end → PartEnds r (λ m. go_on Do place end m) (under_way now had o) new
+failed-row place BudgetSpent fault r now had o new f n d end g = cc
+failed-row place NoMemory fault r now had o new f n d end g = absurd (n refl)
+failed-row place error fault r now had o new f n d end g =
+    ends-at r (λ m. go_on Do place end m) (λ m. and_then (settle Do place m) (done_as (Failed fault))) (under_way now had o) new (λ course answers.
+    ap (λ (x : RowEnd). go_on Do place x (moment_of course answers now)) g
+    ∙ Do-body place (Fails (error_text error)) (moment_of course answers now)
+    ∙ ap (λ (x : DoingEnd). and_then (settle Do place (moment_of course answers now)) (done_as x)) (sym f)) d
 
--- a row that fails ends the part as its refusal does
-refused-row : (place : Place) (error : EditError) (e : Ending) (now : Flat) → end_seen e ≡ end_by_error error → (error ≡ NoMemory → IsErr {T = Ending} {E = AllocError} (Ok e))
-    → (end : RowEnd) → GivesRow (Err error) now end
-    → (course : List Happened) (answers : List Answered) → go_on Do place end (moment_of course answers now) ≡ record { moment = moment_of course answers now; end = end_seen e }
-refused-row place BudgetSpent e now f n end g = row-ends place GivesUp (GivenUp budget_spent) e now end g (λ m. Do-body place GivesUp m) f
-refused-row place NoMemory e now f n end g = absurd (let x : IsErr {T = Ending} {E = AllocError} (Ok e) = n refl in cc)
-refused-row place error e now f n end g = failed-row place (error_text error) e now end g f
+-- no refusal ends well
+pub none-fine : (told : ℕ) (error : EditError) → Fine ≡ end_by_error told error → ⊥
+none-fine told BudgetSpent f = cc
+none-fine told error f = cc
 
-pub row-fails : (place : Place) (error : EditError) (r : Result Ending AllocError) (now : Flat) (had : List Answered) (o : Outside) → IfOk r (λ e. end_seen e ≡ end_by_error error) → (error ≡ NoMemory → IsErr r)
-    → (end : RowEnd) → GivesRow (Err error) now end → PartEnds r (λ m. go_on Do place end m) (under_way now had o) (under_way now had o)
-row-fails place error (Err e) now had o f n end g = cut-before (λ m. go_on Do place end m) (under_way now had o) (under_way now had o) (grows-end place end) refl refl
-row-fails place error (Ok e) now had o f n end g = does-alone (λ m. go_on Do place end m) now now had o (end_seen e) refl (refused-row place error e now f n end g)
+-- memory was wanting for the text of a refusal, or for the refused row itself
+pub untold-row : (place : Place) (now : Flat) (had : List Answered) (o : Outside) (end : RowEnd) → IsCutShort (λ m. go_on Do place end m) (under_way now had o) (under_way now had o)
+untold-row place now had o end = cut-before (λ m. go_on Do place end m) (under_way now had o) (under_way now had o) (grows-end place end) refl refl
 
 -- what the text of a refused reading leads to: nothing is run
 is-read : (error : EditError) (r : Result (List Command) EditError) → (error ≡ NoMemory → ⊥) → IfSome (row_of error) (λ row. r ≡ Err error) → r ≡ Err error
@@ -154,7 +169,7 @@ is-read NoMemory r n w = absurd (n refl)
 is-read error r n w = w
 
 pub unread : (go : Go) (place : Place) (read : Result (List Command) EditError) (error : EditError) (r : Result Ending AllocError) (now : Flat) (had : List Answered) (o : Outside)
-    → IfSome (row_of error) (λ row. read ≡ Err error) → IfOk r (λ e. end_seen e ≡ end_by_error error) → (error ≡ NoMemory → IsErr r) → Grows (λ m. run_read go place read m)
+    → IfSome (row_of error) (λ row. read ≡ Err error) → IfOk r (λ e. end_seen e ≡ end_by_error (faults_of now) error) → (error ≡ NoMemory → IsErr r) → Grows (λ m. run_read go place read m)
     → PartEnds r (λ m. run_read go place read m) (under_way now had o) (under_way now had o)
 unread go place read error (Err e) now had o w f n g = cut-before (λ m. run_read go place read m) (under_way now had o) (under_way now had o) g refl refl
 unread go place read error (Ok e) now had o w f n g =
@@ -169,30 +184,43 @@ pub all-read : (go : Go) (place : Place) (read : Result (List Command) EditError
     → PartEnds r (λ m. each (run_command go place) commands m) old new → PartEnds r (λ m. run_read go place read m) old new
 all-read go place read commands r old new e d = ends-by r (λ m. run_read go place read m) (λ m. each (run_command go place) commands m) old new (λ m. ap (λ (x : Result (List Command) EditError). run_read go place x m) e) d
 
--- a part that begins a task, behind whose row it goes on
-pub begun-ends : (place : Place) (task : Task) (r : Result Ending AllocError) (part : Part) (old before now : Flat) (had : List Answered) (o : Outside) (new : UnderWay)
-    → ((course : List Happened) (answers : List Answered) → part (moment_of course answers old) ≡ go_on Do place (task_row task place.who before) (moment_of (course ++ Began place.who task before ∷ []) answers now))
-    → IsWithinTask task place.who before now → PartEnds r (λ m. go_on Do place (task_row task place.who before) m) (under_way now had o) new → PartEnds r part (under_way old had o) new
-begun-ends place task (Err e) part old before now had o new h within d = record {
+-- a part that begins a task, and goes on with another one behind its row
+pub begun-part : (who : ℕ) (task : Task) (r : Result Ending AllocError) (part rest : Part) (old before now : Flat) (had : List Answered) (o : Outside) (new : UnderWay)
+    → ((course : List Happened) (answers : List Answered) → part (moment_of course answers old) ≡ rest (moment_of (course ++ Began who task before ∷ []) answers now))
+    → IsWithinTask task who before now → PartEnds r rest (under_way now had o) new → PartEnds r part (under_way old had o) new
+begun-part who task (Err e) part rest old before now had o new h within d = record {
   used = d.used;
-  course = Began place.who task before ∷ d.course;
+  course = Began who task before ∷ d.course;
   begins = λ es.
-      subst (λ (q : Outcome). Begins q.moment.course (es ++ Began place.who task before ∷ d.course)) (sym (h es d.used))
-      (subst (λ (q : List Happened). Begins (go_on Do place (task_row task place.who before) (moment_of (es ++ Began place.who task before ∷ []) d.used now)).moment.course q) (append_assoc es (Began place.who task before ∷ []) d.course) (d.begins (es ++ Began place.who task before ∷ [])));
+      subst (λ (q : Outcome). Begins q.moment.course (es ++ Began who task before ∷ d.course)) (sym (h es d.used))
+      (subst (λ (q : List Happened). Begins (rest (moment_of (es ++ Began who task before ∷ []) d.used now)).moment.course q) (append_assoc es (Began who task before ∷ []) d.course) (d.begins (es ++ Began who task before ∷ [])));
   honest = d.honest;
-  left = left-begun place.who task before now d.course new.world within d.left;
+  left = left-begun who task before now d.course new.world within d.left;
 }
-begun-ends place task (Ok e) part old before now had o new h within d = record {
+begun-part who task (Ok e) part rest old before now had o new h within d = record {
   used = d.used;
-  course = Began place.who task before ∷ d.course;
+  course = Began who task before ∷ d.course;
   kept = d.kept;
   leads = λ es later.
       h es (d.used ++ later)
-      ∙ d.leads (es ++ Began place.who task before ∷ []) later
-      ∙ ap (λ (q : List Happened). let o : Outcome = record { moment = moment_of q later new.world; end = end_seen e } in o) (append_assoc es (Began place.who task before ∷ []) d.course);
+      ∙ d.leads (es ++ Began who task before ∷ []) later
+      ∙ ap (λ (q : List Happened). let o : Outcome = record { moment = moment_of q later new.world; end = end_seen e } in o) (append_assoc es (Began who task before ∷ []) d.course);
   honest = d.honest;
-  left = left-begun place.who task before now d.course new.world within d.left;
+  left = left-begun who task before now d.course new.world within d.left;
 }
+
+-- a part behind a task whose row asks for nothing
+pub task-then : (who : ℕ) (task : Task) (rest : Part) (r : Result Ending AllocError) (old now : Flat) (had : List Answered) (o : Outside) (new : UnderWay) → now ≡ (task_row task who old).world
+    → PartEnds r rest (under_way now had o) new → PartEnds r (λ m. rest (task_done who task m)) (under_way old had o) new
+task-then who task rest r old now had o new goes d =
+    begun-part who task r (λ m. rest (task_done who task m)) rest old old now had o new
+    (λ course answers. ap (λ (x : Flat). rest (moment_of (course ++ Began who task old ∷ []) answers x)) (sym goes)) (inr goes) d
+
+-- what comes behind a task's row, where it goes on with that
+begun-ends : (place : Place) (task : Task) (r : Result Ending AllocError) (part : Part) (old before now : Flat) (had : List Answered) (o : Outside) (new : UnderWay)
+    → ((course : List Happened) (answers : List Answered) → part (moment_of course answers old) ≡ go_on Do place (task_row task place.who before) (moment_of (course ++ Began place.who task before ∷ []) answers now))
+    → IsWithinTask task place.who before now → PartEnds r (λ m. go_on Do place (task_row task place.who before) m) (under_way now had o) new → PartEnds r part (under_way old had o) new
+begun-ends place task r part old before now had o new h within d = begun-part place.who task r part (λ m. go_on Do place (task_row task place.who before) m) old before now had o new h within d
 
 -- a task, behind whose row it goes on
 pub task-ends : (place : Place) (task : Task) (r : Result Ending AllocError) (before now : Flat) (had : List Answered) (o : Outside) (new : UnderWay)
@@ -260,8 +288,8 @@ back-begun place kind what task answer x old had o new k honest within =
     (cut-before (λ m. go_on Do place (task_row (task x) place.who old) m) (under_way new.world had new.outside) new (grows-end place (task_row (task x) place.who old)) refl refl))
 
 -- what a row asks for was cut short before the outside was asked
-pub ask-unasked : (place : Place) (ask : Ask) (old new : UnderWay) → new.outside ≡ old.outside → new.world ≡ old.world → IsCutShort (λ m. Do place (Asks ask) m) old new
-ask-unasked place ask old new same stays = cut-before (λ m. Do place (Asks ask) m) old new (λ m. grows-do place (Asks ask) m) same stays
+pub ask-unasked : (place : Place) (ask : Ask) (old new : UnderWay) → new.outside ≡ old.outside → new.world ≡ old.world → IsCutShort (λ m. do_ask Do place ask m) old new
+ask-unasked place ask old new same stays = cut-before (λ m. do_ask Do place ask m) old new (λ m. grows-ask Do place ask grows-do m) same stays
 
 -- a use that goes on behind a pattern that the maker made or refused
 made-as : {P : Type 0} (source : P → List ℕ) (made : Made P) (text : List ℕ) → IfBuilt made (λ p. source p ≡ text) → as_made text (made_told made) ≡ Some (source_of source made)
@@ -283,22 +311,20 @@ pub made-ends : {P : Type 0} (place : Place) (wanted : PatternUse) (said : List 
     → told ≡ made_told made → IfBuilt made (λ p. source p ≡ encode_utf8_all said) → MakesPattern made (encode_utf8_all said) o p → mid ≡ had ++ told ∷ []
     → GivesRow row now (row_finish wanted.then (source_of source made) place.who old) → (IsErrOf row NoMemory → now ≡ old)
     → PartEnds r (λ m. go_on Do place (row_finish wanted.then (source_of source made) place.who old) m) (under_way now mid p) new
-    → PartEnds r (λ m. Do place (Asks (Make wanted)) m) (under_way old had o) new
+    → PartEnds r (λ m. do_ask Do place (Make wanted) m) (under_way old had o) new
 made-ends place wanted said source made told row r old now had mid o p new same is b h k gives wants d =
-    ends-by r _ _ _ new (λ m. Do-body place (Asks (Make wanted)) m)
-    (back-ends place (as_made (encode_utf8_all wanted.pattern)) (by_making (encode_utf8_all wanted.pattern)) (UsesPattern wanted.then) told (source_of source made) r old now had mid o p new
+    back-ends place (as_made (encode_utf8_all wanted.pattern)) (by_making (encode_utf8_all wanted.pattern)) (UsesPattern wanted.then) told (source_of source made) r old now had mid o p new
     (ap (as_made (encode_utf8_all wanted.pattern)) is ∙ made-as source made _ (subst (λ text. IfBuilt made (λ p. source p ≡ encode_utf8_all text)) same b)) k
     (made-honest-as source made _ told o p is (subst (λ text. MakesPattern made (encode_utf8_all text) o p) same h))
-    (row-within place.who (UsesPattern wanted.then (source_of source made)) row old now gives wants) d)
+    (row-within place.who (UsesPattern wanted.then (source_of source made)) row old now gives wants) d
 
 pub made-unkept : {P : Type 0} (place : Place) (wanted : PatternUse) (said : List ℕ) (source : P → List ℕ) (made : Made P) (old : Flat) (had : List Answered) (o : Outside) (new : UnderWay) → said ≡ wanted.pattern
     → IfBuilt made (λ p. source p ≡ encode_utf8_all said) → MakesPattern made (encode_utf8_all said) o new.outside → new.world ≡ old
-    → IsCutShort (λ m. Do place (Asks (Make wanted)) m) (under_way old had o) new
+    → IsCutShort (λ m. do_ask Do place (Make wanted) m) (under_way old had o) new
 made-unkept place wanted said source made old had o new same b h stays =
-    cut-by _ _ _ new (λ m. Do-body place (Asks (Make wanted)) m)
-    (back-unkept place (as_made (encode_utf8_all wanted.pattern)) (by_making (encode_utf8_all wanted.pattern)) (UsesPattern wanted.then) (made_told made) (source_of source made) old had o new
+    back-unkept place (as_made (encode_utf8_all wanted.pattern)) (by_making (encode_utf8_all wanted.pattern)) (UsesPattern wanted.then) (made_told made) (source_of source made) old had o new
     (made-as source made _ (subst (λ text. IfBuilt made (λ p. source p ≡ encode_utf8_all text)) same b))
-    (made-honest-as source made _ (made_told made) o new.outside refl (subst (λ text. MakesPattern made (encode_utf8_all text) o new.outside) same h)) stays)
+    (made-honest-as source made _ (made_told made) o new.outside refl (subst (λ text. MakesPattern made (encode_utf8_all text) o new.outside) same h)) stays
 
 -- a file that was read
 read-as : (read : FileRead) → as_read (read_told read) ≡ Some read
@@ -309,21 +335,19 @@ read-as file.Failed = refl
 
 pub read-ends : (place : Place) (name said : List ℕ) (read : FileRead) (told : Answered) (row : Result Ask EditError) (r : Result Ending AllocError) (old now : Flat) (had mid : List Answered) (o p : Outside) (new : UnderWay) → said ≡ name → told ≡ read_told read
     → ReadsFile read said o p → mid ≡ had ++ told ∷ []
-    → GivesRow row now (row_read name read place.who old) → OnErr row (IsPartOfRead name read old now)
+    → GivesRow row now (row_read name read place.who old) → OnErr row (IsPartOfRead name read place.who old now)
     → PartEnds r (λ m. go_on Do place (row_read name read place.who old) m) (under_way now mid p) new
-    → PartEnds r (λ m. Do place (Asks (Read name)) m) (under_way old had o) new
+    → PartEnds r (λ m. do_ask Do place (Read name) m) (under_way old had o) new
 read-ends place name said read told row r old now had mid o p new same is h k gives wants d =
-    ends-by r _ _ _ new (λ m. Do-body place (Asks (Read name)) m)
-    (back-ends place as_read (by_reading name) (ShowsFile name) (read_told read) read r old now had mid o p new (read-as read) (k ∙ ap (λ (a : Answered). had ++ a ∷ []) is)
-    (subst (λ n. ReadsFile read n o p) same h) (row-within place.who (ShowsFile name read) row old now gives (of-err row NoMemory wants)) d)
+    back-ends place as_read (by_reading name) (ShowsFile name) (read_told read) read r old now had mid o p new (read-as read) (k ∙ ap (λ (a : Answered). had ++ a ∷ []) is)
+    (subst (λ n. ReadsFile read n o p) same h) (row-within place.who (ShowsFile name read) row old now gives (of-err row NoMemory wants)) d
 
 pub read-unkept : (place : Place) (name said : List ℕ) (read : FileRead) (row : Result Ask EditError) (old : Flat) (had : List Answered) (o : Outside) (new : UnderWay) → said ≡ name
-    → ReadsFile read said o new.outside → GivesRow row new.world (row_read name read place.who old) → OnErr row (IsPartOfRead name read old new.world)
-    → IsCutShort (λ m. Do place (Asks (Read name)) m) (under_way old had o) new
+    → ReadsFile read said o new.outside → GivesRow row new.world (row_read name read place.who old) → OnErr row (IsPartOfRead name read place.who old new.world)
+    → IsCutShort (λ m. do_ask Do place (Read name) m) (under_way old had o) new
 read-unkept place name said read row old had o new same h gives wants =
-    cut-by _ _ _ new (λ m. Do-body place (Asks (Read name)) m)
-    (back-begun place as_read (by_reading name) (ShowsFile name) (read_told read) read old had o new (read-as read)
-    (subst (λ n. ReadsFile read n o new.outside) same h) (row-within place.who (ShowsFile name read) row old new.world gives (of-err row NoMemory wants)))
+    back-begun place as_read (by_reading name) (ShowsFile name) (read_told read) read old had o new (read-as read)
+    (subst (λ n. ReadsFile read n o new.outside) same h) (row-within place.who (ShowsFile name read) row old new.world gives (of-err row NoMemory wants))
 
 -- a file that was written
 put-as : (put : Put) → as_put (put_told put) ≡ Some put
@@ -332,18 +356,16 @@ put-as put.Failed = refl
 
 pub write-ends : (place : Place) (saving : Saving) (put : Put) (told : Answered) (row : Result Ask EditError) (r : Result Ending AllocError) (old now : Flat) (had mid : List Answered) (o p : Outside) (new : UnderWay) → told ≡ put_told put
     → WritesFile put saving.file (saved_bytes saving old) o p → mid ≡ had ++ told ∷ []
-    → GivesRow row now (row_saved saving put place.who old) → OnErr row (IsPartOfSaved saving put old now)
+    → GivesRow row now (row_saved saving put place.who old) → OnErr row (IsPartOfSaved saving put place.who old now)
     → PartEnds r (λ m. go_on Do place (row_saved saving put place.who old) m) (under_way now mid p) new
-    → PartEnds r (λ m. Do place (Asks (Write saving)) m) (under_way old had o) new
+    → PartEnds r (λ m. do_ask Do place (Write saving) m) (under_way old had o) new
 write-ends place saving put told row r old now had mid o p new is h k gives wants d =
-    ends-by r _ _ _ new (λ m. Do-body place (Asks (Write saving)) m)
-    (back-ends place as_put (by_writing saving) (NotesFile saving) (put_told put) put r old now had mid o p new (put-as put) (k ∙ ap (λ (a : Answered). had ++ a ∷ []) is) h (row-within place.who (NotesFile saving put) row old now gives (of-err row NoMemory wants)) d)
+    back-ends place as_put (by_writing saving) (NotesFile saving) (put_told put) put r old now had mid o p new (put-as put) (k ∙ ap (λ (a : Answered). had ++ a ∷ []) is) h (row-within place.who (NotesFile saving put) row old now gives (of-err row NoMemory wants)) d
 
 pub write-unkept : (place : Place) (saving : Saving) (put : Put) (old : Flat) (had : List Answered) (o : Outside) (new : UnderWay)
-    → WritesFile put saving.file (saved_bytes saving old) o new.outside → new.world ≡ old → IsCutShort (λ m. Do place (Asks (Write saving)) m) (under_way old had o) new
+    → WritesFile put saving.file (saved_bytes saving old) o new.outside → new.world ≡ old → IsCutShort (λ m. do_ask Do place (Write saving) m) (under_way old had o) new
 write-unkept place saving put old had o new h stays =
-    cut-by _ _ _ new (λ m. Do-body place (Asks (Write saving)) m)
-    (back-unkept place as_put (by_writing saving) (NotesFile saving) (put_told put) put old had o new (put-as put) h stays)
+    back-unkept place as_put (by_writing saving) (NotesFile saving) (put_told put) put old had o new (put-as put) h stays
 
 -- a task behind a unit that was taken, and a part without a unit
 pub unit-task : (place : Place) (task : Task) (row : Result Ask EditError) (r : Result Ending AllocError) (old before now : Flat) (had : List Answered) (o : Outside) (new : UnderWay) → units_of old ≡ suc (units_of before) → before ≡ with_units (units_of before) old
@@ -367,9 +389,14 @@ pub unit-acts : (who : ℕ) (old now : Flat) → now ≡ with_units (units_of no
 unit-acts who old now w a = ap (acts who) w ∙ acts_kept who old _ (keeps_units (units_of now) old) ∙ a
 
 -- behind a row that isn't wanting in memory, its client acts still
-pub acts-row : (who : ℕ) (r : Result Ask EditError) (old new : Flat) (end : RowEnd) → GivesRow r new end → KeepsJoined old end.world → acts who old ≡ true → OnOk r (acts who new ≡ true)
+acts-refused : (who : ℕ) (error : EditError) (old new : Flat) (end : RowEnd) → GivesRow (Err error) new end → KeepsJoined old end.world → acts who old ≡ true → ActsBehind (Err error) who new
+acts-refused who NoMemory old new end g k a = tt
+acts-refused who BudgetSpent old new end g k a = ap (λ (x : RowEnd). acts who x.world) (sym g) ∙ acts_still who old end.world k a
+acts-refused who error old new end g k a = ap (λ (x : RowEnd). acts who x.world) (sym g) ∙ acts_still who old end.world k a
+
+pub acts-row : (who : ℕ) (r : Result Ask EditError) (old new : Flat) (end : RowEnd) → GivesRow r new end → KeepsJoined old end.world → acts who old ≡ true → ActsBehind r who new
 acts-row who (Ok ask) old new end g k a = ap (λ (x : RowEnd). acts who x.world) (sym g) ∙ acts_still who old end.world k a
-acts-row who (Err e) old new end g k a = tt
+acts-row who (Err error) old new end g k a = acts-refused who error old new end g k a
 
 -- what is so behind a part by its definition, is so where the part was done
 pub does-keeps : (R : Flat → Flat → Type 0) (part : Part) (end : DoingEnd) (old new : UnderWay) → Does part old new end → Keeps R part → R old.world new.world

@@ -14,7 +14,7 @@ use Rattle.kak_world.specs.declared.world.TheConstants.{MAX_CLIENTS}
 use Rattle.kak_world.specs.Flat.{Flat, opening, is_of, joined_by, left_by_client}
 use Rattle.kak_world.specs.Keeping.{whos_of}
 use Rattle.kak_engine.specs.Steps.{after_entry, after_event, run_from, run}
-use Rattle.kak_engine.proofs.KeepingLaws.{keeps_key, keeps_resize, keeps_scroll, keeps_mouse, keeps_refresh}
+use Rattle.kak_engine.proofs.KeepingLaws.{keeps_key, keeps_resize, keeps_scroll, keeps_mouse, keeps_refresh, keeps_come, parted, going-leaves, keeps_parted}
 
 whos-come : (who : ℕ) (flat : Flat) → whos_of (joined_by who flat).clients ≡ whos_of flat.clients ++ who ∷ []
 unfolding joined_by
@@ -34,13 +34,16 @@ unfolding left_by_client
 whos-go who flat = whos-left who flat.clients
 
 whos-after : (who : ℕ) (event : Event) (answers : List Answered) (flat : Flat) → whos_of (after_event who event answers flat).clients ≡ here_after who (kind_of event) (whos_of flat.clients)
-whos-after who Join answers flat = whos-come who flat
+whos-after who Join answers flat = (keeps_come who answers flat).whos ∙ whos-come who flat
 whos-after who (Struck key) answers flat = (keeps_key who key answers flat).whos
 whos-after who (Resize size) answers flat = (keeps_resize who size flat).whos
 whos-after who (Scroll lines) answers flat = (keeps_scroll who lines flat).whos
 whos-after who (Pointed mouse) answers flat = (keeps_mouse who mouse flat).whos
 whos-after who (Refresh asked) answers flat = (keeps_refresh who flat).whos
-whos-after who Leave answers flat = whos-go who flat
+whos-after who Leave answers flat =
+    ap (λ (f : Flat). whos_of f.clients) (going-leaves who answers flat)
+    ∙ whos-go who (parted who answers flat)
+    ∙ ap (λ (numbers : List ℕ). filter (λ number. not (number == who)) numbers) (keeps_parted who answers flat).whos
 
 whos-run : (flat : Flat) (history : List Entry) → whos_of (run_from flat history).clients ≡ here_from (whos_of flat.clients) history
 whos-run flat [] = refl

@@ -1,7 +1,6 @@
 -- No key makes a client come or go.
-use Rattle.std.proofs.Common.{◌≡◌, ℕ, ℤ, Bool, true, false, List, refl, ◌∙◌}
-use Rattle.std.specs.Prelude.{if◌then◌else◌, None, Some}
-use Rattle.std.specs.declared.option.Option.{Option}
+use Rattle.std.proofs.Common.{◌≡◌, ℕ, ℤ, Bool, true, false, List, [], refl, ◌∙◌}
+use Rattle.std.specs.Prelude.{if◌then◌else◌, None}
 use Rattle.key_names.specs.declared.key.Key.{Key}
 use Rattle.window_view.specs.Sizes.{Dimensions}
 use Rattle.mouse_events.specs.declared.mouse.Mouse.{Mouse}
@@ -10,8 +9,9 @@ use Rattle.kak_world.specs.declared.own.Mode.TheVariants.{Normal, Insert, Prompt
 use Rattle.kak_world.specs.declared.own.StatusText.TheVariants.{Quiet, Refused}
 use Rattle.kak_world.specs.declared.world.Rest.{Rest}
 use Rattle.kak_world.specs.Dropping.{KeepsJoined}
-use Rattle.kak_world.specs.Flat.{Flat, is_joined, is_client_leaving, mode_of, with_own, with_units, takes_turn, step_ended, with_rest}
+use Rattle.kak_world.specs.Flat.{Flat, joined_by, left_by_client, is_joined, is_client_leaving, mode_of, with_own, with_units, takes_turn, step_ended, with_rest}
 use Rattle.kak_world.specs.Keeping.{whos_of, KeepsClients}
+use Rattle.kak_world.proofs.EventLaws.{keeps_fault}
 use Rattle.kak_world.proofs.KeepingLaws.{keeps_same, keeps_after, keeps_own, keeps_units, keeps_corner, keeps_commits}
 use Rattle.kak_world.proofs.WorldLaws.{joined_rest}
 use Rattle.pointer_rows.specs.Scrolling.{scrolled}
@@ -20,12 +20,14 @@ use Rattle.draw_model.specs.Drawings.{after_following, gutter_for}
 use Rattle.session_events.specs.declared.event.Answered.{Answered}
 use Rattle.kak_engine.specs.declared.engine.TheConstants.{MAX_UNITS}
 use Rattle.kak_engine.specs.declared.place.Place.{Place}
-use Rattle.kak_engine.specs.Doing.{DoingEnd, fault_text, Outcome, Do, play_key, top}
+use Rattle.kak_engine.specs.Course.{Task, NotesComing, NotesGoing}
+use Rattle.kak_engine.specs.Doing.{DoingEnd, Fine, Failed, GivenUp, Outcome, Do, play_key, top}
 use Rattle.draw_model.specs.Boxes.{with_drawn, box_for}
 use Rattle.kak_engine.specs.Recording.{listens, recorded}
-use Rattle.kak_engine.specs.Steps.{fault_told, told, begun, first_moment, ends_group, group_ended, key_ended, struck, after_key, shown_to, noted_drawn, resized, after_scroll, pointed_by, after_mouse}
+use Rattle.kak_engine.specs.Steps.{told, step_begun, come, heard_from, coming, going, after_coming, after_going, begun, first_moment, ends_group, group_ended, key_ended, struck, after_key, shown_to, noted_drawn, resized, after_scroll, pointed_by, after_mouse}
 use Rattle.kak_engine.specs.Laws.{KeepsPresence}
-use Rattle.kak_engine.proofs.CarryingLaws.{Keeps, keeps-key, carried-do}
+use Rattle.kak_engine.specs.Seen.{moment_of}
+use Rattle.kak_engine.proofs.CarryingLaws.{Keeps, keeps-key, keeps-settled, carried-do}
 use Rattle.kak_engine.proofs.TaskLaws.{clients-joined, joined-still, joined-carried}
 
 -- whoever's turn it is
@@ -56,12 +58,10 @@ present-ended flat = present-rest _ flat
 pub keeps_played : (p : Place) (key : Key) → Keeps KeepsJoined (play_key Do p true key)
 keeps_played p key = keeps-key KeepsJoined joined-carried Do (carried-do KeepsJoined joined-carried) p true key
 
-keeps-fault : (who : ℕ) (fault : Option (List ℕ)) (flat : Flat) → KeepsClients flat (fault_told who fault flat)
-keeps-fault who None flat = keeps_same flat
-keeps-fault who (Some text) flat = keeps_own who (λ o. record o { status = Refused text }) flat
-
 keeps-told : (who : ℕ) (e : DoingEnd) (flat : Flat) → KeepsClients flat (told who e flat)
-keeps-told who e flat = keeps-fault who (fault_text e) flat
+keeps-told who Fine flat = keeps_same flat
+keeps-told who (Failed fault) flat = keeps_fault who fault flat
+keeps-told who (GivenUp text) flat = keeps_own who (λ o. record o { status = Refused text }) flat
 
 keeps-begun : (who : ℕ) (flat : Flat) → KeepsPresence flat (begun who flat)
 keeps-begun who flat =
@@ -125,3 +125,40 @@ keeps_refresh who flat =
 
 pub joined_key : (k who : ℕ) (key : Key) (answers : List Answered) (flat : Flat) → is_joined k flat ≡ true → is_joined k (after_key who key answers flat) ≡ true
 joined_key k who key answers flat j = (keeps_key who key answers flat).joined k j
+
+-- a client that comes, behind its coming, and one that goes, in front of its going
+present-begun : (who : ℕ) (flat : Flat) → KeepsPresence flat (step_begun who flat)
+present-begun who flat =
+    let ended : Flat = step_ended flat in
+    let ready : Flat = with_units MAX_UNITS ended in
+    present-behind flat ready (step_begun who flat) (present-behind flat ended ready (present-ended flat) (clients-present ended ready (keeps_units MAX_UNITS ended))) (present-turn who ready)
+
+keeps-heard : (who : ℕ) (task : Task) (flat : Flat) (answers : List Answered) → KeepsPresence flat (heard_from who task (step_begun who flat) answers).moment.world
+keeps-heard who task flat answers =
+    let begin : Flat = step_begun who flat in
+    let o : Outcome = heard_from who task begin answers in
+    present-behind flat begin o.moment.world (present-begun who flat)
+    (joined-present begin o.moment.world (keeps-settled KeepsJoined joined-carried Do (carried-do KeepsJoined joined-carried) (top who) task (moment_of [] answers begin)))
+
+pub keeps_come : (who : ℕ) (answers : List Answered) (flat : Flat) → KeepsPresence (joined_by who flat) (after_coming who answers flat)
+unfolding coming after_coming
+keeps_come who answers flat =
+    let joined : Flat = joined_by who flat in
+    let o : Outcome = heard_from who NotesComing (come who flat) answers in
+    let said : Flat = told who o.end o.moment.world in
+    present-behind joined said (step_ended said)
+    (present-behind joined o.moment.world said (keeps-heard who NotesComing joined answers) (clients-present o.moment.world said (keeps-told who o.end o.moment.world))) (present-ended said)
+
+-- the world that a client leaves
+abbrev pub parted : ℕ → List Answered → Flat → Flat
+parted who answers flat = step_ended (going who answers flat).moment.world
+
+pub going-leaves : (who : ℕ) (answers : List Answered) (flat : Flat) → after_going who answers flat ≡ left_by_client who (parted who answers flat)
+unfolding after_going
+going-leaves who answers flat = refl
+
+pub keeps_parted : (who : ℕ) (answers : List Answered) (flat : Flat) → KeepsPresence flat (parted who answers flat)
+unfolding going
+keeps_parted who answers flat =
+    let o : Outcome = heard_from who NotesGoing (step_begun who flat) answers in
+    present-behind flat o.moment.world (step_ended o.moment.world) (keeps-heard who NotesGoing flat answers) (present-ended o.moment.world)

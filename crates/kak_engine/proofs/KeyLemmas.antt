@@ -115,10 +115,10 @@ pub left-before : (who : ℕ) (event : Event) (old new : Flat) (o : Outside) →
 left-before who event old new o l = record { answers = []; course = []; begins = (course_of who event [] old, refl); honest = honest-none o; left = inl l }
 
 pub left-join : (who : ℕ) (event : Event) (old new : Flat) (o : Outside) → event ≡ Join → new ≡ old → IsStepLeft who event old new o o
-left-join who event old new o is stays = left-before who event old new o (subst (λ (x : Event). IsLeftByEvent x who [] old new) (sym is) stays)
+left-join who event old new o is stays = left-before who event old new o (subst (λ (x : Event). IsLeftByEvent x who [] old new) (sym is) (inl stays))
 
 pub left-coming : (who : ℕ) (event : Event) (old : Flat) (o : Outside) → is_join event ≡ true → IsStepLeft who event old old o o
-left-coming who Join old o comes = left-before who Join old old o refl
+left-coming who Join old o comes = left-before who Join old old o (inl refl)
 left-coming who (Struck key) old o comes = absurd (let no : false ≡ true = comes in cc)
 left-coming who (Resize size) old o comes = absurd (let no : false ≡ true = comes in cc)
 left-coming who (Scroll lines) old o comes = absurd (let no : false ≡ true = comes in cc)

@@ -1,11 +1,13 @@
 pub mod AskingLaws
 pub mod CarryingLaws
 pub mod CountLemmas
+pub mod CrossingLemmas
 pub mod DoingLemmas
 pub mod EndLemmas
 pub mod ExampleLemmas
 pub mod HereLemmas
 pub mod HonestLemmas
+pub mod HookingLemmas
 pub mod JoinedLemmas
 pub mod KeepingLaws
 pub mod KeyLemmas
@@ -25,3 +27,4 @@ pub mod TaskLaws
 pub mod TurnLemmas
 pub mod SizeLemmas
 pub mod StoredLemmas
+pub mod StrikingLemmas

@@ -4,6 +4,7 @@ use Rattle.std.proofs.lemmas.List.{append_assoc, drop_more, drop_all}
 use Rattle.std.specs.Prelude.{alloc_error}
 use Rattle.std.specs.declared.result.Result.{Result}
 use Rattle.std.specs.declared.alloc.AllocError.{AllocError}
+use Rattle.kak_world.specs.declared.events.Fault.{Fault}
 use Rattle.kak_world.specs.Dropping.{KeepsJoined}
 use Rattle.kak_world.specs.Flat.{acts, units_of}
 use Rattle.session_turns.specs.Growth.{Begins}
@@ -12,10 +13,10 @@ use Rattle.kak_engine.specs.declared.ending.Ending.{Ending}
 use Rattle.kak_engine.specs.declared.ending.Ending.TheVariants as code
 use Rattle.kak_engine.specs.declared.ending.Limit.{Limit}
 use Rattle.kak_engine.specs.Course.{Happened, asks_in}
-use Rattle.kak_engine.specs.Doing.{DoingEnd, Fine, Failed, GivenUp, Moment, Outcome, Part, and_then, each}
+use Rattle.kak_engine.specs.Doing.{DoingEnd, Fine, Failed, GivenUp, Moment, Outcome, Part, and_then, and_also, end_still, ended_still, each}
 use Rattle.kak_engine.specs.Seen.{Does, IsCutShort, PartEnds, end_seen, limit_text, moment_of, UnderWay}
 use Rattle.kak_world.proofs.JoinedLemmas.{acts_still}
-use Rattle.kak_engine.proofs.AskingLaws.{begins-behind, Grows, grows-then, grows-each}
+use Rattle.kak_engine.proofs.AskingLaws.{begins-behind, Grows, grows-then, grows-with-also, grows-each}
 use Rattle.kak_engine.proofs.CarryingLaws.{Keeps}
 use Rattle.kak_engine.proofs.EndLemmas.{does-alone, does-keeps}
 use Rattle.kak_engine.specs.Asking.{Asked}
@@ -85,6 +86,38 @@ stops k first old new end h d = record {
   left = d.left;
 }
 
+-- one part after another, by how the first one ended
+pub then-fine : (first next : Part) (r : Result Ending AllocError) (old mid new : UnderWay) (ending : Ending) → ending ≡ code.Fine → Does first old mid (end_seen ending) → PartEnds r next mid new → PartEnds r (λ m. and_then (first m) next) old new
+then-fine first next r old mid new ending is d n = behind-ends (λ o. and_then o next) first next r old mid new Fine (λ m. refl) (subst (λ e. Does first old mid (end_seen e)) is d) n
+
+pub then-failed : (first next : Part) (old new : UnderWay) (ending : Ending) (fault : Fault) → ending ≡ code.Failed fault → Does first old new (end_seen ending) → Does (λ m. and_then (first m) next) old new (Failed fault)
+then-failed first next old new ending fault is d = stops (λ o. and_then o next) first old new (Failed fault) (λ m. refl) (subst (λ e. Does first old new (end_seen e)) is d)
+
+pub then-given-up : (first next : Part) (old new : UnderWay) (ending : Ending) (limit : Limit) → ending ≡ code.GivenUp limit → Does first old new (end_seen ending) → Does (λ m. and_then (first m) next) old new (GivenUp (limit_text limit))
+then-given-up first next old new ending limit is d = stops (λ o. and_then o next) first old new (GivenUp (limit_text limit)) (λ m. refl) (subst (λ e. Does first old new (end_seen e)) is d)
+
+pub then-cut : (first next : Part) (old new : UnderWay) → Grows next → IsCutShort first old new → IsCutShort (λ m. and_then (first m) next) old new
+then-cut first next old new g d = first-cut (λ o. and_then o next) first old new (λ o. grows-then o next g) d
+
+-- a part whose own end counts only where it was given up
+still-does : (first : DoingEnd) (part : Part) (old new : UnderWay) (end : DoingEnd) → Does part old new end → Does (λ m. ended_still first (part m)) old new (end_still first end)
+still-does first part old new end d = record { used = d.used; course = d.course; kept = d.kept; leads = λ before later. ap (ended_still first) (d.leads before later); honest = d.honest; left = d.left }
+
+still-cut : (first : DoingEnd) (part : Part) (old new : UnderWay) → IsCutShort part old new → IsCutShort (λ m. ended_still first (part m)) old new
+still-cut first part old new d = record { used = d.used; course = d.course; begins = λ before. d.begins before; honest = d.honest; left = d.left }
+
+-- one part after another, unless the first one was given up, of which the first one's error stands: by how `k` goes on behind it
+pub also-does : (k : Outcome → Outcome) (first next : Part) (old mid new : UnderWay) (first_end : DoingEnd) (ending heard result : Ending) → end_seen ending ≡ first_end → ((m : Moment) → k (record { moment = m; end = first_end }) ≡ ended_still first_end (next m))
+    → Does first old mid (end_seen ending) → Does next mid new (end_seen heard) → end_seen result ≡ end_still first_end (end_seen heard) → Does (λ m. k (first m)) old new (end_seen result)
+also-does k first next old mid new first_end ending heard result is h d n e =
+    subst (λ q. Does (λ m. k (first m)) old new q) (sym e)
+    (behind-does k first (λ m. ended_still first_end (next m)) old mid new first_end (end_still first_end (end_seen heard)) h (subst (λ q. Does first old mid q) is d) (still-does first_end next mid new (end_seen heard) n))
+
+pub also-cut : (k : Outcome → Outcome) (first next : Part) (old mid new : UnderWay) (first_end : DoingEnd) (ending : Ending) → end_seen ending ≡ first_end → ((m : Moment) → k (record { moment = m; end = first_end }) ≡ ended_still first_end (next m))
+    → Does first old mid (end_seen ending) → IsCutShort next mid new → IsCutShort (λ m. k (first m)) old new
+also-cut k first next old mid new first_end ending is h d n =
+    behind-cut k first (λ m. ended_still first_end (next m)) old mid new first_end h (subst (λ q. Does first old mid q) is d) (still-cut first_end next mid new n)
+
 -- A part is under way: where the rest of it ends so from here on, the whole does from the start.
 pub record LeadsOn (rest whole : Part) (start now : UnderWay) : Type 0 where
   pub ends : (r : Result Ending AllocError) (new : UnderWay) → PartEnds r rest now new → PartEnds r whole start new
@@ -133,12 +166,12 @@ one-more who f tame xs i d x start now mid ending is lt a fine did =
     below a b c e f = omega (arith, e, f)
 
 -- an item that failed, or was given up
-pub one-failed : {A : Type 0} (who : ℕ) (f : A → Part) (xs : List A) (i : ℕ) (d x : A) (start now new : UnderWay) (ending : Ending) (text : List ℕ) → x ≡ get_or xs i d → i < length xs → AreDone who f xs i start now → ending ≡ code.Failed text
-    → Does (f x) now new (end_seen ending) → Does (each f xs) start new (Failed text)
-one-failed who f xs i d x start now new ending text is lt a failed did =
-    a.leads.ends (Ok (code.Failed text)) new
-    (subst (λ (q : List _). Does (each f q) now new (Failed text)) (sym (next-of xs i d x is lt))
-    (stops (λ o. and_then o (each f (drop (i + 1) xs))) (f x) now new (Failed text) (λ m. refl) (subst (λ e. Does (f x) now new (end_seen e)) failed did)))
+pub one-failed : {A : Type 0} (who : ℕ) (f : A → Part) (xs : List A) (i : ℕ) (d x : A) (start now new : UnderWay) (ending : Ending) (fault : Fault) → x ≡ get_or xs i d → i < length xs → AreDone who f xs i start now → ending ≡ code.Failed fault
+    → Does (f x) now new (end_seen ending) → Does (each f xs) start new (Failed fault)
+one-failed who f xs i d x start now new ending fault is lt a failed did =
+    a.leads.ends (Ok (code.Failed fault)) new
+    (subst (λ (q : List _). Does (each f q) now new (Failed fault)) (sym (next-of xs i d x is lt))
+    (stops (λ o. and_then o (each f (drop (i + 1) xs))) (f x) now new (Failed fault) (λ m. refl) (subst (λ e. Does (f x) now new (end_seen e)) failed did)))
 
 pub one-given-up : {A : Type 0} (who : ℕ) (f : A → Part) (xs : List A) (i : ℕ) (d x : A) (start now new : UnderWay) (ending : Ending) (limit : Limit) → x ≡ get_or xs i d → i < length xs → AreDone who f xs i start now → ending ≡ code.GivenUp limit
     → Does (f x) now new (end_seen ending) → Does (each f xs) start new (GivenUp (limit_text limit))

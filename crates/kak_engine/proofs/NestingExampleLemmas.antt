@@ -1,24 +1,42 @@
--- The worked examples of what is run inside something else, and of keys that are recorded.
-use Rattle.std.proofs.Common.{List, [], true, false, None, refl, ap}
+-- The worked examples of what is run inside something else, of hooks, and of keys that are recorded.
+use Rattle.std.proofs.Common.{ℕ, List, refl, ap}
 use Rattle.std.specs.declared.option.Option.{Option}
 use Rattle.key_names.specs.declared.key.Key.{Key}
-use Rattle.kak_world.specs.declared.ask.Ask.TheVariants.{Play, Eval, Try, Call}
-use Rattle.kak_world.specs.Rows.{Asks}
-use Rattle.kak_engine.specs.Doing.{strike_mapped, Do, top}
-use Rattle.kak_engine.specs.NestingExamples.{NestingExamples}
-use Rattle.kak_engine.specs.Seen.{moment_of}
+use Rattle.kak_world.specs.declared.events.HookEvent.{HookEvent}
+use Rattle.kak_world.specs.Rows.{GivesUp}
+use Rattle.kak_engine.specs.Doing.{run_held, settle_due, strike_mapped, Do, top}
+use Rattle.kak_engine.specs.HookExamples.{HookExamples}
+use Rattle.kak_engine.specs.NestingExamples.{NestingExamples, place, quiet_place}
 use Rattle.kak_engine.proofs.DoingLemmas.{Do-body}
 
 pub nesting : NestingExamples
 nesting = record {
-  deeper = λ who text m. Do-body (record { who = who; depth = 31 }) (Asks (Eval text)) m;
-  deepest = λ who text m. Do-body (record { who = who; depth = 32 }) (Asks (Eval text)) m;
-  uncaught = λ who texts m. Do-body (record { who = who; depth = 32 }) (Asks (Try texts)) m;
-  none_deepest = λ who m. Do-body (record { who = who; depth = 32 }) (Asks (Play (record { keys = []; maps = true; again = None }))) m;
-  no_keys = λ who flat answers. Do-body (top who) (Asks (Play (record { keys = []; maps = false; again = None }))) (moment_of [] answers flat);
-  called = λ who call m. Do-body (top who) (Asks (Call call)) m;
+  deeper = λ who text m. refl;
+  deepest = λ who text m. refl;
+  uncaught = λ who texts m. refl;
+  none_deepest = λ who m. refl;
+  none_played = λ who m. refl;
+  none_run = λ who m. refl;
+  none_inside = λ who. refl;
+  called = λ who call m. refl;
   stands_for_none = λ who key m e. ap (λ (keys : Option (List Key)). strike_mapped Do (top who) keys key m) e;
   stands_for_one = λ who key other m e. ap (λ (keys : Option (List Key)). strike_mapped Do (top who) keys key m) e;
   recorded = λ register key. refl;
   unrecorded = λ register key. refl;
+}
+
+pub hooking : HookExamples
+hooking = record {
+  nothing_due = λ p m e. ap (λ (events : List HookEvent). settle_due Do p events m) e;
+  quiet = λ who depth m event e. ap (λ (events : List HookEvent). settle_due Do (quiet_place who depth) events m) e;
+  taken_first = λ who depth m one other e. ap (λ (events : List HookEvent). settle_due Do (place who depth) events m) e;
+  removed = λ p parameter at m e. ap (λ (text : Option (List ℕ)). run_held Do p parameter at text m) e;
+  deepest = λ who parameter at m text e. ap (λ (t : Option (List ℕ)). (run_held Do (place who 32) parameter at t m).end) e;
+  failed = λ who fault m. refl;
+  given_up = λ who text m. refl;
+  of_a_prompt = λ p key m. refl;
+  behind_giving_up = λ text hooks m. refl;
+  error_stands = λ fault. refl;
+  hooks_give_up = λ fault text. refl;
+  given_up_row = λ p m. Do-body p GivesUp m;
 }

@@ -1,23 +1,27 @@
 -- How parts are done one deeper, between two tasks, and where another one failed.
 use Rattle.std.proofs.Common.{◌≡◌, ℕ, suc, ◌≤◌, ◌<◌, Bool, true, false, nat_lt, List, [], ◌∷◌, ◌++◌, refl, sym, ap, ◌∙◌, subst, inr, append-nil, arith, Ok, Err, Some, None}
-use Rattle.std.specs.Prelude.{IfOk, IsErr, alloc_error}
+use Rattle.std.specs.Prelude.{alloc_error}
 use Rattle.std.proofs.lemmas.List.{append_assoc}
 use Rattle.std.specs.declared.option.Option.{Option}
 use Rattle.std.specs.declared.result.Result.{Result}
 use Rattle.std.specs.declared.alloc.AllocError.{AllocError}
 use Rattle.key_names.specs.declared.key.Key.{Key}
 use Rattle.kak_words.specs.declared.parts.Command.{Command}
+use Rattle.kak_world.specs.declared.ask.Ask.{Ask}
 use Rattle.kak_world.specs.declared.ask.Ask.TheVariants.{Play, Try}
 use Rattle.kak_world.specs.declared.ask.EditError.{EditError}
-use Rattle.kak_world.specs.declared.ask.EditError.TheVariants.{NoMemory}
+use Rattle.scope_tables.specs.declared.hooks.HookRef.{HookRef}
+use Rattle.kak_world.specs.declared.events.Fault.{Fault}
+use Rattle.kak_world.specs.declared.events.HookEvent.{HookEvent}
 use Rattle.kak_world.specs.declared.playing.Macro.{Macro}
 use Rattle.kak_world.specs.declared.playing.PlayKeys.{PlayKeys}
 use Rattle.kak_world.specs.declared.playing.TryTexts.{TryTexts}
 use Rattle.kak_world.specs.Dropping.{KeepsJoined}
 use Rattle.kak_world.specs.Flat.{Flat, acts, units_of, with_units}
 use Rattle.kak_world.specs.Running.{keys_mapped}
-use Rattle.kak_world.specs.Rows.{Asks, GivesRow}
+use Rattle.kak_world.specs.Rows.{Asks, RowEnd, GivesRow}
 use Rattle.kak_world.proofs.JoinedLemmas.{acts_still}
+use Rattle.kak_world.proofs.WorldLaws.{units_units}
 use Rattle.key_rows.specs.Playing.{row_macro}
 use Rattle.session_turns.specs.Growth.{Begins}
 use Rattle.session_events.specs.declared.event.Answered.{Answered}
@@ -29,16 +33,16 @@ use Rattle.kak_engine.specs.declared.place.Place.{Place}
 use Rattle.kak_engine.specs.declared.place.TheConstants.{MAX_DEPTH}
 use Rattle.kak_engine.specs.Asking.{Asked}
 use Rattle.kak_engine.specs.Course.{Task, RunsMacro, Happened, Began, asks_in}
-use Rattle.kak_engine.specs.Doing.{DoingEnd, Fine, Failed, GivenUp, Moment, Outcome, Part, deeper, next_after, and_then, each, or_else, finally, with_unit, if_room, nested, end_by_error, task_row, run_task, task_done, run_command, run_text, run_deeper, strike, strike_mapped, play_key, play_once, play_nested, play_again, Do, budget_spent, nested_too_deep}
+use Rattle.kak_engine.specs.Doing.{DoingEnd, Fine, Failed, GivenUp, Moment, Outcome, Part, deeper, next_after, and_then, each, or_else, finally, in_world, unit_of, with_unit, if_room, nested, task_row, run_task, task_done, go_on, run_command, run_text, run_deeper, run_hook, run_event, settle, task_settled, strike, strike_mapped, play_key, play_once, quiet_unless, play_nested, play_again, do_ask, Do, budget_spent, nested_too_deep}
 use Rattle.kak_engine.specs.Honesty.{Outside, IsHonest}
 use Rattle.kak_engine.specs.Seen.{Does, IsCutShort, PartEnds, end_seen, limit_text, moment_of, UnderWay, under_way}
 use Rattle.kak_engine.specs.Wanting.{IsWithinTask, IsLeftBy}
-use Rattle.kak_engine.proofs.AskingLaws.{begins-behind, grows-then, grows-else, grows-each, grows-finally, grows-command, grows-strike, grows-key, grows-deeper, grows-nested, grows-once, grows-again, grows-do}
-use Rattle.kak_engine.proofs.CarryingLaws.{keeps-each, keeps-command, keeps-strike, keeps-deeper, keeps-key, keeps-nested, keeps-once, carried-do}
+use Rattle.kak_engine.proofs.AskingLaws.{begins-behind, grows-both, grows-else, grows-each, grows-finally, grows-taking, grows-command, grows-strike, grows-key, grows-deeper, grows-hook, grows-event, grows-settle, grows-settled, grows-played, grows-again, grows-ask, grows-do}
+use Rattle.kak_engine.proofs.CarryingLaws.{Keeps, keeps-then, keeps-each, keeps-unit, keeps-task, keeps-command, keeps-strike, keeps-deeper, keeps-hook, keeps-event, keeps-settle, keeps-settled, keeps-key, keeps-played, carried-do}
 use Rattle.kak_engine.proofs.DoingLemmas.{Do-body}
-use Rattle.kak_engine.proofs.EndLemmas.{ends-at, ends-by, does-alone, does-keeps, row-asks, row-fails, unit-task, unit-wanting, unit-acts}
+use Rattle.kak_engine.proofs.EndLemmas.{ends-at, ends-by, does-alone, does-keeps, row-asks, unit-task, unit-wanting, unit-acts}
 use Rattle.kak_engine.proofs.LeftLemmas.{left-append, left-begun, asks_in-append}
-use Rattle.kak_engine.proofs.LoopLemmas.{LeadsOn, leads-first, IsTame, behind-ends, first-cut, stops}
+use Rattle.kak_engine.proofs.LoopLemmas.{LeadsOn, leads-first, IsTame, behind-ends, first-cut, stops, then-fine, then-failed, then-given-up, then-cut}
 use Rattle.kak_engine.proofs.TaskLaws.{TakesUnits, units-carried, units-task, joined-carried, joined-task}
 
 -- a part that is done one deeper, where there is room for it, and where there is none
@@ -106,28 +110,28 @@ pub between-stops : (who : ℕ) (task : Task) (last : Flat → Task) (part : Par
 between-stops who task last part old mid had o new h d = between-cut who task last part old mid had o new h d
 
 -- texts of which the second is run where the first one fails
-pub try-as : (p : Place) (texts : TryTexts) (r : Result Ending AllocError) (old new : UnderWay) → PartEnds r (λ m. or_else (run_deeper Do p texts.first m) (run_deeper Do p texts.catching)) old new → PartEnds r (λ m. Do p (Asks (Try texts)) m) old new
-try-as p texts r old new d = ends-by r _ _ old new (λ m. Do-body p (Asks (Try texts)) m) d
+pub try-as : (p : Place) (texts : TryTexts) (r : Result Ending AllocError) (old new : UnderWay) → PartEnds r (λ m. or_else (run_deeper Do p texts.first m) (run_deeper Do p texts.catching)) old new → PartEnds r (λ m. do_ask Do p (Try texts) m) old new
+try-as p texts r old new d = d
 
-pub try-fine : (p : Place) (texts : TryTexts) (old new : UnderWay) (ending : Ending) → ending ≡ code.Fine → Does (λ m. run_deeper Do p texts.first m) old new (end_seen ending) → Does (λ m. Do p (Asks (Try texts)) m) old new Fine
+pub try-fine : (p : Place) (texts : TryTexts) (old new : UnderWay) (ending : Ending) → ending ≡ code.Fine → Does (λ m. run_deeper Do p texts.first m) old new (end_seen ending) → Does (λ m. do_ask Do p (Try texts) m) old new Fine
 try-fine p texts old new ending is d =
     try-as p texts (Ok code.Fine) old new
     (stops (λ o. or_else o (run_deeper Do p texts.catching)) (λ m. run_deeper Do p texts.first m) old new Fine (λ m. refl) (subst (λ e. Does (λ m. run_deeper Do p texts.first m) old new (end_seen e)) is d))
 
-pub try-caught : (p : Place) (texts : TryTexts) (r : Result Ending AllocError) (old mid new : UnderWay) (ending : Ending) (text : List ℕ) → ending ≡ code.Failed text
-    → Does (λ m. run_deeper Do p texts.first m) old mid (end_seen ending) → PartEnds r (λ m. run_deeper Do p texts.catching m) mid new → PartEnds r (λ m. Do p (Asks (Try texts)) m) old new
-try-caught p texts r old mid new ending text is d n =
+pub try-caught : (p : Place) (texts : TryTexts) (r : Result Ending AllocError) (old mid new : UnderWay) (ending : Ending) (fault : Fault) → ending ≡ code.Failed fault
+    → Does (λ m. run_deeper Do p texts.first m) old mid (end_seen ending) → PartEnds r (λ m. run_deeper Do p texts.catching m) mid new → PartEnds r (λ m. do_ask Do p (Try texts) m) old new
+try-caught p texts r old mid new ending fault is d n =
     try-as p texts r old new
-    (behind-ends (λ o. or_else o (run_deeper Do p texts.catching)) (λ m. run_deeper Do p texts.first m) (λ m. run_deeper Do p texts.catching m) r old mid new (Failed text) (λ m. refl)
+    (behind-ends (λ o. or_else o (run_deeper Do p texts.catching)) (λ m. run_deeper Do p texts.first m) (λ m. run_deeper Do p texts.catching m) r old mid new (Failed fault) (λ m. refl)
     (subst (λ e. Does (λ m. run_deeper Do p texts.first m) old mid (end_seen e)) is d) n)
 
-pub try-cut : (p : Place) (texts : TryTexts) (old new : UnderWay) → IsCutShort (λ m. run_deeper Do p texts.first m) old new → IsCutShort (λ m. Do p (Asks (Try texts)) m) old new
+pub try-cut : (p : Place) (texts : TryTexts) (old new : UnderWay) → IsCutShort (λ m. run_deeper Do p texts.first m) old new → IsCutShort (λ m. do_ask Do p (Try texts) m) old new
 try-cut p texts old new d =
     try-as p texts (Err alloc_error) old new
     (first-cut (λ o. or_else o (run_deeper Do p texts.catching)) (λ m. run_deeper Do p texts.first m) old new (λ o. grows-else o (run_deeper Do p texts.catching) (grows-deeper Do p texts.catching grows-do)) d)
 
 pub try-given-up : (p : Place) (texts : TryTexts) (old new : UnderWay) (ending : Ending) (limit : Limit) → ending ≡ code.GivenUp limit → Does (λ m. run_deeper Do p texts.first m) old new (end_seen ending)
-    → Does (λ m. Do p (Asks (Try texts)) m) old new (GivenUp (limit_text limit))
+    → Does (λ m. do_ask Do p (Try texts) m) old new (GivenUp (limit_text limit))
 try-given-up p texts old new ending limit is d =
     try-as p texts (Ok (code.GivenUp limit)) old new
     (stops (λ o. or_else o (run_deeper Do p texts.catching)) (λ m. run_deeper Do p texts.first m) old new (GivenUp (limit_text limit)) (λ m. refl) (subst (λ e. Does (λ m. run_deeper Do p texts.first m) old new (end_seen e)) is d))
@@ -149,7 +153,7 @@ each-as f g h (x ∷ xs) m = next-as (f x m).end (f x m).moment (each-as f g h x
   where
     next-as : (e : DoingEnd) (n : Moment) → ((k : Moment) → each f xs k ≡ each g xs k) → next_after e (each f xs) n ≡ next_after e (each g xs) n
     next-as Fine n s = s n
-    next-as (Failed text) n s = refl
+    next-as (Failed fault) n s = refl
     next-as (GivenUp text) n s = refl
 
 pub unmapped-ends : (p : Place) (maps : Bool) (keys : List Key) (r : Result Ending AllocError) (old new : UnderWay) → maps ≡ false → PartEnds r (λ m. each (strike Do p) keys m) old new → PartEnds r (λ m. each (play_key Do p maps) keys m) old new
@@ -170,6 +174,14 @@ deeper-ends p said text r old new e d = subst (λ (t : List ℕ). PartEnds r (λ
 
 pub items-end : {A : Type 0} (f : A → Part) (said xs : List A) (r : Result Ending AllocError) (old new : UnderWay) → said ≡ xs → PartEnds r (λ m. each f said m) old new → PartEnds r (λ m. each f xs m) old new
 items-end f said xs r old new e d = subst (λ (ys : List _). PartEnds r (λ m. each f ys m) old new) e d
+
+-- the hooks of what is due, in a place by another name
+pub settle-ends : (said p : Place) (r : Result Ending AllocError) (old new : UnderWay) → said ≡ p → PartEnds r (λ m. settle Do said m) old new → PartEnds r (λ m. settle Do p m) old new
+settle-ends said p r old new e d = subst (λ (x : Place). PartEnds r (λ m. settle Do x m) old new) e d
+
+-- keys that are played in a place that may be quiet
+pub quiet-ends : (said q : Place) (play : PlayKeys) (r : Result Ending AllocError) (old new : UnderWay) → said ≡ quiet_unless play.hooks q → PartEnds r (λ m. play_once Do said play m) old new → PartEnds r (λ m. play_once Do (quiet_unless play.hooks q) play m) old new
+quiet-ends said q play r old new e d = subst (λ (x : Place). PartEnds r (λ m. play_once Do x play m) old new) e d
 
 -- what is done to each of some items is tame
 pub tame-command : (p : Place) (command : Command) → IsTame (run_command Do p command)
@@ -195,9 +207,67 @@ tame-key p maps key = record {
 
 pub tame-nested : (p : Place) (play : PlayKeys) → IsTame (λ m. play_nested Do p play m)
 tame-nested p play = record {
-  joined = keeps-nested KeepsJoined joined-carried p (λ q. play_once Do q play) (λ q. keeps-once KeepsJoined joined-carried Do (carried-do KeepsJoined joined-carried) q play);
-  units = keeps-nested TakesUnits units-carried p (λ q. play_once Do q play) (λ q. keeps-once TakesUnits units-carried Do (carried-do TakesUnits units-carried) q play);
-  grows = grows-nested p (λ q. play_once Do q play) (λ q. grows-once Do q play grows-do);
+  joined = keeps-played KeepsJoined joined-carried Do (carried-do KeepsJoined joined-carried) p play;
+  units = keeps-played TakesUnits units-carried Do (carried-do TakesUnits units-carried) p play;
+  grows = grows-played Do p play grows-do;
+}
+
+pub tame-hook : (p : Place) (parameter : List ℕ) (at : HookRef) → IsTame (run_hook Do p parameter at)
+tame-hook p parameter at = record {
+  joined = keeps-hook KeepsJoined joined-carried Do (carried-do KeepsJoined joined-carried) p parameter at;
+  units = keeps-hook TakesUnits units-carried Do (carried-do TakesUnits units-carried) p parameter at;
+  grows = grows-hook Do p parameter at grows-do;
+}
+
+pub tame-event : (p : Place) (event : HookEvent) → IsTame (run_event Do p event)
+tame-event p event = record {
+  joined = keeps-event KeepsJoined joined-carried Do (carried-do KeepsJoined joined-carried) p event;
+  units = keeps-event TakesUnits units-carried Do (carried-do TakesUnits units-carried) p event;
+  grows = grows-event Do p event grows-do;
+}
+
+pub tame-settle : (p : Place) → IsTame (settle Do p)
+tame-settle p = record {
+  joined = keeps-settle KeepsJoined joined-carried Do (carried-do KeepsJoined joined-carried) p;
+  units = keeps-settle TakesUnits units-carried Do (carried-do TakesUnits units-carried) p;
+  grows = grows-settle Do p grows-do;
+}
+
+pub tame-settled : (p : Place) (task : Task) → IsTame (task_settled Do p task)
+tame-settled p task = record {
+  joined = keeps-settled KeepsJoined joined-carried Do (carried-do KeepsJoined joined-carried) p task;
+  units = keeps-settled TakesUnits units-carried Do (carried-do TakesUnits units-carried) p task;
+  grows = grows-settled Do p task grows-do;
+}
+
+pub tame-taking : (p : Place) (task : Task) → IsTame (λ m. with_unit (run_task Do p task) m)
+tame-taking p task = record {
+  joined = keeps-unit KeepsJoined joined-carried (run_task Do p task) (keeps-task KeepsJoined joined-carried Do (carried-do KeepsJoined joined-carried) p task);
+  units = keeps-unit TakesUnits units-carried (run_task Do p task) (keeps-task TakesUnits units-carried Do (carried-do TakesUnits units-carried) p task);
+  grows = grows-taking Do p task grows-do;
+}
+
+-- a part behind a unit that was taken leaves fewer of them than there were
+falls-taken : (left : ℕ) (part : Part) → Keeps TakesUnits part → Keeps (λ (a b : Flat). units_of a ≡ suc left → units_of b ≤ left) (λ m. with_unit part m)
+falls-taken left part k m e =
+    let begun : Flat = with_units left m.world in
+    let few : units_of (part (in_world begun m)).moment.world ≤ left = subst (λ (n : ℕ). units_of (part (in_world begun m)).moment.world ≤ n) (units_units left m.world) (k (in_world begun m)) in
+    subst (λ (n : ℕ). units_of (unit_of n part m).moment.world ≤ left) (sym e) few
+
+pub fewer-taken : (p : Place) (task : Task) (left : ℕ) (end : DoingEnd) (old new : UnderWay) → Does (λ m. with_unit (run_task Do p task) m) old new end → units_of old.world ≡ suc left → units_of new.world < units_of old.world
+fewer-taken p task left end old new d e =
+    less (units_of old.world) left (units_of new.world) e
+    (does-keeps (λ (a b : Flat). units_of a ≡ suc left → units_of b ≤ left) (λ m. with_unit (run_task Do p task) m) end old new d
+    (falls-taken left (run_task Do p task) (keeps-task TakesUnits units-carried Do (carried-do TakesUnits units-carried) p task)) e)
+  where
+    less : (b c d : ℕ) → b ≡ suc c → d ≤ c → d < b
+    less b c d e f = omega (arith, e, f)
+
+pub tame-then : (first next : Part) → IsTame first → IsTame next → IsTame (λ m. and_then (first m) next)
+tame-then first next a b = record {
+  joined = keeps-then KeepsJoined joined-carried first next a.joined b.joined;
+  units = keeps-then TakesUnits units-carried first next a.units b.units;
+  grows = grows-both first next a.grows b.grows;
 }
 
 pub tame-deeper : (p : Place) (text : List ℕ) → IsTame (run_deeper Do p text)
@@ -235,91 +305,101 @@ task-fewer who task old new e = subst (λ (f : Flat). units_of f ≤ units_of ol
 below : (a b c d : ℕ) → b ≤ a → c ≤ b → c ≡ suc d → d ≤ a
 below a b c d e f g = omega (arith, e, f, g)
 
+further : (a b c : ℕ) → b ≤ a → c ≤ b → c ≤ a
+further a b c e f = omega (arith, e, f)
+
 -- Keys were played, and as often more as the macro is to be run that they are: those that are played next lead on, no unit came back,
 -- and the client acts still.
 pub record ArePlayed (p : Place) (first play : PlayKeys) (start now : UnderWay) : Type 0 where
-  pub leads : LeadsOn (λ m. Do p (Asks (Play play)) m) (λ m. Do p (Asks (Play first)) m) start now
+  pub leads : LeadsOn (λ m. do_ask Do p (Play play) m) (λ m. do_ask Do p (Play first) m) start now
   pub units : TakesUnits start.world now.world
   pub acts : acts p.who now.world ≡ true
 
 pub none-played : (p : Place) (play : PlayKeys) (start : UnderWay) → acts p.who start.world ≡ true → ArePlayed p play play start start
-none-played p play start a = record { leads = leads-first (λ m. Do p (Asks (Play play)) m) start; units = units-same (units_of start.world); acts = a }
+none-played p play start a = record { leads = leads-first (λ m. do_ask Do p (Play play) m) start; units = units-same (units_of start.world); acts = a }
   where
     units-same : (n : ℕ) → n ≤ n
     units-same n = omega arith
 
 module _ (p : Place) (first play : PlayKeys) (start now : UnderWay) (played : ArePlayed p first play start now) where
-  -- what ends as the play ends that is next
-  ends-play : (r : Result Ending AllocError) (new : UnderWay) → PartEnds r (λ m. and_then (play_nested Do p play m) (play_again Do p play.again)) now new → PartEnds r (λ m. Do p (Asks (Play first)) m) start new
-  ends-play r new d = played.leads.ends r new (ends-by r (λ m. Do p (Asks (Play play)) m) (λ m. and_then (play_nested Do p play m) (play_again Do p play.again)) now new (λ m. Do-body p (Asks (Play play)) m) d)
+  pub play-cut : (new : UnderWay) → IsCutShort (λ m. play_nested Do p play m) now new → IsCutShort (λ m. do_ask Do p (Play first) m) start new
+  play-cut new d = played.leads.ends (Err alloc_error) new (then-cut (λ m. play_nested Do p play m) (play_again Do p play.again) now new (grows-again Do p play.again grows-do) d)
 
-  pub play-cut : (new : UnderWay) → IsCutShort (λ m. play_nested Do p play m) now new → IsCutShort (λ m. Do p (Asks (Play first)) m) start new
-  play-cut new d =
-      ends-play (Err alloc_error) new
-      (first-cut (λ o. and_then o (play_again Do p play.again)) (λ m. play_nested Do p play m) now new (λ o. grows-then o (play_again Do p play.again) (grows-again Do p play.again grows-do)) d)
+  pub play-failed : (new : UnderWay) (ending : Ending) (fault : Fault) → ending ≡ code.Failed fault → Does (λ m. play_nested Do p play m) now new (end_seen ending) → Does (λ m. do_ask Do p (Play first) m) start new (Failed fault)
+  play-failed new ending fault is d = played.leads.ends (Ok (code.Failed fault)) new (then-failed (λ m. play_nested Do p play m) (play_again Do p play.again) now new ending fault is d)
 
-  pub play-failed : (new : UnderWay) (ending : Ending) (text : List ℕ) → ending ≡ code.Failed text → Does (λ m. play_nested Do p play m) now new (end_seen ending) → Does (λ m. Do p (Asks (Play first)) m) start new (Failed text)
-  play-failed new ending text is d =
-      ends-play (Ok (code.Failed text)) new
-      (stops (λ o. and_then o (play_again Do p play.again)) (λ m. play_nested Do p play m) now new (Failed text) (λ m. refl) (subst (λ e. Does (λ m. play_nested Do p play m) now new (end_seen e)) is d))
-
-  pub play-given-up : (new : UnderWay) (ending : Ending) (limit : Limit) → ending ≡ code.GivenUp limit → Does (λ m. play_nested Do p play m) now new (end_seen ending) → Does (λ m. Do p (Asks (Play first)) m) start new (GivenUp (limit_text limit))
-  play-given-up new ending limit is d =
-      ends-play (Ok (code.GivenUp limit)) new
-      (stops (λ o. and_then o (play_again Do p play.again)) (λ m. play_nested Do p play m) now new (GivenUp (limit_text limit)) (λ m. refl) (subst (λ e. Does (λ m. play_nested Do p play m) now new (end_seen e)) is d))
+  pub play-given-up : (new : UnderWay) (ending : Ending) (limit : Limit) → ending ≡ code.GivenUp limit → Does (λ m. play_nested Do p play m) now new (end_seen ending) → Does (λ m. do_ask Do p (Play first) m) start new (GivenUp (limit_text limit))
+  play-given-up new ending limit is d = played.leads.ends (Ok (code.GivenUp limit)) new (then-given-up (λ m. play_nested Do p play m) (play_again Do p play.again) now new ending limit is d)
 
   -- what comes behind the keys, which ended well
   module _ (mid : UnderWay) (ending : Ending) (is : ending ≡ code.Fine) (did : Does (λ m. play_nested Do p play m) now mid (end_seen ending)) where
-    ends-behind : (r : Result Ending AllocError) (new : UnderWay) → PartEnds r (λ m. play_again Do p play.again m) mid new → PartEnds r (λ m. Do p (Asks (Play first)) m) start new
-    ends-behind r new d =
-        ends-play r new
-        (behind-ends (λ o. and_then o (play_again Do p play.again)) (λ m. play_nested Do p play m) (λ m. play_again Do p play.again m) r now mid new Fine (λ m. refl)
-        (subst (λ e. Does (λ m. play_nested Do p play m) now mid (end_seen e)) is did) d)
+    ends-again : (r : Result Ending AllocError) (new : UnderWay) → PartEnds r (λ m. play_again Do p play.again m) mid new → PartEnds r (λ m. do_ask Do p (Play first) m) start new
+    ends-again r new d = played.leads.ends r new (then-fine (λ m. play_nested Do p play m) (play_again Do p play.again) r now mid new ending is did d)
 
     -- no macro is run once more
-    pub play-over : play.again ≡ None → Does (λ m. Do p (Asks (Play first)) m) start mid Fine
+    pub play-over : play.again ≡ None → Does (λ m. do_ask Do p (Play first) m) start mid Fine
     play-over none =
-        ends-behind (Ok code.Fine) mid
+        ends-again (Ok code.Fine) mid
         (does-alone (λ m. play_again Do p play.again m) mid.world mid.world mid.had mid.outside Fine refl (λ course answers. ap (λ (o : Option Macro). play_again Do p o (moment_of course answers mid.world)) none))
 
     module _ (again : Macro) (some : play.again ≡ Some again) where
-      ends-macro : (r : Result Ending AllocError) (new : UnderWay) → PartEnds r (λ m. with_unit (run_task Do p (RunsMacro again)) m) mid new → PartEnds r (λ m. Do p (Asks (Play first)) m) start new
+      ends-macro : (r : Result Ending AllocError) (new : UnderWay) → PartEnds r (λ m. with_unit (run_task Do p (RunsMacro again)) m) mid new → PartEnds r (λ m. do_ask Do p (Play first) m) start new
       ends-macro r new d =
-          ends-behind r new (ends-by r (λ m. play_again Do p play.again m) (λ m. with_unit (run_task Do p (RunsMacro again)) m) mid new (λ m. ap (λ (o : Option Macro). play_again Do p o m) some) d)
+          ends-again r new (ends-by r (λ m. play_again Do p play.again m) (λ m. with_unit (run_task Do p (RunsMacro again)) m) mid new (λ m. ap (λ (o : Option Macro). play_again Do p o m) some) d)
 
       -- one is, and no unit is left
-      pub play-spent : (left : Flat) → units_of mid.world ≡ 0 → left ≡ mid.world → Does (λ m. Do p (Asks (Play first)) m) start (under_way left mid.had mid.outside) (GivenUp budget_spent)
+      pub play-spent : (left : Flat) → units_of mid.world ≡ 0 → left ≡ mid.world → Does (λ m. do_ask Do p (Play first) m) start (under_way left mid.had mid.outside) (GivenUp budget_spent)
       play-spent left none same =
           ends-macro (Ok (code.GivenUp Units)) (under_way left mid.had mid.outside)
           (does-alone (λ m. with_unit (run_task Do p (RunsMacro again)) m) mid.world left mid.had mid.outside (GivenUp budget_spent) same
           (λ course answers. unit-wanting (run_task Do p (RunsMacro again)) mid.world left course answers none same))
 
       module _ (before : Flat) (u : units_of mid.world ≡ suc (units_of before)) (w : before ≡ with_units (units_of before) mid.world) where
+        -- what comes behind the row of the macro
+        behind-macro : (row : Result Ask EditError) (r : Result Ending AllocError) (new : UnderWay) → GivesRow row before (row_macro again p.who before)
+            → PartEnds r (λ m. go_on Do p (row_macro again p.who before) m) (under_way before mid.had mid.outside) new → PartEnds r (λ m. do_ask Do p (Play first) m) start new
+        behind-macro row r new gives d = ends-macro r new (unit-task p (RunsMacro again) row r mid.world before before mid.had mid.outside new u w gives (λ e. refl) d)
+
         -- the macro is refused
-        pub play-refused : (error : EditError) (r : Result Ending AllocError) → GivesRow (Err error) before (row_macro again p.who before) → IfOk r (λ e. end_seen e ≡ end_by_error error) → (error ≡ NoMemory → IsErr r)
-            → PartEnds r (λ m. Do p (Asks (Play first)) m) start (under_way before mid.had mid.outside)
-        play-refused error r gives ends memory =
-            ends-macro r (under_way before mid.had mid.outside)
-            (unit-task p (RunsMacro again) (Err error) r mid.world before before mid.had mid.outside (under_way before mid.had mid.outside) u w gives (λ e. refl)
-            (row-fails p error r before mid.had mid.outside ends memory (row_macro again p.who before) gives))
+        pub play-refused : (error : EditError) (r : Result Ending AllocError) (new : UnderWay) → GivesRow (Err error) before (row_macro again p.who before)
+            → ((end : RowEnd) → GivesRow (Err error) before end → PartEnds r (λ m. go_on Do p end m) (under_way before mid.had mid.outside) new) → PartEnds r (λ m. do_ask Do p (Play first) m) start new
+        play-refused error r new gives d = behind-macro (Err error) r new gives (d (row_macro again p.who before) gives)
 
-        -- or its keys are played next
-        pub play-more : (next : PlayKeys) → GivesRow (Ok (Play next)) before (row_macro again p.who before) → ArePlayed p first next start (under_way before mid.had mid.outside)
-        play-more next gives = record {
-          leads = record {
-            ends = λ r new d.
-                ends-macro r new
-                (unit-task p (RunsMacro again) (Ok (Play next)) r mid.world before before mid.had mid.outside new u w gives (λ e. refl)
-                (row-asks p (Play next) r before mid.had mid.outside new d (row_macro again p.who before) gives));
-          };
-          units = below (units_of start.world) (units_of now.world) (units_of mid.world) (units_of before) played.units (does-keeps TakesUnits (λ m. play_nested Do p play m) (end_seen ending) now mid did (tame-nested p play).units) u;
-          acts = unit-acts p.who mid.world before w
-              (acts_still p.who now.world mid.world (does-keeps KeepsJoined (λ m. play_nested Do p play m) (end_seen ending) now mid did (tame-nested p play).joined) played.acts);
-        }
+        -- or its keys are played next, behind the hooks of what it did
+        module _ (next : PlayKeys) (gives : GivesRow (Ok (Play next)) before (row_macro again p.who before)) where
+          behind-next : (r : Result Ending AllocError) (new : UnderWay) → PartEnds r (λ m. and_then (settle Do p m) (do_ask Do p (Play next))) (under_way before mid.had mid.outside) new → PartEnds r (λ m. do_ask Do p (Play first) m) start new
+          behind-next r new d =
+              behind-macro (Ok (Play next)) r new gives
+              (row-asks p (Play next) r before mid.had mid.outside new
+              (ends-by r (λ m. Do p (Asks (Play next)) m) (λ m. and_then (settle Do p m) (do_ask Do p (Play next))) (under_way before mid.had mid.outside) new (λ m. Do-body p (Asks (Play next)) m) d) (row_macro again p.who before) gives)
 
--- the unit that was taken is one fewer than before
-pub fewer-left : (p : Place) (play : PlayKeys) (now mid : UnderWay) (before : Flat) (end : DoingEnd) → Does (λ m. play_nested Do p play m) now mid end → units_of mid.world ≡ suc (units_of before) → units_of before < units_of now.world
-fewer-left p play now mid before end did u = less (units_of now.world) (units_of mid.world) (units_of before) (does-keeps TakesUnits (λ m. play_nested Do p play m) end now mid did (tame-nested p play).units) u
+          pub macro-cut : (new : UnderWay) → IsCutShort (λ m. settle Do p m) (under_way before mid.had mid.outside) new → IsCutShort (λ m. do_ask Do p (Play first) m) start new
+          macro-cut new d = behind-next (Err alloc_error) new (then-cut (settle Do p) (do_ask Do p (Play next)) (under_way before mid.had mid.outside) new (grows-ask Do p (Play next) grows-do) d)
+
+          pub macro-failed : (new : UnderWay) (ended : Ending) (fault : Fault) → ended ≡ code.Failed fault → Does (λ m. settle Do p m) (under_way before mid.had mid.outside) new (end_seen ended) → Does (λ m. do_ask Do p (Play first) m) start new (Failed fault)
+          macro-failed new ended fault e d = behind-next (Ok (code.Failed fault)) new (then-failed (settle Do p) (do_ask Do p (Play next)) (under_way before mid.had mid.outside) new ended fault e d)
+
+          pub macro-given-up : (new : UnderWay) (ended : Ending) (limit : Limit) → ended ≡ code.GivenUp limit → Does (λ m. settle Do p m) (under_way before mid.had mid.outside) new (end_seen ended)
+              → Does (λ m. do_ask Do p (Play first) m) start new (GivenUp (limit_text limit))
+          macro-given-up new ended limit e d = behind-next (Ok (code.GivenUp limit)) new (then-given-up (settle Do p) (do_ask Do p (Play next)) (under_way before mid.had mid.outside) new ended limit e d)
+
+          pub play-more : (new : UnderWay) (ended : Ending) → ended ≡ code.Fine → Does (λ m. settle Do p m) (under_way before mid.had mid.outside) new (end_seen ended) → ArePlayed p first next start new
+          play-more new ended e d = record {
+            leads = record { ends = λ r last n. behind-next r last (then-fine (settle Do p) (do_ask Do p (Play next)) r (under_way before mid.had mid.outside) new last ended e d n) };
+            units = further (units_of start.world) (units_of before) (units_of new.world)
+                (below (units_of start.world) (units_of now.world) (units_of mid.world) (units_of before) played.units (does-keeps TakesUnits (λ m. play_nested Do p play m) (end_seen ending) now mid did (tame-nested p play).units) u)
+                (does-keeps TakesUnits (settle Do p) (end_seen ended) (under_way before mid.had mid.outside) new d (tame-settle p).units);
+            acts = acts_still p.who before new.world (does-keeps KeepsJoined (settle Do p) (end_seen ended) (under_way before mid.had mid.outside) new d (tame-settle p).joined)
+                (unit-acts p.who mid.world before w
+                (acts_still p.who now.world mid.world (does-keeps KeepsJoined (λ m. play_nested Do p play m) (end_seen ending) now mid did (tame-nested p play).joined) played.acts));
+          }
+
+-- the unit that was taken is one fewer than before, and none comes back behind that
+pub fewer-left : (p : Place) (play : PlayKeys) (now mid new : UnderWay) (before : Flat) (had : List Answered) (o : Outside) (end ended : DoingEnd) → Does (λ m. play_nested Do p play m) now mid end → units_of mid.world ≡ suc (units_of before)
+    → Does (λ m. settle Do p m) (under_way before had o) new ended → units_of new.world < units_of now.world
+fewer-left p play now mid new before had o end ended did u d =
+    less (units_of now.world) (units_of mid.world) (units_of before) (units_of new.world) (does-keeps TakesUnits (λ m. play_nested Do p play m) end now mid did (tame-nested p play).units) u
+    (does-keeps TakesUnits (settle Do p) ended (under_way before had o) new d (tame-settle p).units)
   where
-    less : (b c d : ℕ) → c ≤ b → c ≡ suc d → d < b
-    less b c d f g = omega (arith, f, g)
+    less : (b c d e : ℕ) → c ≤ b → c ≡ suc d → e ≤ d → e < b
+    less b c d e f g h = omega (arith, f, g, h)

@@ -16,10 +16,10 @@ use Rattle.session_events.specs.declared.kind.Kind.{Kind}
 use Rattle.session_events.specs.declared.kind.Kind.TheVariants.{Coming, Doing, Drawing, Going}
 use Rattle.session_events.specs.Entries.{kind_of, is_join}
 use Rattle.session_events.specs.Legal.{Presence, is_here, presence_after}
-use Rattle.kak_engine.specs.Steps.{after_event}
+use Rattle.kak_engine.specs.Steps.{after_coming, after_event}
 use Rattle.kak_engine.specs.Held.{CanRun}
 use Rattle.kak_engine.specs.Laws.{KeepsPresence, StaysThere}
-use Rattle.kak_engine.proofs.KeepingLaws.{keeps_key, keeps_resize, keeps_scroll, keeps_mouse, keeps_refresh}
+use Rattle.kak_engine.proofs.KeepingLaws.{keeps_key, keeps_resize, keeps_scroll, keeps_mouse, keeps_refresh, keeps_come, parted, going-leaves, keeps_parted}
 
 -- whether a client is there behind an event of some kind, which is its own or not, by whether it was there
 abbrev pub there_after : Kind → Bool → Bool → Bool
@@ -65,46 +65,59 @@ joined-same k old new f e = by (is_joined k old) (is_joined k new) refl refl
 
 -- who is there
 pub here-after : (k who : ℕ) (event : Event) (answers : List Answered) (flat : Flat) → is_among k (after_event who event answers flat).clients ≡ there_after (kind_of event) (who == k) (is_among k flat.clients)
-here-after k who Join answers flat = here_come k who flat ∙ come (is_among k flat.clients) (who == k)
+here-after k who Join answers flat = here-same k (joined_by who flat) _ (keeps_come who answers flat) ∙ here_come k who flat ∙ come (is_among k flat.clients) (who == k)
 here-after k who (Struck key) answers flat = here-same k flat _ (keeps_key who key answers flat)
 here-after k who (Resize size) answers flat = here-same k flat _ (keeps_resize who size flat)
 here-after k who (Scroll lines) answers flat = here-same k flat _ (keeps_scroll who lines flat)
 here-after k who (Pointed mouse) answers flat = here-same k flat _ (keeps_mouse who mouse flat)
 here-after k who (Refresh asked) answers flat = here-same k flat _ (keeps_refresh who flat)
-here-after k who Leave answers flat = by (who == k) refl
+here-after k who Leave answers flat = ap (λ (f : Flat). is_among k f.clients) (going-leaves who answers flat) ∙ by (who == k) refl
   where
-    by : (t : Bool) → (who == k) ≡ t → is_among k (left_by_client who flat).clients ≡ there_after Going t (is_among k flat.clients)
-    by true e = subst (λ n. is_among n (left_by_client who flat).clients ≡ false) (eqb-true who k e) (here_goes who flat)
-    by false e = here_others_go k who flat e
+    before : Flat
+    before = parted who answers flat
+
+    by : (t : Bool) → (who == k) ≡ t → is_among k (left_by_client who before).clients ≡ there_after Going t (is_among k flat.clients)
+    by true e = subst (λ n. is_among n (left_by_client who before).clients ≡ false) (eqb-true who k e) (here_goes who before)
+    by false e = here_others_go k who before e ∙ here-same k flat before (keeps_parted who answers flat)
 
 -- who has joined, where one that came has, and those who are here have
 pub joined-after : (k who : ℕ) (event : Event) (answers : List Answered) (flat : Flat) → is_joined k flat ≡ is_among k flat.clients → (is_join event ≡ true → is_joined who (after_event who event answers flat) ≡ true)
     → is_joined k (after_event who event answers flat) ≡ there_after (kind_of event) (who == k) (is_joined k flat)
 joined-after k who Join answers flat same came = by (who == k) refl
   where
-    by : (t : Bool) → (who == k) ≡ t → is_joined k (joined_by who flat) ≡ there_after Coming t (is_joined k flat)
-    by true e = subst (λ n. is_joined n (joined_by who flat) ≡ true) (eqb-true who k e) (came refl)
-    by false e = joined_others_come k who flat e
+    -- one that didn't come is joined, and here, as before
+    known : (who == k) ≡ false → is_joined k (joined_by who flat) ≡ is_among k (joined_by who flat).clients
+    known e = joined_others_come k who flat e ∙ same ∙ sym (here_come k who flat ∙ come (is_among k flat.clients) (who == k) ∙ ap (λ t. there_after Coming t (is_among k flat.clients)) e)
+
+    by : (t : Bool) → (who == k) ≡ t → is_joined k (after_coming who answers flat) ≡ there_after Coming t (is_joined k flat)
+    by true e = subst (λ n. is_joined n (after_coming who answers flat) ≡ true) (eqb-true who k e) (came refl)
+    by false e = joined-same k (joined_by who flat) _ (keeps_come who answers flat) (known e) ∙ joined_others_come k who flat e
 joined-after k who (Struck key) answers flat same came = joined-same k flat _ (keeps_key who key answers flat) same
 joined-after k who (Resize size) answers flat same came = joined-same k flat _ (keeps_resize who size flat) same
 joined-after k who (Scroll lines) answers flat same came = joined-same k flat _ (keeps_scroll who lines flat) same
 joined-after k who (Pointed mouse) answers flat same came = joined-same k flat _ (keeps_mouse who mouse flat) same
 joined-after k who (Refresh asked) answers flat same came = joined-same k flat _ (keeps_refresh who flat) same
-joined-after k who Leave answers flat same came = by (who == k) refl
+joined-after k who Leave answers flat same came = ap (is_joined k) (going-leaves who answers flat) ∙ by (who == k) refl
   where
-    by : (t : Bool) → (who == k) ≡ t → is_joined k (left_by_client who flat) ≡ there_after Going t (is_joined k flat)
-    by true e = subst (λ n. is_joined n (left_by_client who flat) ≡ false) (eqb-true who k e) (joined_goes who flat)
-    by false e = joined_others_go k who flat e
+    before : Flat
+    before = parted who answers flat
+
+    by : (t : Bool) → (who == k) ≡ t → is_joined k (left_by_client who before) ≡ there_after Going t (is_joined k flat)
+    by true e = subst (λ n. is_joined n (left_by_client who before) ≡ false) (eqb-true who k e) (joined_goes who before)
+    by false e = joined_others_go k who before e ∙ joined-same k flat before (keeps_parted who answers flat) same
 
 -- how many are there
 pub few-after : (who : ℕ) (event : Event) (answers : List Answered) (flat : Flat) → CanRun (kind_of event) who flat → length flat.clients ≤ MAX_CLIENTS → length (after_event who event answers flat).clients ≤ MAX_CLIENTS
-few-after who Join answers flat can few = omega (arith, count_come who flat, can.few)
+few-after who Join answers flat can few = omega (arith, count-same (joined_by who flat) _ (keeps_come who answers flat), count_come who flat, can.few)
 few-after who (Struck key) answers flat can few = omega (arith, count-same flat _ (keeps_key who key answers flat), few)
 few-after who (Resize size) answers flat can few = omega (arith, count-same flat _ (keeps_resize who size flat), few)
 few-after who (Scroll lines) answers flat can few = omega (arith, count-same flat _ (keeps_scroll who lines flat), few)
 few-after who (Pointed mouse) answers flat can few = omega (arith, count-same flat _ (keeps_mouse who mouse flat), few)
 few-after who (Refresh asked) answers flat can few = omega (arith, count-same flat _ (keeps_refresh who flat), few)
-few-after who Leave answers flat can few = omega (arith, count_goes who flat (here_joined who flat can), few)
+few-after who Leave answers flat can few =
+    let before : Flat = parted who answers flat in
+    let keeps : KeepsPresence flat before = keeps_parted who answers flat in
+    omega (arith, ap (λ (f : Flat). length f.clients) (going-leaves who answers flat), count_goes who before (here_joined who before (keeps.joined who can)), count-same flat before keeps, few)
 
 -- the others stay
 pub others_stay : (who k : ℕ) (event : Event) (answers : List Answered) (flat : Flat) → who ≢ k → StaysThere k flat (after_event who event answers flat)
@@ -120,10 +133,10 @@ others_stay who k event answers flat other = record {
     apart Going b = rw (ne_eqb who k other) refl
 
     stays : (e : Event) → is_joined k flat ≡ true → is_joined k (after_event who e answers flat) ≡ true
-    stays Join j = joined_others_come k who flat (ne_eqb who k other) ∙ j
+    stays Join j = (keeps_come who answers flat).joined k (joined_others_come k who flat (ne_eqb who k other) ∙ j)
     stays (Struck key) j = (keeps_key who key answers flat).joined k j
     stays (Resize size) j = (keeps_resize who size flat).joined k j
     stays (Scroll lines) j = (keeps_scroll who lines flat).joined k j
     stays (Pointed mouse) j = (keeps_mouse who mouse flat).joined k j
     stays (Refresh asked) j = (keeps_refresh who flat).joined k j
-    stays Leave j = joined_others_go k who flat (ne_eqb who k other) ∙ j
+    stays Leave j = ap (is_joined k) (going-leaves who answers flat) ∙ joined_others_go k who (parted who answers flat) (ne_eqb who k other) ∙ (keeps_parted who answers flat).joined k j

@@ -1,6 +1,6 @@
 -- The world after one more entry.
-use Rattle.std.proofs.Common.{◌≡◌, ℕ, zero, suc, ◌≤◌, Bool, true, false, List, [], ◌∷◌, ◌++◌, length, drop, refl, sym, ap, ◌∙◌, subst, arith, append-nil}
-use Rattle.std.specs.Prelude.{Some, None, IfSome, ◌==◌}
+use Rattle.std.proofs.Common.{◌≡◌, ℕ, zero, suc, ◌≤◌, Bool, true, false, List, [], ◌∷◌, ◌++◌, length, drop, refl, sym, ap, ◌∙◌, subst, inl, inr, arith, append-nil}
+use Rattle.std.specs.Prelude.{◌⊎◌, Some, None, IfSome, ◌==◌}
 use Rattle.std.specs.declared.option.Option.{Option}
 use Rattle.std.proofs.lemmas.List.{append_assoc}
 use Rattle.kak_files.specs.Files.{Shelf}
@@ -120,21 +120,21 @@ stands-more before now history new mark limit rescued x y who event answers s r 
 
 -- behind a going
 gone-stands : (before now : Flat) (history new : List Entry) (mark : Option ℕ) (limit : ℕ) (rescued : Bool) (shelf : Shelf) (who : ℕ) → EngineStands before history mark limit (files_told rescued shelf) → refused_at mark history limit who Leave ≡ None
-    → now ≡ after_event who Leave [] before → new ≡ history ++ entry_of who Leave ∷ [] → EngineStands now new mark limit (files_told rescued shelf)
-gone-stands before now history new mark limit rescued shelf who s r n k =
+    → now ≡ after_event who Leave [] before → AreAskedFor who Leave [] before → asked_by who Leave [] before ≡ [] → new ≡ history ++ entry_of who Leave ∷ [] → EngineStands now new mark limit (files_told rescued shelf)
+gone-stands before now history new mark limit rescued shelf who s r n asks none k =
     let o : Outside = record { shelf = shelf; refusals = 0; asked = [] } in
-    stands-more before now history new mark limit rescued o o who Leave [] s r (λ j. let no : false ≡ true = j in cc) n refl (honest-none o) k
+    stands-more before now history new mark limit rescued o o who Leave [] s r (λ j. let no : false ≡ true = j in cc) n asks (subst (λ (q : List Asked). IsHonest [] q o o) (sym none) (honest-none o)) k
 
 pub left-stands : (before now : Flat) (history new : List Entry) (mark : Option ℕ) (limit : ℕ) (shelf : Option Shelf) (who : ℕ) (event : Event) → EngineStands before history mark limit shelf → refused_at mark history limit who event ≡ None
-    → is_leave event ≡ true → now ≡ after_event who Leave [] before → new ≡ history ++ entry_of who Leave ∷ [] → EngineStands now new mark limit shelf
-left-stands before now history new mark limit (Some shelf) who Leave s r goes n k = gone-stands before now history new mark limit false shelf who s r n k
-left-stands before now history new mark limit None who Leave s r goes n k = gone-stands before now history new mark limit true (record { told = None; faults = 0 }) who s r n k
-left-stands before now history new mark limit shelf who Join s r goes n k = cc
-left-stands before now history new mark limit shelf who (Struck key) s r goes n k = cc
-left-stands before now history new mark limit shelf who (Resize size) s r goes n k = cc
-left-stands before now history new mark limit shelf who (Scroll lines) s r goes n k = cc
-left-stands before now history new mark limit shelf who (Pointed mouse) s r goes n k = cc
-left-stands before now history new mark limit shelf who (Refresh asked) s r goes n k = cc
+    → is_leave event ≡ true → now ≡ after_event who Leave [] before → AreAskedFor who Leave [] before → asked_by who Leave [] before ≡ [] → new ≡ history ++ entry_of who Leave ∷ [] → EngineStands now new mark limit shelf
+left-stands before now history new mark limit (Some shelf) who Leave s r goes n asks none k = gone-stands before now history new mark limit false shelf who s r n asks none k
+left-stands before now history new mark limit None who Leave s r goes n asks none k = gone-stands before now history new mark limit true (record { told = None; faults = 0 }) who s r n asks none k
+left-stands before now history new mark limit shelf who Join s r goes n asks none k = cc
+left-stands before now history new mark limit shelf who (Struck key) s r goes n asks none k = cc
+left-stands before now history new mark limit shelf who (Resize size) s r goes n asks none k = cc
+left-stands before now history new mark limit shelf who (Scroll lines) s r goes n asks none k = cc
+left-stands before now history new mark limit shelf who (Pointed mouse) s r goes n asks none k = cc
+left-stands before now history new mark limit shelf who (Refresh asked) s r goes n asks none k = cc
 
 -- who leaves has joined
 pub leaver-joined : (who : ℕ) (kind : Kind) (flat : Flat) → is_going kind ≡ true → CanRun kind who flat → is_joined who flat ≡ true
@@ -164,3 +164,9 @@ kept-told false exchanges shelf e kept = kept
 -- an engine that isn't broken, and whose texts were rescued
 pub stands-rescued : (flat : Flat) (history : List Entry) (mark : Option ℕ) (limit : ℕ) (shelf : Option Shelf) → EngineStands flat history mark limit shelf → EngineStands flat history mark limit None
 stands-rescued flat history mark limit shelf s = record { world = s.world; known = s.known; here = s.here; few = s.few; kept = λ m. tt; legal = s.legal; asked = s.asked; marked = s.marked }
+
+-- an event that can't fail where it is a going and no hook is held
+pub parts-or-stays : (goes parts : Bool) → (goes ≡ true → parts ≡ false → false ≡ true) → (goes ≡ false) ⊎ (parts ≡ true)
+parts-or-stays false parts fails = inl refl
+parts-or-stays true true fails = inr refl
+parts-or-stays true false fails = absurd (let never : false ≡ true = fails refl refl in cc)

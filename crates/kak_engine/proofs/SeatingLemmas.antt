@@ -1,6 +1,6 @@
 -- What a step at the seats of an engine leaves of what they keep, and how they end.
 use Rattle.std.proofs.Common.{◌≡◌, ℕ, Bool, true, false, List, [], ◌∷◌, ◌++◌, length, refl, sym, ap, ◌∙◌, subst, append-nil, Ok, Err}
-use Rattle.std.specs.Prelude.{Some, None, is_some, IfOk, IfErr, IfSome, OnErr, if◌then◌else◌, ◌==◌}
+use Rattle.std.specs.Prelude.{◌⊎◌, Some, None, is_some, IfOk, IfErr, IfSome, OnErr, if◌then◌else◌, ◌==◌}
 use Rattle.std.specs.declared.result.Result.{Result}
 use Rattle.std.specs.declared.option.Option.{Option}
 use Rattle.std.proofs.lemmas.Bool.{eq-eqb}
@@ -17,7 +17,7 @@ use Rattle.session_events.specs.Entries.{kind_of, is_leave, is_drawing, entry_wi
 use Rattle.session_events.specs.Meaning.{may_let_go, IsMeaning}
 use Rattle.session_events.specs.Seats.{Steps, StaysUnbroken}
 use Rattle.kak_engine.specs.Asking.{Asked}
-use Rattle.kak_engine.specs.Steps.{output_of, asked_by, asked_in, answers_in, run, given_by, IsStepLeft}
+use Rattle.kak_engine.specs.Steps.{output_of, asked_by, asked_in, answers_in, run, given_by, parting_by, IsStepLeft}
 use Rattle.kak_engine.specs.Honesty.{Outside, IsHonest}
 use Rattle.kak_engine.specs.Held.{HeldEngine, new_engine, TakesEvent, LeavesInside, refused_at, event_refusal, marked_by, marked_after}
 use Rattle.kak_engine.specs.Rescue.{Rescues}
@@ -48,7 +48,7 @@ given-meaning = record { undrawn = undrawn; stays = stays }
     undrawn before who Leave answers d = refl
 
     stays : (before : List Entry) (who : ℕ) (event : Event) (answers : List Answered) → may_let_go (kind_of event) ≡ false → (given_by before (entry_with who event answers)).leaving ≡ false
-    stays before who Join answers s = refl
+    stays before who Join answers s = cc
     stays before who (Struck key) answers s = cc
     stays before who (Resize size) answers s = cc
     stays before who (Scroll lines) answers s = cc
@@ -182,7 +182,7 @@ module _ (first : Outside) (who : ℕ) (event : Event) (x y : HeldEngine) (was :
 
   -- the outside was honest still behind a step
   pub step-honest : (r : Result Output StepFault) → IfSome (event_refusal x who event) (λ fault. (r ≡ Err fault) × (y.outside ≡ x.outside)) → IfSome (event_refusal x who event) (λ fault. y.inside ≡ x.inside)
-      → (event_refusal x who event ≡ None → IfErr r (λ fault. (fault ≡ NoMemory) × (is_leave event ≡ false))) → IfOk r (λ o. TakesEvent who event x y o) → OnErr r (y.history ≡ x.history)
+      → (event_refusal x who event ≡ None → IfErr r (λ fault. (fault ≡ NoMemory) × ((is_leave event ≡ false) ⊎ (parting_by x.history ≡ true)))) → IfOk r (λ o. TakesEvent who event x y o) → OnErr r (y.history ≡ x.history)
       → (event_refusal x who event ≡ None → OnErr r (LeavesInside who event x y)) → y.mark ≡ marked_after r x → y.rescued ≡ x.rescued → WasHonest y first
   step-honest (Ok o) refused stays answered t e left m rescued =
       takes-honest o (mark-none x.mark x.history x.limit who event (granted-none o (event_refusal x who event) refused)) m rescued t

@@ -4,13 +4,13 @@ use Rattle.std.specs.Prelude.{if◌then◌else◌}
 use Rattle.key_names.specs.declared.key.Key.{Key}
 use Rattle.kak_files.specs.Files.{Shelf}
 use Rattle.kak_world.specs.declared.world.Stepping.{Stepping}
-use Rattle.kak_world.specs.Flat.{Flat, turn_of, rest_of, between_steps, opening, is_client_leaving, joined_by, left_by_client, with_own, with_rest}
+use Rattle.kak_world.specs.Flat.{Flat, turn_of, rest_of, between_steps, opening, is_client_leaving, left_by_client, with_own, with_rest}
 use Rattle.session_events.specs.declared.event.Event.{Event}
 use Rattle.session_events.specs.declared.event.Event.TheVariants.{Join, Key as Struck, Resize, Scroll, Mouse as Pointed, Refresh, Leave}
 use Rattle.session_events.specs.declared.event.Answered.{Answered}
 use Rattle.session_events.specs.declared.event.Entry.{Entry}
 use Rattle.kak_engine.specs.Held.{EngineStands}
-use Rattle.kak_engine.specs.Steps.{struck, key_ended, after_key, after_event, after_entry, run_from, run}
+use Rattle.kak_engine.specs.Steps.{struck, key_ended, after_coming, after_going, after_key, after_event, after_entry, run_from, run}
 
 step-key : (who : ℕ) (key : Key) (answers : List Answered) (flat : Flat) → flat.rest.step ≡ between_steps → (after_key who key answers flat).rest.step ≡ between_steps
 unfolding after_key with_rest
@@ -21,14 +21,14 @@ step-key who key answers flat e = by (is_client_leaving who flat)
     by false = refl
 
 step-event : (who : ℕ) (event : Event) (answers : List Answered) (flat : Flat) → flat.rest.step ≡ between_steps → (after_event who event answers flat).rest.step ≡ between_steps
-unfolding joined_by with_rest left_by_client with_own
-step-event who Join answers flat e = e
+unfolding after_coming with_rest after_going left_by_client with_own
+step-event who Join answers flat e = refl
 step-event who (Struck key) answers flat e = step-key who key answers flat e
 step-event who (Resize size) answers flat e = e
 step-event who (Scroll lines) answers flat e = refl
 step-event who (Pointed mouse) answers flat e = refl
 step-event who (Refresh asked) answers flat e = refl
-step-event who Leave answers flat e = e
+step-event who Leave answers flat e = refl
 
 step-from : (flat : Flat) (history : List Entry) → flat.rest.step ≡ between_steps → (run_from flat history).rest.step ≡ between_steps
 step-from flat [] e = e

@@ -12,7 +12,7 @@ use Rattle.session_events.specs.declared.fault.StepFault.TheVariants.{Broken, No
 use Rattle.session_events.specs.Entries.{is_join, is_leave, has_joined, others_of}
 use Rattle.session_events.specs.Legal.{Away, is_here, presence_from}
 use Rattle.session_events.specs.Seats.{Refuses}
-use Rattle.kak_engine.specs.Steps.{run, is_session_full, crowded_by}
+use Rattle.kak_engine.specs.Steps.{run, is_session_full, crowded_by, parting_by}
 use Rattle.kak_engine.specs.Honesty.{Outside}
 use Rattle.kak_engine.specs.Held.{HeldEngine, refused_at, refused_by, event_refusal, marked_by, marked_after}
 use Rattle.kak_engine.specs.Seating.{seat_of}
@@ -50,9 +50,9 @@ not-and false b e = (refl, e)
 
 -- an event that the history refuses is refused for a cause that a seat tells, whatever its mark and the entries of others are
 pub plain-reason : (limit : ℕ) (h : List Entry) (who : ℕ) (event : Event) (fault : StepFault) (mark : Option ℕ) (others : Option (List Entry)) → refused_by h limit who event ≡ Some fault
-    → IsPlain fault × Refuses crowded_by fault (record { number = who; limit = limit; mark = mark; seen = h; others = others }) event
+    → IsPlain fault × Refuses crowded_by parting_by fault (record { number = who; limit = limit; mark = mark; seen = h; others = others }) event
 plain-reason limit h who event fault mark others e =
-    chain (λ f. IsPlain f × Refuses crowded_by f (record { number = who; limit = limit; mark = mark; seen = h; others = others }) event) who
+    chain (λ f. IsPlain f × Refuses crowded_by parting_by f (record { number = who; limit = limit; mark = mark; seen = h; others = others }) event) who
     (not (is_join event) && not (is_here (presence_from who Away h))) (is_join event && has_joined who h) (not (is_leave event) && nat_le limit (length h)) (is_join event && is_session_full (run h)) fault
     (λ a. let s = both-not (is_join event) (is_here (presence_from who Away h)) a in (tt, (refl, s.0, s.1)))
     (λ b. let s = both (is_join event) (has_joined who h) b in (tt, (refl, s.0, s.1)))
@@ -66,28 +66,32 @@ marked-at (Some at) count = (at, refl)
 
 module _ (who : ℕ) (event : Event) (x y : HeldEngine) where
   abbrev Why : StepFault → ℕ → Option ℕ → List Entry → Type 0
-  Why fault limit mark h = Refuses crowded_by fault (record { number = who; limit = limit; mark = mark; seen = h; others = Some (others_of who h) }) event
+  Why fault limit mark h = Refuses crowded_by parting_by fault (record { number = who; limit = limit; mark = mark; seen = h; others = Some (others_of who h) }) event
+
+  -- memory may be wanting for the event
+  abbrev IsWanting : List Entry → Type 0
+  IsWanting h = (is_leave event ≡ false) ⊎ (parting_by h ≡ true)
 
   plain-why : (limit : ℕ) (h : List Entry) (fault : StepFault) (mark : Option ℕ) → refused_by h limit who event ≡ Some fault → IsPlain fault × Why fault limit mark h
   plain-why limit h fault mark e = plain-reason limit h who event fault mark (Some (others_of who h)) e
 
   -- what a refusal comes from: want of memory, a mark that was there, or what the history gives
   abbrev Reason : Option ℕ → StepFault → Type 0
-  Reason mark f = ((f ≡ NoMemory) × (is_leave event ≡ false)) ⊎ (((at : ℕ) × ((f ≡ Broken at) × (mark ≡ Some at))) ⊎ (refused_by x.history x.limit who event ≡ Some f))
+  Reason mark f = ((f ≡ NoMemory) × IsWanting x.history) ⊎ (((at : ℕ) × ((f ≡ Broken at) × (mark ≡ Some at))) ⊎ (refused_by x.history x.limit who event ≡ Some f))
 
   reason : (mark : Option ℕ) (f : StepFault) → IfSome (refused_at mark x.history x.limit who event) (λ due. (faulty f ≡ faulty due) × (y.outside ≡ x.outside))
-      → (refused_at mark x.history x.limit who event ≡ None → (f ≡ NoMemory) × (is_leave event ≡ false)) → Reason mark f
+      → (refused_at mark x.history x.limit who event ≡ None → (f ≡ NoMemory) × IsWanting x.history) → Reason mark f
   reason (Some at) f refused answered = let e : faulty f ≡ faulty (Broken at) = refused.0 in let s : f ≡ Broken at = cc in inr (inl (at, (s, refl)))
   reason None f refused answered = by (refused_by x.history x.limit who event) refl refused answered
     where
-      by : (refusal : Option StepFault) → refused_by x.history x.limit who event ≡ refusal → IfSome refusal (λ due. (faulty f ≡ faulty due) × (y.outside ≡ x.outside)) → (refusal ≡ None → (f ≡ NoMemory) × (is_leave event ≡ false)) → Reason None f
+      by : (refusal : Option StepFault) → refused_by x.history x.limit who event ≡ refusal → IfSome refusal (λ due. (faulty f ≡ faulty due) × (y.outside ≡ x.outside)) → (refusal ≡ None → (f ≡ NoMemory) × IsWanting x.history) → Reason None f
       by (Some due) e refused answered = let g : faulty f ≡ faulty due = refused.0 in let s : f ≡ due = cc in inr (inr (e ∙ ap (λ k. Some k) (sym s)))
       by None e refused answered = inl (answered refl)
 
   found : (f : StepFault) → Reason x.mark f → y.mark ≡ marked_after (faulty f) x → Why f x.limit y.mark x.history
   found f r m = ⊎_elim wanting (⊎_elim broken (λ e. (plain-why x.limit x.history f y.mark e).1)) r
     where
-      wanting : (f ≡ NoMemory) × (is_leave event ≡ false) → Why f x.limit y.mark x.history
+      wanting : (f ≡ NoMemory) × IsWanting x.history → Why f x.limit y.mark x.history
       wanting w =
           let at = marked-at x.mark (length x.history) in
           subst (λ k. Why k x.limit y.mark x.history) (sym w.0) (w.1, (at.0, m ∙ ap (λ k. marked_after (faulty k) x) w.0 ∙ at.1))
@@ -97,7 +101,7 @@ module _ (who : ℕ) (event : Event) (x y : HeldEngine) where
 
   -- each refusal is told for its cause, as a seat tells it
   pub alone-why : (r : Result Output StepFault) → IfSome (event_refusal x who event) (λ fault. (r ≡ Err fault) × (y.outside ≡ x.outside))
-      → (event_refusal x who event ≡ None → IfErr r (λ fault. (fault ≡ NoMemory) × (is_leave event ≡ false)))
+      → (event_refusal x who event ≡ None → IfErr r (λ fault. (fault ≡ NoMemory) × IsWanting x.history))
       → OnErr r (y.history ≡ x.history) → y.mark ≡ marked_after r x → y.limit ≡ x.limit → IfErr r (λ fault. Why fault y.limit y.mark y.history)
   alone-why (Ok o) refused answered same m l = tt
   alone-why (Err f) refused answered same m l =

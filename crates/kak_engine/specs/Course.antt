@@ -5,7 +5,10 @@ use Rattle.key_names.specs.declared.key.Key.{Key}
 use Rattle.kak_words.specs.declared.parts.Command.{Command}
 use Rattle.kak_files.specs.declared.files.FileRead.{FileRead}
 use Rattle.kak_ports.specs.declared.sink.Put.{Put}
+use Rattle.scope_tables.specs.declared.hooks.HookRef.{HookRef}
+use Rattle.kak_world.specs.declared.ask.Later.{Later}
 use Rattle.kak_world.specs.declared.ask.Saving.{Saving}
+use Rattle.kak_world.specs.declared.events.Fault.{Fault}
 use Rattle.kak_world.specs.declared.playing.Macro.{Macro}
 use Rattle.kak_world.specs.declared.purpose.Wanted.{Wanted}
 use Rattle.kak_world.specs.Flat.{Flat}
@@ -21,6 +24,8 @@ pub data Task : Type 0 where
   RunsMacro : Macro → Task
   -- a use is made of the pattern of a text, or it is told that the pattern was refused
   UsesPattern : Wanted → Option (List ℕ) → Task
+  -- it is gone on with a row, once the hooks of what it did were run
+  GoesOn : Later → Task
   -- it is gone on with a file that was to be read, and with one that was to be written
   ShowsFile : List ℕ → FileRead → Task
   NotesFile : Saving → Put → Task
@@ -30,6 +35,17 @@ pub data Task : Type 0 where
   GoesNormal : Task
   -- words become the arguments of the defined command that runs, or no such one runs
   TakesArguments : Option (List (List ℕ)) → Task
+  -- hooks are to hear that a client came, and that it is about to go
+  NotesComing : Task
+  NotesGoing : Task
+  -- the events that are due are taken, so that what is due from then on stands behind none of them
+  TakesDue : Task
+  -- a hook begins, on an event of a parameter
+  BeginsHook : HookRef → List ℕ → Task
+  -- a parameter counts, or none
+  TakesParameter : Option (List ℕ) → Task
+  -- a client is told of an error of a hook
+  KeepsFault : Fault → Task
 
 -- one thing that happens in a step: the outside is asked for something, or a task of a client begins in a world
 pub data Happened : Type 0 where

@@ -9,7 +9,6 @@ use Rattle.kak_world.specs.declared.purpose.PatternUse.{PatternUse}
 use Rattle.window_view.specs.Sizes.{sized}
 use Rattle.kak_world.specs.Flat.{Flat, view_of}
 use Rattle.kak_world.specs.Examples.{two_joined}
-use Rattle.kak_world.specs.Rows.{Asks}
 use Rattle.command_set.specs.Files.{saved_bytes}
 use Rattle.session_turns.specs.Growth.{Begins}
 use Rattle.session_events.specs.declared.event.Answered.{Answered}
@@ -19,7 +18,7 @@ use Rattle.session_events.specs.Meaning.{no_output}
 use Rattle.kak_engine.specs.Steps.{after_event, output_of}
 use Rattle.kak_engine.specs.Asking.{OfPattern, OfFile, files_in}
 use Rattle.kak_engine.specs.Course.{UsesPattern, ShowsFile, NotesFile, Happened, WasAsked}
-use Rattle.kak_engine.specs.Doing.{Fine, done_as, run_task, Do, top}
+use Rattle.kak_engine.specs.Doing.{Fine, done_as, run_task, do_ask, Do, top}
 use Rattle.kak_engine.specs.Seen.{moment_of}
 
 pub record Examples : Type 0 where
@@ -27,33 +26,33 @@ pub record Examples : Type 0 where
   pub files : (text : List ℕ) (built : Bool) (one other : Exchange) → files_in (OfFile one ∷ OfPattern text built ∷ OfFile other ∷ []) ≡ one ∷ other ∷ []
   -- a row that asks for a pattern takes the next answer: one that was built is made use of, and stands among what was asked for
   pub built : (who : ℕ) (wanted : PatternUse) (flat : Flat) (later : List Answered)
-      → Do (top who) (Asks (Make wanted)) (moment_of [] (Built ∷ later) flat)
+      → do_ask Do (top who) (Make wanted) (moment_of [] (Built ∷ later) flat)
       ≡ run_task Do (top who) (UsesPattern wanted.then (Some (encode_utf8_all wanted.pattern))) (moment_of (WasAsked (OfPattern (encode_utf8_all wanted.pattern) true) ∷ []) later flat)
   -- one that was refused is told
   pub refused : (who : ℕ) (wanted : PatternUse) (flat : Flat) (later : List Answered)
-      → Do (top who) (Asks (Make wanted)) (moment_of [] (Refused ∷ later) flat)
+      → do_ask Do (top who) (Make wanted) (moment_of [] (Refused ∷ later) flat)
       ≡ run_task Do (top who) (UsesPattern wanted.then None) (moment_of (WasAsked (OfPattern (encode_utf8_all wanted.pattern) false) ∷ []) later flat)
   -- with no answer, or one of another kind, the answers don't fit what was asked for
   pub wanting : (who : ℕ) (wanted : PatternUse) (flat : Flat)
-      → Do (top who) (Asks (Make wanted)) (moment_of [] [] flat) ≡ done_as Fine (record { world = flat; answers = []; fit = false; course = [] })
+      → do_ask Do (top who) (Make wanted) (moment_of [] [] flat) ≡ done_as Fine (record { world = flat; answers = []; fit = false; course = [] })
   pub another : (who : ℕ) (wanted : PatternUse) (flat : Flat) (later : List Answered)
-      → Do (top who) (Asks (Make wanted)) (moment_of [] (Wrote ∷ later) flat) ≡ done_as Fine (record { world = flat; answers = Wrote ∷ later; fit = false; course = [] })
+      → do_ask Do (top who) (Make wanted) (moment_of [] (Wrote ∷ later) flat) ≡ done_as Fine (record { world = flat; answers = Wrote ∷ later; fit = false; course = [] })
   -- a row that asks for a file goes on with what it was read as, which stands among what was asked for
   pub read : (who : ℕ) (name bytes : List ℕ) (flat : Flat) (later : List Answered)
-      → Do (top who) (Asks (ToRead name)) (moment_of [] (Read bytes ∷ later) flat)
+      → do_ask Do (top who) (ToRead name) (moment_of [] (Read bytes ∷ later) flat)
       ≡ run_task Do (top who) (ShowsFile name (file.Bytes bytes)) (moment_of (WasAsked (OfFile (WasRead name (file.Bytes bytes))) ∷ []) later flat)
   -- and one that has a file written goes on with whether it was
   pub unwritten : (who : ℕ) (saving : Saving) (flat : Flat) (later : List Answered)
-      → Do (top who) (Asks (Write saving)) (moment_of [] (WriteFailed ∷ later) flat)
+      → do_ask Do (top who) (Write saving) (moment_of [] (WriteFailed ∷ later) flat)
       ≡ run_task Do (top who) (NotesFile saving put.Failed) (moment_of (WasAsked (OfFile (Written saving.file (saved_bytes saving flat) put.Failed)) ∷ []) later flat)
   -- what is answered where a file is read says nothing of one that is written
   pub not_written : (who : ℕ) (saving : Saving) (flat : Flat) (later : List Answered)
-      → Do (top who) (Asks (Write saving)) (moment_of [] (NotThere ∷ later) flat) ≡ done_as Fine (record { world = flat; answers = NotThere ∷ later; fit = false; course = [] })
+      → do_ask Do (top who) (Write saving) (moment_of [] (NotThere ∷ later) flat) ≡ done_as Fine (record { world = flat; answers = NotThere ∷ later; fit = false; course = [] })
   -- where memory was wanting behind a file that was read, that read is a beginning of what happens
   pub begun : (who : ℕ) (name bytes : List ℕ) (flat : Flat)
-      → Begins (Do (top who) (Asks (ToRead name)) (moment_of [] (Read bytes ∷ []) flat)).moment.course (WasAsked (OfFile (WasRead name (file.Bytes bytes))) ∷ [])
+      → Begins (do_ask Do (top who) (ToRead name) (moment_of [] (Read bytes ∷ []) flat)).moment.course (WasAsked (OfFile (WasRead name (file.Bytes bytes))) ∷ [])
   -- and whatever is answered, nothing is a beginning of what happens behind a row that asks for nothing
-  pub unasked : (who : ℕ) (answers : List Answered) (what : Happened) (flat : Flat) → Begins (Do (top who) (Asks Nothing) (moment_of [] answers flat)).moment.course (what ∷ []) → ⊥
+  pub unasked : (who : ℕ) (answers : List Answered) (what : Happened) (flat : Flat) → Begins (do_ask Do (top who) Nothing (moment_of [] answers flat)).moment.course (what ∷ []) → ⊥
 
 -- of two clients, 7 and 9, the first has windows of another size
 pub record SizeExamples : Type 0 where

@@ -17,3 +17,4 @@ pub mod Examples
 pub mod RescueExamples
 pub mod MouseExamples
 pub mod NestingExamples
+pub mod HookExamples

@@ -23,7 +23,7 @@ rescue_file name = encode_utf8_all name ++ codes ".kak-rescue"
 
 -- how the text of the buffer of a number is written there: as it would be written to any file
 abbrev pub rescuing : ℕ → List ℕ → Saving
-rescuing n name = record { file = rescue_file name; buffer = n; quits = false }
+rescuing n name = record { file = rescue_file name; buffer = n; name = []; quits = false }
 
 -- a text that is to be rescued: the file, and its bytes
 pub record Due : Type 0 where

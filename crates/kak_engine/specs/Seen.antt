@@ -1,12 +1,18 @@
 -- What the code of a step answers, as the definitions have it.
-use Rattle.std.specs.Prelude.{◌≡◌, ℕ, true, List, ◌++◌, Ok, Err}
+use Rattle.std.specs.Prelude.{◌≡◌, ℕ, true, List, ◌++◌, Ok, Err, IfSome}
 use Rattle.std.specs.declared.result.Result.{Result}
 use Rattle.std.specs.declared.alloc.AllocError.{AllocError}
-use Rattle.kak_world.specs.Flat.{Flat}
+use Rattle.kak_world.specs.declared.ask.Ask.{Ask}
+use Rattle.kak_world.specs.declared.ask.EditError.{EditError}
+use Rattle.kak_world.specs.Flat.{Flat, acts}
+use Rattle.kak_world.specs.Rows.{row_of}
+use Rattle.kak_world.specs.Events.{refused, fault_kept}
 use Rattle.session_turns.specs.Growth.{Begins}
 use Rattle.session_events.specs.declared.event.Answered.{Answered}
 use Rattle.kak_engine.specs.declared.ending.Ending.{Ending}
 use Rattle.kak_engine.specs.declared.ending.Ending.TheVariants as code
+use Rattle.kak_engine.specs.declared.ending.Told.{Told}
+use Rattle.kak_engine.specs.declared.ending.Told.TheVariants as code_told
 use Rattle.kak_engine.specs.declared.ending.Limit.{Limit}
 use Rattle.kak_engine.specs.declared.ending.Limit.TheVariants.{Units, Depth}
 use Rattle.kak_engine.specs.Course.{Happened, asks_in}
@@ -22,12 +28,23 @@ limit_text Depth = nested_too_deep
 -- how something ended
 abbrev pub end_seen : Ending → DoingEnd
 end_seen code.Fine = Fine
-end_seen (code.Failed text) = Failed text
+end_seen (code.Failed fault) = Failed fault
 end_seen (code.GivenUp limit) = GivenUp (limit_text limit)
+
+-- a client is told of how its step ended
+abbrev pub told_as : Told → ℕ → Flat → Flat
+told_as code_told.Nothing who flat = flat
+told_as (code_told.Fault fault) who flat = fault_kept who fault flat
+told_as (code_told.GivenUp text) who flat = refused who text flat
 
 -- a moment of a step whose answers so far were of the kind that was asked for
 abbrev pub moment_of : List Happened → List Answered → Flat → Moment
 moment_of course answers flat = record { world = flat; answers = answers; fit = true; course = course }
+
+-- a client acts behind a row, unless memory was wanting for that
+abbrev pub ActsBehind : Result Ask EditError → ℕ → Flat → Type 0
+ActsBehind (Ok ask) who flat = acts who flat ≡ true
+ActsBehind (Err error) who flat = IfSome (row_of error) (λ row. acts who flat ≡ true)
 
 -- a step under way: the world, what the outside answered so far, and the outside
 pub record UnderWay : Type 0 where

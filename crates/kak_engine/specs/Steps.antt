@@ -7,10 +7,11 @@ use Rattle.key_names.specs.declared.key.Key.{Key}
 use Rattle.mouse_events.specs.declared.mouse.Mouse.{Mouse}
 use Rattle.kak_world.specs.declared.own.Mode.{Mode}
 use Rattle.kak_world.specs.declared.own.Mode.TheVariants.{Normal, Insert, Prompt}
-use Rattle.kak_world.specs.declared.own.StatusText.TheVariants.{Quiet, Refused}
+use Rattle.kak_world.specs.declared.own.StatusText.TheVariants.{Quiet}
 use Rattle.kak_world.specs.declared.world.TheConstants.{MAX_CLIENTS}
 use Rattle.kak_world.specs.Flat.{Flat, opening, joined_by, left_by_client, mode_of, is_client_leaving, with_own, with_units, takes_turn, step_ended}
 use Rattle.kak_world.specs.Changing.{commits}
+use Rattle.kak_world.specs.Events.{has_hooks, refused, fault_kept}
 use Rattle.window_view.specs.Sizes.{Dimensions}
 use Rattle.pointer_rows.specs.Pointing.{pointed}
 use Rattle.pointer_rows.specs.Scrolling.{scrolled}
@@ -24,23 +25,17 @@ use Rattle.session_events.specs.declared.event.Entry.{Entry}
 use Rattle.session_events.specs.declared.event.Output.{Output}
 use Rattle.session_events.specs.Meaning.{no_output}
 use Rattle.kak_engine.specs.Asking.{Asked, files_in}
-use Rattle.kak_engine.specs.Course.{Happened, asks_in}
+use Rattle.kak_engine.specs.Course.{Task, NotesComing, NotesGoing, Happened, asks_in}
 use Rattle.kak_engine.specs.Wanting.{IsLeftBy}
-use Rattle.kak_engine.specs.Doing.{DoingEnd, fault_text, Moment, Outcome, play_key, Do, top}
+use Rattle.kak_engine.specs.Doing.{DoingEnd, Fine, Failed, GivenUp, Moment, Outcome, task_settled, play_key, Do, top}
 use Rattle.kak_engine.specs.Recording.{listens, recorded}
 use Rattle.kak_engine.specs.Honesty.{Outside, IsHonest}
 
--- a client is told why its key was refused
-abbrev pub refused : ℕ → List ℕ → Flat → Flat
-refused who text flat = with_own who (λ o. record o { status = Refused text }) flat
-
--- a client's status after its key: what went wrong, if anything did
-abbrev pub fault_told : ℕ → Option (List ℕ) → Flat → Flat
-fault_told who None flat = flat
-fault_told who (Some text) flat = refused who text flat
-
+-- a client's status behind a step: that it was given up, or the last error; one of a hook that arose behind the error was told already
 abbrev pub told : ℕ → DoingEnd → Flat → Flat
-told who end flat = fault_told who (fault_text end) flat
+told who Fine flat = flat
+told who (Failed fault) flat = fault_kept who fault flat
+told who (GivenUp text) flat = refused who text flat
 
 -- the world when a key begins: its client has no status and no box, is dragging no more, and what it records takes the key; the step
 -- has all of its units, and it is the client's turn
@@ -79,9 +74,37 @@ unfoldable pub course_of_key : ℕ → Key → List Answered → Flat → List H
 course_of_key who key answers flat =
     if is_client_leaving who flat then [] else (struck who key answers flat).moment.course
 
--- what happens in an event; in none but a key the outside is asked for anything, or a task begins
+-- the world when the step of a client begins that comes or goes: it has all of its units, and it is the client's turn
+abbrev pub step_begun : ℕ → Flat → Flat
+step_begun who flat = takes_turn who (with_units MAX_UNITS (step_ended flat))
+
+-- a client that came, and whose hooks are to be run; and one that is about to go
+abbrev pub come : ℕ → Flat → Flat
+come who flat = step_begun who (joined_by who flat)
+
+-- a step in which hooks are to hear something of a client, and are run
+abbrev pub heard_from : ℕ → Task → Flat → List Answered → Outcome
+heard_from who task flat answers = task_settled Do (top who) task (record { world = flat; answers = answers; fit = true; course = [] })
+
+unfoldable pub coming : ℕ → List Answered → Flat → Outcome
+coming who answers flat = heard_from who NotesComing (come who flat) answers
+
+unfoldable pub going : ℕ → List Answered → Flat → Outcome
+going who answers flat = heard_from who NotesGoing (step_begun who flat) answers
+
+-- the world after a client came, behind the hooks of that; nothing of what they changed is committed
+unfoldable pub after_coming : ℕ → List Answered → Flat → Flat
+after_coming who answers flat = step_ended (told who (coming who answers flat).end (coming who answers flat).moment.world)
+
+-- and after it went, behind the hooks of that, however they ended
+unfoldable pub after_going : ℕ → List Answered → Flat → Flat
+after_going who answers flat = left_by_client who (step_ended (going who answers flat).moment.world)
+
+-- what happens in an event, in order; in none but a key, a coming and a going the outside is asked for anything, or a task begins
 abbrev pub course_of : ℕ → Event → List Answered → Flat → List Happened
+course_of who Join answers flat = (coming who answers flat).moment.course
 course_of who (Struck key) answers flat = course_of_key who key answers flat
+course_of who Leave answers flat = (going who answers flat).moment.course
 course_of who _ answers flat = []
 
 -- what the outside is asked for by an event, in order
@@ -115,21 +138,22 @@ after_mouse who mouse flat = step_ended (pointed_by who mouse (takes_turn who fl
 
 -- the world after an event of a client
 abbrev pub after_event : ℕ → Event → List Answered → Flat → Flat
-after_event who Join answers flat = joined_by who flat
+after_event who Join answers flat = after_coming who answers flat
 after_event who (Struck key) answers flat = after_key who key answers flat
 after_event who (Resize size) answers flat = resized who size flat
 after_event who (Scroll lines) answers flat = after_scroll who lines flat
 after_event who (Pointed mouse) answers flat = after_mouse who mouse flat
 after_event who (Refresh asked) answers flat = noted_drawn who (shown_to who flat)
-after_event who Leave answers flat = left_by_client who flat
+after_event who Leave answers flat = after_going who answers flat
 
 -- whether a client is granted to leave by a key, by which it wasn't before
 abbrev pub may_leave_by : ℕ → Key → List Answered → Flat → Bool
 may_leave_by who key answers flat = is_client_leaving who (after_key who key answers flat) && not (is_client_leaving who flat)
 
--- what an event gives its client: a drawing where it is a refresh, and whether the client may leave from now on
+-- what an event gives its client: a drawing where it is a refresh, and whether the client may leave from now on; the hooks of its going
+-- grant nothing
 abbrev pub output_of : ℕ → Event → List Answered → Flat → Output
-output_of who Join answers flat = no_output
+output_of who Join answers flat = record no_output { leaving = is_client_leaving who (after_coming who answers flat) }
 output_of who (Struck key) answers flat = record no_output { leaving = may_leave_by who key answers flat }
 output_of who (Resize size) answers flat = no_output
 output_of who (Scroll lines) answers flat = no_output
@@ -179,8 +203,10 @@ abbrev pub AreAskedByKey : Bool → ℕ → Key → List Answered → Flat → T
 AreAskedByKey true who key answers flat = answers ≡ []
 AreAskedByKey false who key answers flat = AreUsed (struck who key answers flat).moment
 
--- the same of an event; nothing but a key asks the outside for anything
+-- the same of an event; nothing but a key, a coming and a going asks the outside for anything
 abbrev pub AreAskedFor : ℕ → Event → List Answered → Flat → Type 0
+AreAskedFor who Join answers flat = AreUsed (coming who answers flat).moment
+AreAskedFor who Leave answers flat = AreUsed (going who answers flat).moment
 AreAskedFor who (Struck key) answers flat = AreAskedByKey (is_client_leaving who flat) who key answers flat
 AreAskedFor who _ answers flat = answers ≡ []
 
@@ -195,6 +221,10 @@ AllAsked history = AllAskedFrom opening history
 -- what an entry gives its client, behind the entries before it
 abbrev pub given_by : List Entry → Entry → Output
 given_by before entry = output_of entry.who entry.event entry.answers (run before)
+
+-- whether hooks may be run where a client goes, behind some entries: whether any hook is held
+abbrev pub parting_by : List Entry → Bool
+parting_by history = has_hooks (run history)
 
 -- whether no further client may come, behind some entries
 abbrev pub crowded_by : List Entry → Bool
@@ -211,6 +241,8 @@ pub record IsStepCutShort (who : ℕ) (event : Event) (flat : Flat) (before now 
 -- the world is left so by an event in which this happened and that has no entry
 abbrev pub IsLeftByEvent : Event → ℕ → List Happened → Flat → Flat → Type 0
 IsLeftByEvent (Struck key) who course old new = IsLeftBy (λ x. (x ≡ old) ⊎ (x ≡ begun who old)) course new
+IsLeftByEvent Join who course old new = IsLeftBy (λ x. (x ≡ old) ⊎ (x ≡ come who old)) course new
+IsLeftByEvent Leave who course old new = IsLeftBy (λ x. (x ≡ old) ⊎ (x ≡ step_begun who old)) course new
 IsLeftByEvent (Refresh asked) who course old new = new ≡ shown_to who old
 IsLeftByEvent _ who course old new = new ≡ old
 

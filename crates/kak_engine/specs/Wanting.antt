@@ -5,28 +5,39 @@ use Rattle.kak_world.specs.declared.own.Mode.{Mode}
 use Rattle.kak_world.specs.declared.own.Mode.TheVariants.{Normal, Insert, Prompt}
 use Rattle.kak_world.specs.Flat.{Flat, mode_of, pending_of}
 use Rattle.normal_keys.specs.Wanting.{IsPartOfNormal}
-use Rattle.insert_prompt.specs.Wanting.{IsPartOfInsert}
+use Rattle.kak_world.specs.Rows.{does}
+use Rattle.kak_world.specs.Events.{coming_noted, IsUnheard}
+use Rattle.insert_prompt.specs.Wanting.{IsPartOfInsert, IsPartOfPrompt}
+use Rattle.command_set.specs.Rows.{row_command}
+use Rattle.command_set.specs.Buffers.{row_later}
 use Rattle.command_set.specs.Wanting.{IsPartOfRead, IsPartOfSaved}
-use Rattle.kak_engine.specs.Course.{Task, RunsKey, RunsCommand, RunsMacro, UsesPattern, ShowsFile, NotesFile, GrantsLeave, GoesNormal, TakesArguments, Happened, WasAsked, Began}
+use Rattle.kak_engine.specs.Course.{Task, RunsKey, RunsCommand, RunsMacro, UsesPattern, GoesOn, ShowsFile, NotesFile, GrantsLeave, GoesNormal, TakesArguments, NotesComing, NotesGoing, TakesDue, BeginsHook, TakesParameter, KeepsFault, Happened, WasAsked, Began}
 use Rattle.kak_engine.specs.Doing.{task_row}
 
--- a key came part of the way, by the mode of its client; a key of a prompt leaves the world
+-- a key came part of the way, by the mode of its client
 abbrev pub IsPartInMode : Mode → Key → ℕ → Flat → Flat → Type 0
 IsPartInMode Normal key who old new = IsPartOfNormal key who old new
 IsPartInMode Insert key who old new = IsPartOfInsert (pending_of who old) key who old new
-IsPartInMode Prompt key who old new = new ≡ old
+IsPartInMode Prompt key who old new = IsPartOfPrompt who old new
 
--- a task came part of the way; but for keys and files, it leaves the world then
+-- a task came part of the way; where its row does nothing that takes memory, it leaves the world then
 abbrev pub IsPartOfTask : Task → ℕ → Flat → Flat → Type 0
 IsPartOfTask (RunsKey key) who old new = IsPartInMode (mode_of who old) key who old new
-IsPartOfTask (RunsCommand command) who old new = new ≡ old
+IsPartOfTask (RunsCommand command) who old new = IsUnheard (row_command command who old) old new
 IsPartOfTask (RunsMacro macro) who old new = new ≡ old
 IsPartOfTask (UsesPattern wanted made) who old new = new ≡ old
-IsPartOfTask (ShowsFile name read) who old new = IsPartOfRead name read old new
-IsPartOfTask (NotesFile saving put) who old new = IsPartOfSaved saving put old new
+IsPartOfTask (GoesOn later) who old new = IsUnheard (row_later later who old) old new
+IsPartOfTask (ShowsFile name read) who old new = IsPartOfRead name read who old new
+IsPartOfTask (NotesFile saving put) who old new = IsPartOfSaved saving put who old new
 IsPartOfTask GrantsLeave who old new = new ≡ old
 IsPartOfTask GoesNormal who old new = new ≡ old
 IsPartOfTask (TakesArguments arguments) who old new = new ≡ old
+IsPartOfTask NotesComing who old new = IsUnheard (does (coming_noted who old)) old new
+IsPartOfTask NotesGoing who old new = new ≡ old
+IsPartOfTask TakesDue who old new = new ≡ old
+IsPartOfTask (BeginsHook at parameter) who old new = new ≡ old
+IsPartOfTask (TakesParameter parameter) who old new = new ≡ old
+IsPartOfTask (KeepsFault fault) who old new = new ≡ old
 
 -- a task that began in a world came part of the way, or its row was done
 abbrev pub IsWithinTask : Task → ℕ → Flat → Flat → Type 0

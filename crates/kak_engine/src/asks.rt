@@ -1,22 +1,23 @@
-//! What rows ask for, and how a step goes on with what the outside answers.
+//! What comes behind a row: the hooks of what it did, and what it asks for, with what the outside answers.
 #![tactic(auto, using(kak_world::proofs::WorldLaws::world_laws))]
 
-ghost use Rattle.std.specs.Prelude.{◌≡◌, true, OnOk};
+ghost use Rattle.std.specs.Prelude.{◌≡◌, true, IfSome, Err};
 ghost use Rattle.kak_world.specs.Flat.{acts};
-ghost use Rattle.kak_world.specs.Rows.{GivesRow, RowEnd, Asks};
-ghost use Rattle.kak_world.specs.declared.ask.Ask.TheVariants.{Make, Read, Write};
-ghost use Rattle.kak_engine.specs.Doing.{Do, granted, go_on as rest_of};
-ghost use Rattle.kak_engine.specs.Seen.{PartEnds, under_way};
+ghost use Rattle.kak_world.specs.Rows.{GivesRow, RowEnd, Asks, row_of};
+ghost use Rattle.kak_world.specs.declared.ask.Ask.TheVariants.{Make, Read, Write, Then};
+ghost use Rattle.kak_engine.specs.Doing.{Failed, Do, granted, done_as, and_then, settle, do_ask as ask_done, go_on as rest_of};
+ghost use Rattle.kak_engine.specs.Seen.{ActsBehind, PartEnds, under_way};
 
 use crate::asking::{made_told, make, put_told, read_told, write};
 use crate::ending::{Ending, ending_of};
+use crate::hooking::settle;
 use crate::outside::Outside;
 use crate::place::Place;
 use crate::playing::play;
 use crate::texts::{call_text, run_deeper, run_text, try_texts};
 use byte_texts::Utf8Text;
-use command_set::{finish, note_saved, open_read};
-use kak_world::{Ask, EditError, PatternUse, Saving, Turn, World};
+use command_set::{finish, go_later, note_saved, open_read};
+use kak_world::{Ask, EditError, Fault, Later, PatternUse, Saving, Turn, World};
 use regex_ports::Pattern;
 use session_events::Answers;
 use std::alloc::{AllocError, Global};
@@ -29,7 +30,7 @@ fn grant_leave<P: Pattern, T: Turn>(world: &mut World<P, T>, who: u32)
     world.own_mut(who).leaving = true;
 }
 
-/// Does what a row asks for, or ends with its error.
+/// Runs the hooks of what a row did, and then does what it asks for, or ends with its error.
 #[cycle(nested)]
 pub(crate) fn go_on<O: Outside, T: Turn>(
     alloc: Global,
@@ -39,12 +40,73 @@ pub(crate) fn go_on<O: Outside, T: Turn>(
     place: Place,
     row: Result<Ask, EditError>,
 ) -> Result<Ending, AllocError>
-    requires { OnOk row (acts place.who world.old.flat ≡ true) }
+    requires { ActsBehind row place.who world.old.flat }
     ensures does { (end : RowEnd) → GivesRow row world.old.flat end → PartEnds result (λ m. rest_of Do place end m) (under_way world.old.flat answers.old (O.seen outside.old)) (under_way world.new.flat answers.new (O.seen outside.new)) }
 {
     match row {
-        Ok(ask) => do_ask(alloc, world, outside, answers, place, ask),
-        Err(error) => ending_of(alloc, error),
+        Ok(ask) => settle_and_do(alloc, world, outside, answers, place, ask),
+        Err(error) => settle_and_fail(alloc, world, outside, answers, place, error),
+    }
+}
+
+// Runs the hooks of what a row did, and then does what it asks for.
+#[cycle(nested)]
+fn settle_and_do<O: Outside, T: Turn>(
+    alloc: Global,
+    world: &mut World<O::P, T>,
+    outside: &mut O,
+    answers: &mut Answers,
+    place: Place,
+    ask: Ask,
+) -> Result<Ending, AllocError>
+    requires { acts place.who world.old.flat ≡ true }
+    ensures does { PartEnds result (λ m. Do place (Asks ask) m) (under_way world.old.flat answers.old (O.seen outside.old)) (under_way world.new.flat answers.new (O.seen outside.new)) }
+{
+    match settle(alloc, world, outside, answers, place)? {
+        Ending::Fine => do_ask(alloc, world, outside, answers, place, ask),
+        Ending::Failed(fault) => Ok(Ending::Failed(fault)),
+        Ending::GivenUp(limit) => Ok(Ending::GivenUp(limit)),
+    }
+}
+
+/// Runs the hooks of what a row did that was refused, and ends with its error, which arose before them. Where units were spent, or
+/// memory was wanting, none is run.
+#[cycle(nested)]
+pub(crate) fn settle_and_fail<O: Outside, T: Turn>(
+    alloc: Global,
+    world: &mut World<O::P, T>,
+    outside: &mut O,
+    answers: &mut Answers,
+    place: Place,
+    error: EditError,
+) -> Result<Ending, AllocError>
+    requires { IfSome (row_of error) (λ row. acts place.who world.old.flat ≡ true) }
+    ensures does { (end : RowEnd) → GivesRow (Err error) world.old.flat end → PartEnds result (λ m. rest_of Do place end m) (under_way world.old.flat answers.old (O.seen outside.old)) (under_way world.new.flat answers.new (O.seen outside.new)) }
+{
+    match ending_of(alloc, world.faults(), error)? {
+        Ending::Fine => Ok(Ending::Fine),
+        Ending::Failed(fault) => settle_fault(alloc, world, outside, answers, place, fault),
+        Ending::GivenUp(limit) => Ok(Ending::GivenUp(limit)),
+    }
+}
+
+// Runs the hooks of what a row did, and ends with an error.
+#[cycle(nested)]
+fn settle_fault<O: Outside, T: Turn>(
+    alloc: Global,
+    world: &mut World<O::P, T>,
+    outside: &mut O,
+    answers: &mut Answers,
+    place: Place,
+    fault: Fault,
+) -> Result<Ending, AllocError>
+    requires { acts place.who world.old.flat ≡ true }
+    ensures does { PartEnds result (λ m. and_then (settle Do place m) (done_as (Failed fault))) (under_way world.old.flat answers.old (O.seen outside.old)) (under_way world.new.flat answers.new (O.seen outside.new)) }
+{
+    match settle(alloc, world, outside, answers, place)? {
+        Ending::Fine => Ok(Ending::Failed(fault)),
+        Ending::Failed(other) => Ok(Ending::Failed(other)),
+        Ending::GivenUp(limit) => Ok(Ending::GivenUp(limit)),
     }
 }
 
@@ -59,7 +121,7 @@ fn do_ask<O: Outside, T: Turn>(
     ask: Ask,
 ) -> Result<Ending, AllocError>
     requires { acts place.who world.old.flat ≡ true }
-    ensures does { PartEnds result (λ m. Do place (Asks ask) m) (under_way world.old.flat answers.old (O.seen outside.old)) (under_way world.new.flat answers.new (O.seen outside.new)) }
+    ensures does { PartEnds result (λ m. ask_done Do place ask m) (under_way world.old.flat answers.old (O.seen outside.old)) (under_way world.new.flat answers.new (O.seen outside.new)) }
 {
     match ask {
         Ask::Nothing => Ok(Ending::Fine),
@@ -71,11 +133,29 @@ fn do_ask<O: Outside, T: Turn>(
         Ask::Make(wanted) => make_and_use(alloc, world, outside, answers, place, wanted),
         Ask::Read(name) => read_and_show(alloc, world, outside, answers, place, name),
         Ask::Write(saving) => write_and_note(alloc, world, outside, answers, place, saving),
+        Ask::Then(later) => go_on_later(alloc, world, outside, answers, place, later),
         Ask::Leave => {
             grant_leave(world, place.who);
             Ok(Ending::Fine)
         }
     }
+}
+
+// Goes on with a row, once the hooks of what it did were run.
+#[cycle(nested)]
+fn go_on_later<O: Outside, T: Turn>(
+    alloc: Global,
+    world: &mut World<O::P, T>,
+    outside: &mut O,
+    answers: &mut Answers,
+    place: Place,
+    later: Later,
+) -> Result<Ending, AllocError>
+    requires { acts place.who world.old.flat ≡ true }
+    ensures does { PartEnds result (λ m. ask_done Do place (Then later) m) (under_way world.old.flat answers.old (O.seen outside.old)) (under_way world.new.flat answers.new (O.seen outside.new)) }
+{
+    let row = go_later(alloc, world, place.who, later);
+    go_on(alloc, world, outside, answers, place, row)
 }
 
 // Has a pattern made, and goes on with the use of it that is wanted.
@@ -89,7 +169,7 @@ fn make_and_use<O: Outside, T: Turn>(
     wanted: PatternUse,
 ) -> Result<Ending, AllocError>
     requires { acts place.who world.old.flat ≡ true }
-    ensures does { PartEnds result (λ m. Do place (Asks (Make wanted)) m) (under_way world.old.flat answers.old (O.seen outside.old)) (under_way world.new.flat answers.new (O.seen outside.new)) }
+    ensures does { PartEnds result (λ m. ask_done Do place (Make wanted) m) (under_way world.old.flat answers.old (O.seen outside.old)) (under_way world.new.flat answers.new (O.seen outside.new)) }
 {
     let made = make(alloc, outside, wanted.pattern.as_slice())?;
     answers.push(made_told(&made))?;
@@ -108,7 +188,7 @@ fn read_and_show<O: Outside, T: Turn>(
     name: Utf8Text,
 ) -> Result<Ending, AllocError>
     requires { acts place.who world.old.flat ≡ true }
-    ensures does { PartEnds result (λ m. Do place (Asks (Read name)) m) (under_way world.old.flat answers.old (O.seen outside.old)) (under_way world.new.flat answers.new (O.seen outside.new)) }
+    ensures does { PartEnds result (λ m. ask_done Do place (Read name) m) (under_way world.old.flat answers.old (O.seen outside.old)) (under_way world.new.flat answers.new (O.seen outside.new)) }
 {
     let read = outside.read(alloc, name.as_str())?;
     let row = open_read(alloc, world, place.who, name, &read);
@@ -127,7 +207,7 @@ fn write_and_note<O: Outside, T: Turn>(
     saving: Saving,
 ) -> Result<Ending, AllocError>
     requires { acts place.who world.old.flat ≡ true }
-    ensures does { PartEnds result (λ m. Do place (Asks (Write saving)) m) (under_way world.old.flat answers.old (O.seen outside.old)) (under_way world.new.flat answers.new (O.seen outside.new)) }
+    ensures does { PartEnds result (λ m. ask_done Do place (Write saving) m) (under_way world.old.flat answers.old (O.seen outside.old)) (under_way world.new.flat answers.new (O.seen outside.new)) }
 {
     let put = write(alloc, world, outside, &saving)?;
     answers.push(put_told(put))?;

@@ -1,41 +1,33 @@
 //! The engine: the world, and the history that led to it.
 #![tactic(auto, using(kak_world::proofs::WorldLaws::world_laws, crate::proofs::KeepingLaws::joined_key))]
 
-ghost use Rattle.std.specs.Prelude.{◌≡◌, ◌<◌, ◌≤◌, ◌^◌, [], ◌∷◌, ◌++◌, length, true, None, Some, Err, IfOk, IfErr, IfSome, OnErr, OnOk, IsOk, false, ◌+◌, vec_len, vec_capacity};
+ghost use Rattle.std.specs.Prelude.{◌≡◌, ◌≤◌, ◌⊎◌, [], ◌∷◌, ◌++◌, length, true, None, Some, Err, IfOk, IfErr, IfSome, OnErr, OnOk, IsOk, false, ◌+◌, vec_len, vec_capacity};
 ghost use Rattle.std.specs.Ordering.{nat_cmp};
 ghost use Rattle.std.specs.BTreeSet.{contains};
 ghost use Rattle.text_model.specs.Texts.{line_count};
-ghost use Rattle.kak_world.specs.Flat.{is_here, is_joined, acts, is_client_leaving, text_of, sels_of};
+ghost use Rattle.kak_world.specs.Flat.{is_joined, text_of, sels_of};
 ghost use Rattle.kak_world.specs.Settled.{AllListsSettled};
+ghost use Rattle.kak_world.specs.Events.{has_hooks};
 ghost use Rattle.kak_world.specs.Stored.{IsStepOf, LeavesOthersOf};
 ghost use Rattle.kak_world.specs.declared.world.TheConstants.{MAX_CLIENTS};
-ghost use Rattle.kak_engine.specs.Steps.{after_key, may_leave_by, after_event, output_of, asked_by, exchanges, run, begun, fault_told, refused, group_ended, shown_to, noted_drawn, resized, after_scroll, after_mouse, AreAskedFor, AllAsked, IsStepLeft};
+ghost use Rattle.kak_engine.specs.Steps.{after_event, output_of, asked_by, exchanges, run, parting_by, AreAskedFor, AllAsked, IsStepLeft};
 ghost use Rattle.kak_engine.specs.Honesty.{IsUntouched, IsHonest, IsKept};
 ghost use Rattle.kak_engine.specs.Held.{new_engine, event_refusal, refused_by, marked_after, marked_by, CanRun, TakesEvent, CutsEvent, LeavesInside};
-ghost use Rattle.session_events.specs.declared.event.Event.TheVariants.{Leave, Key as Struck};
+ghost use Rattle.session_events.specs.declared.event.Event.TheVariants.{Leave};
 ghost use Rattle.session_events.specs.declared.fault.StepFault.TheVariants.{NoMemory};
 ghost use Rattle.session_events.specs.Entries.{entry_of, kind_of, is_join, is_leave, has_joined};
 ghost use Rattle.session_events.specs.Legal.{Away, is_here as is_in, presence_from, IsLegal};
-ghost use Rattle.draw_model.specs.Drawings.{drawing_of};
 
-use crate::ending::Ending;
+use crate::events::run_event;
 use crate::joined::{is_known, note_coming};
 use crate::outside::Outside;
-use crate::playing::strike_key;
-use crate::recording::{listen, record_key};
 use crate::resting::{RestingWorld, leave_in_step, run_in_step};
-use draw_model::{gutter_of, note_drawn};
-use drawings::Drawing;
-use kak_text::Chars;
-use kak_world::{AnyTurn, MAX_CLIENTS, Mode, StatusText, Turn, World};
-use key_names::Key;
-use mouse_events::Mouse;
+use kak_world::{AnyTurn, MAX_CLIENTS, Turn, World};
 use regex_ports::Pattern;
 use session_events::{Answers, Entry, Event, Output, StepFault, is_join, is_leave};
 use std::alloc::{AllocError, Global};
 use std::collections::BTreeSet;
 use std::marker::Model;
-use window_view::Size;
 
 /// How many units a key has: each command, and each further run of a count, takes one.
 pub const MAX_UNITS: u32 = 4_096;
@@ -71,205 +63,6 @@ impl<O: Outside> Model for Engine<O> {
     ghost invariant = { λ e. EngineStands e.world.flat e.history.items e.mark e.limit (files_told e.rescued (O.seen e.outside).shelf) × KeepsPlaces e.mark e.world.flat (vec_len e.history) (vec_capacity e.history) × KnowsJoined e.mark e.joined e.history.items };
 }
 
-// Tells a client why its key was refused.
-fn refuse<P: Pattern, T: Turn>(world: &mut World<P, T>, who: u32, text: Chars)
-    requires { acts who world.old.flat ≡ true }
-    ensures { world.new.flat ≡ refused who text world.old.flat }
-{
-    world.own_mut(who).status = StatusText::Refused(text);
-}
-
-// Tells a client what went wrong with its key, if anything did.
-fn tell<P: Pattern, T: Turn>(world: &mut World<P, T>, who: u32, fault: Option<Chars>)
-    requires { acts who world.old.flat ≡ true }
-    ensures { world.new.flat ≡ fault_told who fault world.old.flat }
-{
-    if let Some(text) = fault {
-        refuse(world, who, text);
-    }
-}
-
-// Ends what is pending of a client whose key ends: outside insert mode it is committed.
-fn end_group<P: Pattern, T: Turn>(world: &mut World<P, T>, who: u32)
-    requires { acts who world.old.flat ≡ true }
-    ensures { world.new.flat ≡ group_ended who world.old.flat }
-{
-    let mode = world.own(who).mode;
-    match mode {
-        Mode::Insert => {}
-        Mode::Normal => world.commit(who),
-        Mode::Prompt => world.commit(who),
-    }
-}
-
-// Begins a key of a client, whose turn it is then.
-fn begin<P: Pattern, T: Turn>(world: &mut World<P, T>, who: u32)
-    requires own { IsStepOf who T.began }
-    requires joined { is_joined who world.old.flat ≡ true }
-    ensures begins { world.new.flat ≡ begun who world.old.flat }
-    ensures acts { acts who world.new.flat ≡ true }
-{
-    listen(world, who);
-    world.set_units(MAX_UNITS);
-    world.enter(who);
-}
-
-// Runs a key of a client that wasn't granted to leave.
-fn run_struck<O: Outside, T: Turn>(
-    alloc: Global,
-    world: &mut World<O::P, T>,
-    outside: &mut O,
-    answers: &mut Answers,
-    who: u32,
-    key: Key,
-) -> Result<(), AllocError>
-    requires own { IsStepOf who T.began }
-    requires joined { is_joined who world.old.flat ≡ true }
-    requires stays { is_client_leaving who world.old.flat ≡ false }
-    requires fresh { answers.old ≡ [] }
-    ensures leads { OnOk result (world.new.flat ≡ after_key who key answers.new world.old.flat) }
-    ensures asked { OnOk result (AreAskedFor who (Struck key) answers.new world.old.flat) }
-    ensures honest { OnOk result (IsHonest answers.new (asked_by who (Struck key) answers.new world.old.flat) (O.seen outside.old) (O.seen outside.new)) }
-    ensures cut { OnErr result (IsStepLeft who (Struck key) world.old.flat world.new.flat (O.seen outside.old) (O.seen outside.new)) }
-{
-    begin(world, who);
-    let ending = strike_key(alloc, world, outside, answers, who, key)?;
-    let fault = ending.text(alloc)?;
-    record_key(world, who, key)?;
-    tell(world, who, fault);
-    end_group(world, who);
-    world.end_step();
-    Ok(())
-}
-
-// Runs a key of a client, and tells whether it was granted to leave by it. Once it was, its keys do nothing.
-fn run_key<O: Outside, T: Turn>(
-    alloc: Global,
-    world: &mut World<O::P, T>,
-    outside: &mut O,
-    answers: &mut Answers,
-    who: u32,
-    key: Key,
-) -> Result<bool, AllocError>
-    requires own { IsStepOf who T.began }
-    requires joined { is_joined who world.old.flat ≡ true }
-    requires fresh { answers.old ≡ [] }
-    ensures leads { OnOk result (world.new.flat ≡ after_key who key answers.new world.old.flat) }
-    ensures leaving { IfOk result (λ leaving. leaving ≡ may_leave_by who key answers.new world.old.flat) }
-    ensures asked { OnOk result (AreAskedFor who (Struck key) answers.new world.old.flat) }
-    ensures honest { OnOk result (IsHonest answers.new (asked_by who (Struck key) answers.new world.old.flat) (O.seen outside.old) (O.seen outside.new)) }
-    ensures cut { OnErr result (IsStepLeft who (Struck key) world.old.flat world.new.flat (O.seen outside.old) (O.seen outside.new)) }
-{
-    let own = world.own(who);
-    if own.leaving {
-        return Ok(false);
-    }
-    run_struck(alloc, world, outside, answers, who, key)?;
-    let own = world.own(who);
-    Ok(own.leaving)
-}
-
-// Gives a client's windows a size. Takes no memory.
-fn resize<P: Pattern, T: Turn>(world: &mut World<P, T>, who: u32, size: Size)
-    requires { is_joined who world.old.flat ≡ true }
-    ensures { world.new.flat ≡ resized who size world.old.flat }
-{
-    world.own_mut(who).size = size;
-}
-
-// Lets a client's window go so many lines on, or back. It is its turn meanwhile. Takes no memory.
-fn scroll<P: Pattern, T: Turn>(alloc: Global, world: &mut World<P, T>, who: u32, lines: i32)
-    requires own { IsStepOf who T.began }
-    requires joined { is_joined who world.old.flat ≡ true }
-    ensures { world.new.flat ≡ after_scroll who lines world.old.flat }
-{
-    world.enter(who);
-    pointer_rows::scroll(alloc, world, who, lines);
-    world.end_step();
-}
-
-// Does to a client what a mouse did over its window. It is its turn meanwhile. Takes no memory.
-fn point<P: Pattern, T: Turn>(alloc: Global, world: &mut World<P, T>, who: u32, mouse: Mouse)
-    requires own { IsStepOf who T.began }
-    requires joined { is_joined who world.old.flat ≡ true }
-    ensures { world.new.flat ≡ after_mouse who mouse world.old.flat }
-{
-    world.enter(who);
-    let gutter = gutter_of(world, who, world.tabstop(who));
-    pointer_rows::point(alloc, world, who, gutter, mouse);
-    world.end_step();
-}
-
-// Lets a client's window follow its cursor, and gives what it is shown. It is its turn meanwhile.
-fn redraw<P: Pattern, T: Turn>(
-    alloc: Global,
-    world: &mut World<P, T>,
-    who: u32,
-) -> Result<Drawing, AllocError>
-    requires own { IsStepOf who T.began }
-    requires joined { is_joined who world.old.flat ≡ true }
-    ensures draws { IfOk result (λ d. d ≡ drawing_of who (shown_to who world.old.flat)) }
-    ensures follows { OnOk result (world.new.flat ≡ noted_drawn who (shown_to who world.old.flat)) }
-    ensures err { OnErr result (world.new.flat ≡ shown_to who world.old.flat) }
-{
-    world.enter(who);
-    let drawing = draw_model::redraw(alloc, world, who)?;
-    note_drawn(alloc, world, who)?;
-    world.end_step();
-    Ok(drawing)
-}
-
-// Runs an event that is not refused. What the outside answers is added to the answers. A client that comes has joined then.
-fn run_event<O: Outside, T: Turn>(
-    alloc: Global,
-    world: &mut World<O::P, T>,
-    outside: &mut O,
-    answers: &mut Answers,
-    who: u32,
-    event: &Event,
-) -> Result<Output, AllocError>
-    requires own { IsStepOf who T.began }
-    requires runs { CanRun (kind_of event.now) who world.old.flat }
-    requires fresh { answers.old ≡ [] }
-    ensures gives { IfOk result (λ output. output ≡ output_of who event.now answers.new world.old.flat) }
-    ensures leads { OnOk result (world.new.flat ≡ after_event who event.now answers.new world.old.flat) }
-    ensures asked { OnOk result (AreAskedFor who event.now answers.new world.old.flat) }
-    ensures honest { OnOk result (IsHonest answers.new (asked_by who event.now answers.new world.old.flat) (O.seen outside.old) (O.seen outside.new)) }
-    ensures joined { OnOk result (is_join event.now ≡ true → is_joined who world.new.flat ≡ true) }
-    ensures cut { OnErr result (IsStepLeft who event.now world.old.flat world.new.flat (O.seen outside.old) (O.seen outside.new)) }
-{
-    match event {
-        Event::Join => {
-            world.join(alloc, who)?;
-            Ok(Output::nothing())
-        }
-        Event::Key(key) => Ok(Output {
-            drawing: None,
-            leaving: run_key(alloc, world, outside, answers, who, *key)?,
-        }),
-        Event::Resize(size) => {
-            resize(world, who, *size);
-            Ok(Output::nothing())
-        }
-        Event::Scroll(lines) => {
-            scroll(alloc, world, who, *lines);
-            Ok(Output::nothing())
-        }
-        Event::Mouse(mouse) => {
-            point(alloc, world, who, *mouse);
-            Ok(Output::nothing())
-        }
-        Event::Refresh(_) => Ok(Output {
-            drawing: Some(redraw(alloc, world, who)?),
-            leaving: false,
-        }),
-        Event::Leave => {
-            world.leave(who);
-            Ok(Output::nothing())
-        }
-    }
-}
-
 // Why an event of a client is refused by an engine that isn't broken, if it is.
 fn refusal_by<P: Pattern, T: Turn>(
     world: &World<P, T>,
@@ -300,7 +93,7 @@ fn refusal_by<P: Pattern, T: Turn>(
     None
 }
 
-// Lets a client go, and adds the entry, for which a place was kept.
+// Lets a client go where no hook is held, and adds the entry, for which a place was kept.
 pub(crate) fn keep_leaving<P: Pattern, T: Turn>(
     alloc: Global,
     world: &mut World<P, T>,
@@ -309,12 +102,16 @@ pub(crate) fn keep_leaving<P: Pattern, T: Turn>(
 ) -> Output
     requires own { IsStepOf who T.began }
     requires joined { is_joined who world.old.flat ≡ true }
+    requires calm { has_hooks world.old.flat ≡ false }
     requires places { vec_len history.old + length world.old.flat.clients ≤ vec_capacity history.old }
     ensures gives { result ≡ output_of who Leave [] world.old.flat }
     ensures leads { world.new.flat ≡ after_event who Leave [] world.old.flat }
+    ensures asked { AreAskedFor who Leave [] world.old.flat }
+    ensures none { asked_by who Leave [] world.old.flat ≡ [] }
     ensures keeps { history.new.items ≡ history.old.items ++ entry_of who Leave ∷ [] }
     ensures places { vec_len history.new + length world.new.flat.clients ≤ vec_capacity history.new }
 {
+    world.end_step();
     world.leave(who);
     history.push_reserved(Entry {
         who,
@@ -483,7 +280,7 @@ impl<O: Outside> Engine<O> {
         )
     }
 
-    // Runs an event that is not refused, and keeps its entry. It can't fail where a client leaves.
+    // Runs an event that is not refused, and keeps its entry. It can't fail where a client leaves and no hook is held.
     fn run_and_keep(&mut self, alloc: Global, who: u32, event: &Event) -> Result<Output, AllocError>
         requires allowed { event_refusal self.old who event.now ≡ None }
         ensures takes { IfOk result (λ output. TakesEvent who event.now self.old self.new output) }
@@ -493,13 +290,13 @@ impl<O: Outside> Engine<O> {
         ensures cut { OnErr result (CutsEvent who event.now self.old self.new) }
         ensures left { OnErr result (LeavesInside who event.now self.old self.new) }
         ensures breaks { OnErr result (self.new.mark ≡ marked_by self.old.mark (length self.old.history)) }
-        ensures leaves { is_leave event.now ≡ true → IsOk result }
+        ensures leaves { is_leave event.now ≡ true → parting_by self.old.history ≡ false → IsOk result }
         ensures others { LeavesOthersOf who self.old.stored self.new.stored }
         ensures limit { self.new.limit ≡ self.old.limit }
         ensures rescued { self.new.rescued ≡ self.old.rescued }
         ensures legal { IsLegal self.new.limit self.new.history }
     {
-        if is_leave(event) {
+        if is_leave(event) && !self.world.get().has_hooks() {
             return Ok(leave_in_step(alloc, &mut self.world, &mut self.history, who));
         }
         let Ok(()) = note_coming(&mut self.joined, who, event) else {
@@ -537,10 +334,10 @@ impl<O: Outside> Engine<O> {
     /// in the order `Broken`, `NoClient`, `Joined`, `HistoryFull`, `Full`; they change nothing. `NoMemory` adds no entry, and
     /// breaks the engine; the outside was then asked for a beginning of what the event asks for, and the world inside is as it was
     /// part of the way through the last task that began in the event, or behind that task or the whole event; where none began, it
-    /// is as before. A client's going never wants memory.
+    /// is as before. A client's going never wants memory where no hook is held.
     pub fn step(&mut self, alloc: Global, who: u32, event: &Event) -> Result<Output, StepFault>
         ensures refused { IfSome (event_refusal self.old who event.now) (λ fault. (result ≡ Err fault) × (self.new.outside ≡ self.old.outside)) }
-        ensures answered { event_refusal self.old who event.now ≡ None → IfErr result (λ fault. (fault ≡ NoMemory) × (is_leave event.now ≡ false)) }
+        ensures answered { event_refusal self.old who event.now ≡ None → IfErr result (λ fault. (fault ≡ NoMemory) × ((is_leave event.now ≡ false) ⊎ (parting_by self.old.history ≡ true))) }
         ensures takes { IfOk result (λ output. TakesEvent who event.now self.old self.new output) }
         ensures joined { OnOk result (is_leave event.now ≡ false → is_in (presence_from who Away self.new.history) ≡ true) }
         ensures err { OnErr result (self.new.history ≡ self.old.history) }

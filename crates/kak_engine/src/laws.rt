@@ -4,6 +4,7 @@ ghost use Rattle.kak_engine.specs.Examples.{Examples, SizeExamples};
 ghost use Rattle.kak_engine.specs.MouseExamples.{MouseExamples};
 ghost use Rattle.kak_engine.specs.RescueExamples.{RescueExamples};
 ghost use Rattle.kak_engine.specs.NestingExamples.{NestingExamples};
+ghost use Rattle.kak_engine.specs.HookExamples.{HookExamples};
 ghost use Rattle.kak_engine.specs.declared.engine.TheConstants.{MAX_UNITS};
 ghost use Rattle.kak_engine.specs.declared.place.TheConstants.{MAX_DEPTH};
 ghost use Rattle.kak_engine.specs.Laws.{BoundEndsNoStep, KeysKeepClients, OtherClientsStay, ResizesChangeSizes, StepsEnd};
@@ -64,4 +65,9 @@ pub fn mouse_examples()
 /// Worked examples of what a rescue writes.
 pub fn rescue_examples()
     ensures { RescueExamples }
+{}
+
+/// Worked examples of hooks that are run, and of how what they do ends.
+pub fn hook_examples()
+    ensures { HookExamples }
 {}

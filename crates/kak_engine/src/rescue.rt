@@ -58,6 +58,7 @@ fn write_rescue<O: Outside>(
     let saving = Saving {
         file: rescue_file(alloc, name)?,
         buffer: n,
+        name: Utf8Text::of_string(String::new(alloc)),
         quits: false,
     };
     write(alloc, world, outside, &saving)

@@ -1,7 +1,8 @@
 //! The world of an engine, which is taken into a step and out of it again.
 
-ghost use Rattle.std.specs.Prelude.{◌≡◌, ◌≤◌, ◌+◌, [], ◌++◌, ◌∷◌, length, true, IfOk, OnOk, OnErr, Some, None, vec_len, vec_capacity};
+ghost use Rattle.std.specs.Prelude.{◌≡◌, ◌≤◌, ◌+◌, [], ◌++◌, ◌∷◌, length, true, false, IfOk, OnOk, OnErr, Some, None, vec_len, vec_capacity};
 ghost use Rattle.kak_world.specs.Flat.{turn_of, is_joined};
+ghost use Rattle.kak_world.specs.Events.{has_hooks};
 ghost use Rattle.kak_world.specs.Stored.{LeavesSince, LeavesOthersOf};
 ghost use Rattle.kak_world.specs.declared.world.TheConstants.{MAX_CLIENTS};
 ghost use Rattle.session_events.specs.declared.event.Event.TheVariants.{Leave};
@@ -120,8 +121,8 @@ pub(crate) fn run_in_step<O: Outside>(
     ran
 }
 
-// Takes a world into a step of a client, lets the client go there, and takes it out again. The entry is added, for which a place was
-// kept.
+// Takes a world in which no hook is held into a step of a client, lets the client go there, and takes it out again. The entry is
+// added, for which a place was kept.
 fn leave_inside<P: Pattern, T: Turn>(
     alloc: Global,
     world: World<P, AnyTurn>,
@@ -131,9 +132,12 @@ fn leave_inside<P: Pattern, T: Turn>(
     requires began { T.began ≡ Some (record { who = who; stored = world.stored }) }
     requires nobody { turn_of world.flat ≡ None }
     requires joined { is_joined who world.flat ≡ true }
+    requires calm { has_hooks world.flat ≡ false }
     requires places { vec_len history.old + length world.flat.clients ≤ vec_capacity history.old }
     ensures gives { result.1 ≡ output_of who Leave [] world.flat }
     ensures leads { result.0.flat ≡ after_event who Leave [] world.flat }
+    ensures asked { AreAskedFor who Leave [] world.flat }
+    ensures none { asked_by who Leave [] world.flat ≡ [] }
     ensures keeps { history.new.items ≡ history.old.items ++ entry_of who Leave ∷ [] }
     ensures places { vec_len history.new + length result.0.flat.clients ≤ vec_capacity history.new }
     ensures others { LeavesSince T.began result.0.stored }
@@ -143,7 +147,8 @@ fn leave_inside<P: Pattern, T: Turn>(
     (stepping.out_of_step(), output)
 }
 
-// Lets a client go in a step of its own, and adds the entry, for which a place was kept. What others have stored is left as it is.
+// Lets a client go in a step of its own, where no hook is held, and adds the entry, for which a place was kept. What others have
+// stored is left as it is.
 pub(crate) fn leave_in_step<P: Pattern>(
     alloc: Global,
     resting: &mut RestingWorld<P>,
@@ -152,9 +157,12 @@ pub(crate) fn leave_in_step<P: Pattern>(
 ) -> Output
     requires nobody { turn_of resting.old.flat ≡ None }
     requires joined { is_joined who resting.old.flat ≡ true }
+    requires calm { has_hooks resting.old.flat ≡ false }
     requires places { vec_len history.old + length resting.old.flat.clients ≤ vec_capacity history.old }
     ensures gives { result ≡ output_of who Leave [] resting.old.flat }
     ensures leads { resting.new.flat ≡ after_event who Leave [] resting.old.flat }
+    ensures asked { AreAskedFor who Leave [] resting.old.flat }
+    ensures none { asked_by who Leave [] resting.old.flat ≡ [] }
     ensures keeps { history.new.items ≡ history.old.items ++ entry_of who Leave ∷ [] }
     ensures places { vec_len history.new + length resting.new.flat.clients ≤ vec_capacity history.new }
     ensures others { LeavesOthersOf who resting.old.stored resting.new.stored }

@@ -87,11 +87,13 @@ impl<O: Outside> EngineSeats<O> {
 impl<O: Outside> Seat for EngineSeats<O> {
     ghost use Rattle.kak_engine.specs.Honesty.{Outside as Seen};
     ghost use Rattle.kak_engine.specs.Seating.{seat_of};
-    ghost use Rattle.kak_engine.specs.Steps.{given_by, crowded_by};
+    ghost use Rattle.kak_engine.specs.Steps.{given_by, crowded_by, parting_by};
 
     ghost gives = { given_by };
 
     ghost crowded = { crowded_by };
+
+    ghost parting = { parting_by };
 
     ghost seated = { seat_of };
 

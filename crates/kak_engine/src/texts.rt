@@ -3,9 +3,8 @@
 
 ghost use Rattle.std.specs.Prelude.{◌≡◌, true};
 ghost use Rattle.kak_world.specs.Flat.{acts};
-ghost use Rattle.kak_world.specs.Rows.{Asks};
 ghost use Rattle.kak_world.specs.declared.ask.Ask.TheVariants.{Try, Call};
-ghost use Rattle.kak_engine.specs.Doing.{Do, each, run_command as one, run_text, run_deeper, run_with};
+ghost use Rattle.kak_engine.specs.Doing.{Do, each, run_command as one, run_text, run_deeper, run_with, do_ask};
 ghost use Rattle.kak_engine.specs.Seen.{PartEnds, under_way};
 
 use crate::asks::go_on;
@@ -76,7 +75,7 @@ pub(crate) fn run_text<O: Outside, T: Turn>(
 {
     match read(alloc, text) {
         Ok(commands) => run_each(alloc, world, outside, answers, place, commands.as_slice()),
-        Err(error) => ending_of(alloc, error),
+        Err(error) => ending_of(alloc, world.faults(), error),
     }
 }
 
@@ -110,7 +109,7 @@ pub(crate) fn try_texts<O: Outside, T: Turn>(
     texts: TryTexts,
 ) -> Result<Ending, AllocError>
     requires { acts place.who world.old.flat ≡ true }
-    ensures does { PartEnds result (λ m. Do place (Asks (Try texts)) m) (under_way world.old.flat answers.old (O.seen outside.old)) (under_way world.new.flat answers.new (O.seen outside.new)) }
+    ensures does { PartEnds result (λ m. do_ask Do place (Try texts) m) (under_way world.old.flat answers.old (O.seen outside.old)) (under_way world.new.flat answers.new (O.seen outside.new)) }
 {
     let first = texts.first.as_slice();
     let caught = texts.catching.as_slice();
@@ -151,7 +150,7 @@ pub(crate) fn call_text<O: Outside, T: Turn>(
     call: CallText,
 ) -> Result<Ending, AllocError>
     requires { acts place.who world.old.flat ≡ true }
-    ensures does { PartEnds result (λ m. Do place (Asks (Call call)) m) (under_way world.old.flat answers.old (O.seen outside.old)) (under_way world.new.flat answers.new (O.seen outside.new)) }
+    ensures does { PartEnds result (λ m. do_ask Do place (Call call) m) (under_way world.old.flat answers.old (O.seen outside.old)) (under_way world.new.flat answers.new (O.seen outside.new)) }
 {
     let Some(inner) = place.deeper() else {
         return Ok(Ending::GivenUp(Limit::Depth));

@@ -1,5 +1,5 @@
 -- What a seat is seen as, and what a step from it does.
-use Rattle.std.specs.Prelude.{◌≡◌, ◌≤◌, ℕ, Bool, true, false, List, [], ◌∷◌, ◌++◌, length, ⊤, Some, None, Err}
+use Rattle.std.specs.Prelude.{◌≡◌, ◌≤◌, ◌⊎◌, ℕ, Bool, true, false, List, [], ◌∷◌, ◌++◌, length, ⊤, Some, None, Err}
 use Rattle.std.specs.declared.option.Option.{Option}
 use Rattle.std.specs.declared.result.Result.{Result}
 use Rattle.session_turns.specs.Histories.{own}
@@ -70,11 +70,12 @@ StaysUnbroken (Err NoMemory) seat = ⊤
 StaysUnbroken _ seat = seat.mark ≡ None
 
 -- Why an event was refused, as the entries and the mark that were then seen say, where it is told whether no further client
--- may come behind some entries. Memory is wanting for no leaving, and where it was, the session has a mark from then on.
-abbrev pub Refuses : (List Entry → Bool) → StepFault → Seated → Event → Type 0
-Refuses crowded (Broken at) seat event = seat.mark ≡ Some at
-Refuses crowded (NoClient who) seat event = (who ≡ seat.number) × (is_join event ≡ false) × (is_here (presence_from seat.number Away seat.seen) ≡ false)
-Refuses crowded (Joined who) seat event = (who ≡ seat.number) × (is_join event ≡ true) × (has_joined seat.number seat.seen ≡ true)
-Refuses crowded HistoryFull seat event = (is_leave event ≡ false) × (seat.limit ≤ length seat.seen)
-Refuses crowded Full seat event = (is_join event ≡ true) × (crowded seat.seen ≡ true)
-Refuses crowded NoMemory seat event = (is_leave event ≡ false) × ((at : ℕ) × (seat.mark ≡ Some at))
+-- may come behind some entries, and whether something is run there where a client goes. Memory is wanting for no leaving unless
+-- something is, and where it was wanting, the session has a mark from then on.
+abbrev pub Refuses : (List Entry → Bool) → (List Entry → Bool) → StepFault → Seated → Event → Type 0
+Refuses crowded parting (Broken at) seat event = seat.mark ≡ Some at
+Refuses crowded parting (NoClient who) seat event = (who ≡ seat.number) × (is_join event ≡ false) × (is_here (presence_from seat.number Away seat.seen) ≡ false)
+Refuses crowded parting (Joined who) seat event = (who ≡ seat.number) × (is_join event ≡ true) × (has_joined seat.number seat.seen ≡ true)
+Refuses crowded parting HistoryFull seat event = (is_leave event ≡ false) × (seat.limit ≤ length seat.seen)
+Refuses crowded parting Full seat event = (is_join event ≡ true) × (crowded seat.seen ≡ true)
+Refuses crowded parting NoMemory seat event = ((is_leave event ≡ false) ⊎ (parting seat.seen ≡ true)) × ((at : ℕ) × (seat.mark ≡ Some at))

@@ -20,6 +20,9 @@ pub trait Seat {
     // Whether no further client may come, behind some entries.
     ghost crowded: { List Entry → Bool };
 
+    // Whether something is run where a client goes, behind some entries.
+    ghost parting: { List Entry → Bool };
+
     // The client's number, how many entries the history may have, the session's mark, the entries that were seen, and those
     // of others among them where no other client plays.
     ghost seated: { Self → Seated };
@@ -39,7 +42,7 @@ pub trait Seat {
         ensures stays { OnErr result (IsIn (seated self.old) → IsIn (seated self.new)) }
         ensures ok { IfOk result (λ output. Steps gives (seated self.old) (seated self.new) event.now output) }
         ensures err { OnErr result (Sees gives (seated self.old) (seated self.new)) }
-        ensures why { IfErr result (λ fault. Refuses crowded fault (seated self.new) event.now) }
+        ensures why { IfErr result (λ fault. Refuses crowded parting fault (seated self.new) event.now) }
         ensures whole { StaysUnbroken result (seated self.new) }
         ensures marked { IfSome (seated self.old).mark (λ at. (seated self.new).mark ≡ Some at) }
         ensures broken { IfSome (seated self.old).mark (λ at. result ≡ Err (Broken at)) };

@@ -21,15 +21,15 @@ run_in_step-ran-requires-clause-runs g c = can-step _ _ _ _ _ c.args.who c.args.
 pub invariant_of-self : goal.invariant_of-self
 invariant_of-self g c = (
   left-stands _ _ _ _ _ _ _ c.args.who c.args.event.now c.self.invariant.0 (subst (λ (h : HeldEngine). refused_at h.mark h.history h.limit c.args.who c.args.event.now ≡ None) (sym c.self.view_is) c.requires.allowed)
-      (sym c.is_leave.ensures ∙ c.if-is_leave.true) c.leave_in_step.ensures.leads c.leave_in_step.ensures.keeps,
+      (sym c.is_leave.ensures ∙ c.if-is_leave.true) c.leave_in_step.ensures.leads c.leave_in_step.ensures.asked c.leave_in_step.ensures.none c.leave_in_step.ensures.keeps,
   λ m. c.leave_in_step.ensures.places,
   knows-left _ _ _ _ _ c.args.who (mark-none _ _ _ c.args.who c.args.event.now (subst (λ (h : HeldEngine). refused_at h.mark h.history h.limit c.args.who c.args.event.now ≡ None) (sym c.self.view_is) c.requires.allowed)) c.self.invariant.2 c.leave_in_step.ensures.keeps,
 )
 
-pub returns-then-is_leave-clause-legal : goal.returns-then-is_leave-clause-legal
-returns-then-is_leave-clause-legal g c =
+pub returns-then-not-has_hooks-clause-legal : goal.returns-then-not-has_hooks-clause-legal
+returns-then-not-has_hooks-clause-legal g c =
     (left-stands _ _ _ _ _ _ _ c.args.who c.args.event.now c.self.invariant.0 (subst (λ (h : HeldEngine). refused_at h.mark h.history h.limit c.args.who c.args.event.now ≡ None) (sym c.self.view_is) c.requires.allowed)
-    (sym c.is_leave.ensures ∙ c.if-is_leave.true) c.leave_in_step.ensures.leads c.leave_in_step.ensures.keeps).legal
+    (sym c.is_leave.ensures ∙ c.if-is_leave.true) c.leave_in_step.ensures.leads c.leave_in_step.ensures.asked c.leave_in_step.ensures.none c.leave_in_step.ensures.keeps).legal
 
 pub invariant_of-self-in-Ok-ran : goal.invariant_of-self-in-Ok-ran
 invariant_of-self-in-Ok-ran g c = (
@@ -70,8 +70,8 @@ leave_in_step-requires-clause-nobody g c = nobody-turns _ _ _ _ _ c.self.invaria
 pub run_in_step-ran-requires-clause-nobody : goal.run_in_step-ran-requires-clause-nobody
 run_in_step-ran-requires-clause-nobody g c = nobody-turns _ _ _ _ _ c.self.invariant.0 (mark-none _ _ _ c.args.who c.args.event.now (subst (λ (h : HeldEngine). refused_at h.mark h.history h.limit c.args.who c.args.event.now ≡ None) (sym c.self.view_is) c.requires.allowed))
 
-pub returns-then-is_leave-clause-others : goal.returns-then-is_leave-clause-others
-returns-then-is_leave-clause-others g c = subst (λ (h : HeldEngine). LeavesOthersOf c.args.who h.stored c.leave_in_step.new.resting.stored) c.self.view_is c.leave_in_step.ensures.others
+pub returns-then-not-has_hooks-clause-others : goal.returns-then-not-has_hooks-clause-others
+returns-then-not-has_hooks-clause-others g c = subst (λ (h : HeldEngine). LeavesOthersOf c.args.who h.stored c.leave_in_step.new.resting.stored) c.self.view_is c.leave_in_step.ensures.others
 
 pub returns-in-Ok-ran-clause-others : goal.returns-in-Ok-ran-clause-others
 returns-in-Ok-ran-clause-others g c = subst (λ (h : HeldEngine). LeavesOthersOf c.args.who h.stored c.run_in_step-ran.new.resting.stored) c.self.view_is c.run_in_step-ran.ensures.others

@@ -1,6 +1,6 @@
 use Rattle.std.proofs.Common.{sym, ap, ◌∙◌}
 use Rattle.kak_engine.proofs.KeyLemmas.{after-leaving, asked-leaving, honest-leaving}
-use Rattle.kak_engine.proofs.engine.run_key.Goals as goal
+use Rattle.kak_engine.proofs.events.run_key.Goals as goal
 
 pub returns-then-own-clause-leads : goal.returns-then-own-clause-leads
 returns-then-own-clause-leads g c = sym (after-leaving c.args.who c.args.key _ c.args.world.now.flat (ap (λ o. o.leaving) (sym c.own-own.ensures) ∙ c.if-own.true))
