@@ -1,5 +1,5 @@
 -- What a refusal at a desk is to the seat of its client.
-use Rattle.std.proofs.Common.{◌≡◌, ⊎_elim, inl, inr, ℕ, Bool, false, List, length, refl, sym, ap, ◌∙◌, subst, Err}
+use Rattle.std.proofs.Common.{◌≡◌, ◌⊎◌, true, ⊎_elim, inl, inr, ℕ, Bool, false, List, length, refl, sym, ap, ◌∙◌, subst, Err}
 use Rattle.std.specs.Prelude.{IfSome, Some, None}
 use Rattle.std.specs.declared.option.Option.{Option}
 use Rattle.session_desk.specs.Histories.{Met}
@@ -13,7 +13,7 @@ use Rattle.session_events.specs.declared.fault.StepFault.TheVariants.{Broken, No
 use Rattle.session_events.specs.Entries.{is_leave}
 use Rattle.session_events.specs.Seats.{Refuses as SeatRefuses, StaysUnbroken}
 use Rattle.kak_engine.specs.Held.{refused_at, refused_by}
-use Rattle.kak_engine.specs.Steps.{crowded_by}
+use Rattle.kak_engine.specs.Steps.{crowded_by, parting_by}
 use Rattle.kak_engine.proofs.WhyLemmas.{IsPlain, plain-reason}
 use Rattle.engine_desk.specs.Sharing.{Frame, MoveAnswers, marked_behind}
 use Rattle.engine_desk.specs.Sitting.{IsAtDesk, told_behind}
@@ -21,7 +21,7 @@ use Rattle.engine_desk.proofs.SeatLemmas.{whose, begins-refused}
 
 -- What a refusal is to the client.
 pub record IsRefusal (limit : ℕ) (h : List Entry) (who : ℕ) (event : Event) (fault : StepFault) (told told' mark' : Option ℕ) : Type 0 where
-  pub why : SeatRefuses crowded_by fault (record { number = who; limit = limit; mark = told'; seen = h; others = None }) event
+  pub why : SeatRefuses crowded_by parting_by fault (record { number = who; limit = limit; mark = told'; seen = h; others = None }) event
   pub met : Met told' mark'
   pub whole : StaysUnbroken {A = Output} (Err fault) (record { number = who; limit = limit; mark = told'; seen = h; others = None })
   pub marked : IfSome told (λ at. told' ≡ Some at)
@@ -30,6 +30,10 @@ pub record IsRefusal (limit : ℕ) (h : List Entry) (who : ℕ) (event : Event) 
 module _ (limit : ℕ) (h : List Entry) (who : ℕ) (event : Event) where
   abbrev Behind : StepFault → Option ℕ → Option ℕ → Type 0
   Behind fault told mark' = IsRefusal limit h who event fault told (told_behind fault told (length h)) mark'
+
+  -- memory may be wanting for the event
+  abbrev IsWanting : Type 0
+  IsWanting = (is_leave event ≡ false) ⊎ (parting_by h ≡ true)
 
   -- a session that was broken
   behind-broken : (at : ℕ) (told mark' : Option ℕ) → Met told (Some at) → mark' ≡ Some at → Behind (Broken at) told mark'
@@ -44,12 +48,12 @@ module _ (limit : ℕ) (h : List Entry) (who : ℕ) (event : Event) where
       same (Some k) met = ⊎_elim (λ (e : Some k ≡ None). cc) (λ (e : Some k ≡ Some at). let s : k ≡ at = cc in ap Broken (sym s)) met
 
   -- one that broke
-  behind-wanting : (told mark' : Option ℕ) → told ≡ None → is_leave event ≡ false → mark' ≡ Some (length h) → Behind NoMemory told mark'
+  behind-wanting : (told mark' : Option ℕ) → told ≡ None → IsWanting → mark' ≡ Some (length h) → Behind NoMemory told mark'
   behind-wanting None mark' e l m = record { why = (l, (length h, refl)); met = inr (sym m); whole = tt; marked = tt; broken = tt }
   behind-wanting (Some k) mark' e l m = cc
 
   -- one that is whole
-  behind-plain : (fault : StepFault) (told mark' : Option ℕ) → told ≡ None → IsPlain fault × SeatRefuses crowded_by fault (record { number = who; limit = limit; mark = None; seen = h; others = None }) event → Behind fault told mark'
+  behind-plain : (fault : StepFault) (told mark' : Option ℕ) → told ≡ None → IsPlain fault × SeatRefuses crowded_by parting_by fault (record { number = who; limit = limit; mark = None; seen = h; others = None }) event → Behind fault told mark'
   behind-plain (NoClient k) None mark' e p = record { why = p.1; met = inl refl; whole = refl; marked = tt; broken = tt }
   behind-plain (Joined k) None mark' e p = record { why = p.1; met = inl refl; whole = refl; marked = tt; broken = tt }
   behind-plain HistoryFull None mark' e p = record { why = p.1; met = inl refl; whole = refl; marked = tt; broken = tt }
@@ -61,14 +65,14 @@ module _ (limit : ℕ) (h : List Entry) (who : ℕ) (event : Event) where
   none-met : (told : Option ℕ) → Met told None → told ≡ None
   none-met told met = ⊎_elim (λ (e : told ≡ None). e) (λ (e : told ≡ None). e) met
 
-  whole-refusal : (refusal : Option StepFault) → refused_by h limit who event ≡ refusal → (fault : StepFault) (told mark' : Option ℕ) → told ≡ None → IfSome refusal (λ due. fault ≡ due) → (refusal ≡ None → (fault ≡ NoMemory) × (is_leave event ≡ false))
+  whole-refusal : (refusal : Option StepFault) → refused_by h limit who event ≡ refusal → (fault : StepFault) (told mark' : Option ℕ) → told ≡ None → IfSome refusal (λ due. fault ≡ due) → (refusal ≡ None → (fault ≡ NoMemory) × IsWanting)
       → mark' ≡ marked_behind fault None (length h) → Behind fault told mark'
   whole-refusal (Some due) r fault told mark' e why wanting m = behind-plain fault told mark' e (plain-reason limit h who event fault None None (r ∙ ap Some (sym why)))
   whole-refusal None r fault told mark' e why wanting m =
       let w = wanting refl in subst (λ (f : StepFault). Behind f told mark') (sym w.0) (behind-wanting told mark' e w.1 (m ∙ ap (λ (f : StepFault). marked_behind f None (length h)) w.0))
 
   -- every refusal, by the mark that the engine had
-  any-refusal : (mark : Option ℕ) (fault : StepFault) (told mark' : Option ℕ) → Met told mark → IfSome (refused_at mark h limit who event) (λ due. fault ≡ due) → (refused_at mark h limit who event ≡ None → (fault ≡ NoMemory) × (is_leave event ≡ false))
+  any-refusal : (mark : Option ℕ) (fault : StepFault) (told mark' : Option ℕ) → Met told mark → IfSome (refused_at mark h limit who event) (λ due. fault ≡ due) → (refused_at mark h limit who event ≡ None → (fault ≡ NoMemory) × IsWanting)
       → mark' ≡ marked_behind fault mark (length h) → Behind fault told mark'
   any-refusal (Some at) fault told mark' met why wanting m =
       subst (λ (f : StepFault). Behind f told mark') (sym why) (behind-broken at told mark' met (m ∙ ap (λ (f : StepFault). marked_behind f (Some at) (length h)) why))

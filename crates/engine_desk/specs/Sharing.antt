@@ -1,5 +1,5 @@
 -- An engine that is played at a desk: what it is seen as, what a move on it answers, and what a look at it shows.
-use Rattle.std.specs.Prelude.{◌≡◌, ◌≤◌, ℕ, true, false, is_some, List, [], ◌∷◌, ◌++◌, length, IfSome, None, Ok, Err}
+use Rattle.std.specs.Prelude.{◌≡◌, ◌≤◌, ◌⊎◌, ℕ, true, false, is_some, List, [], ◌∷◌, ◌++◌, length, IfSome, None, Ok, Err}
 use Rattle.std.specs.declared.option.Option.{Option}
 use Rattle.std.specs.declared.result.Result.{Result}
 use Rattle.session_events.specs.declared.event.Event.{Event}
@@ -15,7 +15,7 @@ use Rattle.kak_world.specs.declared.world.TheConstants.{MAX_CLIENTS}
 use Rattle.kak_engine.specs.Honesty.{Outside}
 use Rattle.kak_engine.specs.Held.{HeldEngine, new_engine, refused_at, marked_by}
 use Rattle.kak_engine.specs.Seating.{WasClosed}
-use Rattle.kak_engine.specs.Steps.{run, given_by, AreAskedFor}
+use Rattle.kak_engine.specs.Steps.{run, given_by, parting_by, AreAskedFor}
 use Rattle.engine_desk.specs.declared.glimpse.Glimpse.{Glimpse}
 use Rattle.session_events.specs.Counting.{here_among, joined_among, comings}
 
@@ -83,11 +83,11 @@ pub record TakesMove (limit : ℕ) (before : List Entry) (mark : Option ℕ) (wh
   pub here : is_leave event ≡ false → is_here (presence_from who Away after) ≡ true
   pub mark_is : marked ≡ mark
 
--- A move that was refused, for the first reason that holds; where none does memory was wanting, which it is for no leaving,
--- and which sets the mark. No entry was added, and the history is one that there can be.
+-- A move that was refused, for the first reason that holds; where none does memory was wanting, which it is for no leaving but
+-- where a hook is held, and which sets the mark. No entry was added, and the history is one that there can be.
 pub record RefusesMove (limit : ℕ) (before : List Entry) (mark : Option ℕ) (who : ℕ) (event : Event) (fault : StepFault) (after : List Entry) (marked : Option ℕ) : Type 0 where
   pub why : IfSome (refused_at mark before limit who event) (λ due. fault ≡ due)
-  pub wanting : refused_at mark before limit who event ≡ None → (fault ≡ NoMemory) × (is_leave event ≡ false)
+  pub wanting : refused_at mark before limit who event ≡ None → (fault ≡ NoMemory) × ((is_leave event ≡ false) ⊎ (parting_by before ≡ true))
   pub stands : after ≡ before
   pub legal : IsLegal limit before
   pub mark_is : marked ≡ marked_behind fault mark (length before)

@@ -97,12 +97,14 @@ impl<'a, R: Wait, O: Outside + Drop> DeskSeat<'a, R, O> {
 }
 
 impl<'a, R: Wait, O: Outside + Drop> Seat for DeskSeat<'a, R, O> {
-    ghost use Rattle.kak_engine.specs.Steps.{given_by, crowded_by};
+    ghost use Rattle.kak_engine.specs.Steps.{given_by, crowded_by, parting_by};
     ghost use Rattle.engine_desk.specs.Sitting.{AtDesk, desk_seat_of, desk_of};
 
     ghost gives = { given_by };
 
     ghost crowded = { crowded_by };
+
+    ghost parting = { parting_by };
 
     ghost seated = { desk_seat_of };
 

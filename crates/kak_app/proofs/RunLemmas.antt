@@ -1,5 +1,5 @@
 -- Runs that came to nothing, and runs that ended in one way or another.
-use Rattle.std.proofs.Common.{◌≡◌, ℕ, inl, zero, suc, Bool, true, false, List, [], ◌∷◌, ◌++◌, drop, Ok, Err, refl, sym, ap, ◌∙◌, subst, arith, Some, None}
+use Rattle.std.proofs.Common.{◌≡◌, ℕ, inl, inr, zero, suc, Bool, true, false, List, [], ◌∷◌, ◌++◌, drop, Ok, Err, refl, sym, ap, ◌∙◌, subst, arith, Some, None}
 use Rattle.std.specs.Prelude.{if◌then◌else◌, ◌==◌}
 use Rattle.std.specs.declared.option.Option.{Option}
 use Rattle.std.specs.declared.result.Result.{Result}
@@ -24,7 +24,7 @@ use Rattle.session_lines.specs.declared.reading.InputEnd.{InputEnd}
 use Rattle.session_lines.specs.declared.reading.InputEnd.TheVariants as ending
 use Rattle.session_lines.specs.Session.{protocol}
 use Rattle.session_lines.specs.Stops.{StaysWhole}
-use Rattle.session_lines.specs.Reading.{FaultIs}
+use Rattle.session_lines.specs.Reading.{EndFaultIs}
 use Rattle.session_lines.specs.Serving.{service, HasOnlyCome}
 use Rattle.session_lines.proofs.OpeningLemmas.{came-only}
 use Rattle.session_lines.specs.Connections.{WasServed, EndCauses}
@@ -88,15 +88,16 @@ full-length (Err (stop.Broken at)) z before now most o l c = tt
 full-length (Err stop.NoMemory) z before now most o l c = tt
 full-length (Err stop.WriteFault) z before now most o l c = tt
 
-reads-are : (r : Result InputEnd Stop) (left rest : Inlet) → FaultIs r left rest → ReadsAre r left rest
-reads-are (Ok ending.Left) left rest f = f
-reads-are (Ok ending.Ended) left rest f = f
-reads-are (Ok ending.ReadFault) left rest f = f
-reads-are (Ok ending.Full) left rest f = f
-reads-are (Err stop.HistoryFull) left rest f = f
-reads-are (Err (stop.Broken at)) left rest f = f
-reads-are (Err stop.NoMemory) left rest f = inl f
-reads-are (Err stop.WriteFault) left rest f = f
+reads-are : (parting : List Entry → Bool) (r : Result InputEnd Stop) (z : Seated) (left rest : Inlet) → EndFaultIs parting r z left rest → ReadsAre r left rest
+reads-are parting (Ok ending.Left) z left rest f = f
+reads-are parting (Ok ending.Ended) z left rest f = f
+reads-are parting (Ok ending.ReadFault) z left rest f = f
+reads-are parting (Ok ending.Full) z left rest f = f
+reads-are parting (Err stop.HistoryFull) z left rest f = f
+reads-are parting (Err (stop.Broken at)) z left rest f = f
+reads-are parting (Err stop.NoMemory) z left rest (inl same) = inl same
+reads-are parting (Err stop.NoMemory) z left rest (inr more) = inr more.1
+reads-are parting (Err stop.WriteFault) z left rest f = f
 
 writes-are : (r : Result InputEnd Stop) (z : Seated) (before now : Outlet) → EndCauses r z before now → WritesAre r before now
 writes-are (Ok e) z before now c = c
@@ -164,9 +165,9 @@ outside-is (Err (stop.Broken at)) mark inside h first last lost whole = record {
 outside-is (Err stop.NoMemory) mark inside h first last lost whole = record { mark = mark; inside = inside; lost = lost refl }
 
 -- client 0 was served
-pub served-ran : (keys : List Key) (r : Result InputEnd Stop) (x z : Seated) (a b : Around) → x.number ≡ 0 → x.limit ≡ MAX_ENTRIES → x.mark ≡ None → IsSameSeat x z → others_of z.number z.seen ≡ [] → IsLegal z.limit z.seen
-    → WasServed false (service given_by read_request keys) x.number z.seen a.outlet b.outlet a.inlet b.inlet r → FaultIs r a.inlet b.inlet → EndCauses r z a.outlet b.outlet → AllAsked z.seen → OutsideIs r z.seen a.outside b.outside → Ran keys r a b
-served-ran keys r x z a b first most none same o l s f c asked honest = record {
+pub served-ran : (parting : List Entry → Bool) (keys : List Key) (r : Result InputEnd Stop) (x z : Seated) (a b : Around) → x.number ≡ 0 → x.limit ≡ MAX_ENTRIES → x.mark ≡ None → IsSameSeat x z → others_of z.number z.seen ≡ [] → IsLegal z.limit z.seen
+    → WasServed false (service given_by read_request keys) x.number z.seen a.outlet b.outlet a.inlet b.inlet r → EndFaultIs parting r z a.inlet b.inlet → EndCauses r z a.outlet b.outlet → AllAsked z.seen → OutsideIs r z.seen a.outside b.outside → Ran keys r a b
+served-ran parting keys r x z a b first most none same o l s f c asked honest = record {
   history = z.seen;
   alone = mine;
   legal = subst (λ n. IsLegal n z.seen) (same.limit ∙ most) l;
@@ -174,7 +175,7 @@ served-ran keys r x z a b first most none same o l s f c asked honest = record {
   asked = asked;
   honest = honest;
   full = full-length r z a.outlet b.outlet (same.limit ∙ most) mine l c;
-  reads = reads-are r a.inlet b.inlet f;
+  reads = reads-are parting r z a.inlet b.inlet f;
   writes = writes-are r z a.outlet b.outlet c;
 }
   where

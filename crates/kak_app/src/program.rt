@@ -5,7 +5,7 @@ ghost use Rattle.key_names.specs.declared.key.Key.{Key};
 ghost use Rattle.kak_engine.specs.Honesty.{IsUntouched};
 ghost use Rattle.session_events.specs.Seats.{IsSameSeat, IsLegalSeat};
 ghost use Rattle.session_lines.specs.Connections.{WasServed, EndCauses};
-ghost use Rattle.session_lines.specs.Reading.{FaultIs};
+ghost use Rattle.session_lines.specs.Reading.{EndFaultIs};
 ghost use Rattle.session_lines.specs.Serving.{service};
 ghost use Rattle.json_ui.specs.Requests.{read_request};
 ghost use Rattle.session_lines.specs.Stops.{StaysWhole};
@@ -107,7 +107,7 @@ fn attend<S: Seat, I: Source, K: Sink>(
     ensures whole { StaysWhole result (S.seated seat.old).mark (S.seated seat.new).mark }
     ensures legal { IsLegalSeat (S.seated seat.new) }
     ensures served { WasServed false (service S.gives read_request keys.now) (S.seated seat.old).number (S.seated seat.new).seen (K.outlet output.old) (K.outlet output.new) (I.inlet input.old) (I.inlet input.new) result }
-    ensures fault { FaultIs result (I.inlet input.old) (I.inlet input.new) }
+    ensures fault { EndFaultIs S.parting result (S.seated seat.new) (I.inlet input.old) (I.inlet input.new) }
     ensures cause { EndCauses result (S.seated seat.new) (K.outlet output.old) (K.outlet output.new) }
 {
     match seat.step(alloc, &Event::Join) {

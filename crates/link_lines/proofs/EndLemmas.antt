@@ -1,5 +1,5 @@
 -- From what was played over a link to what stands when its serving has ended.
-use Rattle.std.proofs.Common.{◌≡◌, ℕ, true, false, List, [], ◌∷◌, ◌++◌, Ok, Err, refl, sym, ◌∙◌, subst}
+use Rattle.std.proofs.Common.{◌≡◌, ℕ, Bool, true, false, List, [], ◌∷◌, ◌++◌, Ok, Err, refl, sym, ◌∙◌, subst}
 use Rattle.std.specs.declared.result.Result.{Result}
 use Rattle.std.specs.Io.KnownBytes.{Appends}
 use Rattle.session_turns.specs.Histories.{own}
@@ -58,18 +58,23 @@ left-over (Err stop.WriteFault) g x y z before now leaves none same p e =
     row g x.number z.seen y.seen before now LinkWrite p.plays.bytes (parted g.gives x y z same e) p.received (unwritten-served (Err stop.WriteFault) true g x y _ _ _ _ refl none same p.plays)
 
 -- and where sending failed before, so it is of a connection in which something was lost
-lost-row : (g : Service) (x y z : Seated) (before now : Wire) (at : ℕ) (r : Result InputEnd Stop) → is_unwritten r ≡ false → x.seen ≡ [] → IsSameSeat x y → (p : Plays true (Opening ∷ []) g x y before.outlet now.outlet (inlet_of before) (inlet_of now) r)
-    → (bytes : List ℕ) → p.bytes ≡ bytes → Appends before.received now.received bytes → Sees g.gives y z × IsLoss (stop.Broken at) z → WasServedOver g x.number z.seen before now (Broken at)
-lost-row g x y z before now at r written none same p bytes e received s =
-    let w = leaving-lost true g x y z before.outlet now.outlet (inlet_of before) (inlet_of now) r (stop.Broken at) none same written p s in
+lost-row : (parting : List Entry → Bool) (g : Service) (x y z : Seated) (before now : Wire) (why : Stop) (r : Result InputEnd Stop) → is_unwritten r ≡ false → x.seen ≡ [] → IsSameSeat x y → (p : Plays true (Opening ∷ []) g x y before.outlet now.outlet (inlet_of before) (inlet_of now) r)
+    → (bytes : List ℕ) → p.bytes ≡ bytes → Appends before.received now.received bytes → Sees g.gives y z × IsLoss parting why z → WasServedOver g x.number z.seen before now (ended_of (Err why))
+lost-row parting g x y z before now (stop.Broken at) r written none same p bytes e received s =
+    let w = leaving-lost parting true g x y z before.outlet now.outlet (inlet_of before) (inlet_of now) r (stop.Broken at) none same written p s in
     row g x.number z.seen z.seen before now (Broken at) bytes refl received (w.0, w.1 ∙ e)
+lost-row parting g x y z before now stop.NoMemory r written none same p bytes e received s =
+    let w = leaving-lost parting true g x y z before.outlet now.outlet (inlet_of before) (inlet_of now) r stop.NoMemory none same written p s in
+    row g x.number z.seen z.seen before now NoMemory bytes refl received (w.0, w.1 ∙ e)
+lost-row parting g x y z before now stop.HistoryFull r written none same p bytes e received s = absurd s.1
+lost-row parting g x y z before now stop.WriteFault r written none same p bytes e received s = absurd s.1
 
--- the session was broken when the client was to leave, whatever was played before
-pub lost-over : (r : Result InputEnd Stop) (g : Service) (x y z : Seated) (before now : Wire) (at : ℕ) → x.seen ≡ [] → IsSameSeat x y → PlaysOver (Opening ∷ []) g x y before now r → Sees g.gives y z × IsLoss (stop.Broken at) z → WasServedOver g x.number z.seen before now (Broken at)
-lost-over (Ok ending) g x y z before now at none same p s = lost-row g x y z before now at (Ok ending) refl none same p.plays p.plays.bytes refl p.received s
-lost-over (Err stop.HistoryFull) g x y z before now at none same p s = lost-row g x y z before now at (Err stop.HistoryFull) refl none same p.plays p.plays.bytes refl p.received s
-lost-over (Err (stop.Broken n)) g x y z before now at none same p s = lost-row g x y z before now at (Err (stop.Broken n)) refl none same p.plays p.plays.bytes refl p.received s
-lost-over (Err stop.NoMemory) g x y z before now at none same p s = lost-row g x y z before now at (Err stop.NoMemory) refl none same p.plays p.plays.bytes refl p.received s
-lost-over (Err stop.WriteFault) g x y z before now at none same p s =
+-- leaving failed, whatever was played before
+pub lost-over : (parting : List Entry → Bool) (r : Result InputEnd Stop) (g : Service) (x y z : Seated) (before now : Wire) (why : Stop) → x.seen ≡ [] → IsSameSeat x y → PlaysOver (Opening ∷ []) g x y before now r → Sees g.gives y z × IsLoss parting why z → WasServedOver g x.number z.seen before now (ended_of (Err why))
+lost-over parting (Ok ending) g x y z before now why none same p s = lost-row parting g x y z before now why (Ok ending) refl none same p.plays p.plays.bytes refl p.received s
+lost-over parting (Err stop.HistoryFull) g x y z before now why none same p s = lost-row parting g x y z before now why (Err stop.HistoryFull) refl none same p.plays p.plays.bytes refl p.received s
+lost-over parting (Err (stop.Broken n)) g x y z before now why none same p s = lost-row parting g x y z before now why (Err (stop.Broken n)) refl none same p.plays p.plays.bytes refl p.received s
+lost-over parting (Err stop.NoMemory) g x y z before now why none same p s = lost-row parting g x y z before now why (Err stop.NoMemory) refl none same p.plays p.plays.bytes refl p.received s
+lost-over parting (Err stop.WriteFault) g x y z before now why none same p s =
     let q = plays-lost true (Opening ∷ []) g x y before.outlet now.outlet (inlet_of before) (inlet_of now) p.plays in
-    lost-row g x y z before now at (Err stop.NoMemory) refl none same q.0 p.plays.bytes q.1 p.received s
+    lost-row parting g x y z before now why (Err stop.NoMemory) refl none same q.0 p.plays.bytes q.1 p.received s

@@ -78,13 +78,14 @@ pub record EndsInLeaving (who : ℕ) (history : List Entry) : Type 0 where
   pub answers : List Answered
   pub stands : history ≡ before ++ entry_with who Leave answers ∷ []
 
--- the client has left, at each end at which it came and the session isn't broken
-abbrev pub HasLeftAt : Gives → Ended → ℕ → List Entry → Type 0
-HasLeftAt gives Full who history = NeverCame gives who history
-HasLeftAt gives HistoryFull who history = EndsInLeaving who history ⊎ NeverCame gives who history
-HasLeftAt gives NoMemory who history = EndsInLeaving who history ⊎ NeverCame gives who history
-HasLeftAt gives (Broken at) who history = ⊤
-HasLeftAt gives _ who history = EndsInLeaving who history
+-- the client has left, at each end at which it came and the session isn't broken, and memory wasn't wanting for what is run where a
+-- client goes
+abbrev pub HasLeftAt : Gives → (List Entry → Bool) → Ended → ℕ → List Entry → Type 0
+HasLeftAt gives parting Full who history = NeverCame gives who history
+HasLeftAt gives parting HistoryFull who history = EndsInLeaving who history ⊎ NeverCame gives who history
+HasLeftAt gives parting NoMemory who history = EndsInLeaving who history ⊎ (NeverCame gives who history ⊎ (parting history ≡ true))
+HasLeftAt gives parting (Broken at) who history = ⊤
+HasLeftAt gives parting _ who history = EndsInLeaving who history
 
 -- nothing failed
 abbrev pub NothingFailed : Wire → Wire → Type 0
@@ -98,20 +99,25 @@ ReceivingFailed before now = Rose before.read_faults now.read_faults × NoneFail
 abbrev pub SendingFailed : Wire → Wire → Type 0
 SendingFailed before now = (now.read_faults ≡ before.read_faults) × Rose before.outlet.faults now.outlet.faults
 
+-- something failed, or nothing did
+abbrev pub AnyFailed : Wire → Wire → Type 0
+AnyFailed before now = NothingFailed before now ⊎ (ReceivingFailed before now ⊎ SendingFailed before now)
+
 -- the history has more entries than it may have, by leavings; or it has as many as it may have, and the client never came
 abbrev pub HasNoRoom : Gives → Seated → Type 0
 HasNoRoom gives seat = (seat.limit < length seat.seen) ⊎ (NeverCame gives seat.number seat.seen × IsFull seat)
 
 -- Why a serving ended, where it is told whether no further client may come behind some entries. Where the session is full,
 -- that is so behind those that were seen, and nothing was received or sent. That a session is broken may be seen in the
--- leaving, behind any other end.
-abbrev pub EndsFor : Gives → (List Entry → Bool) → Ended → Seated → Wire → Wire → Type 0
-EndsFor gives crowded LinkRead seat before now = ReceivingFailed before now
-EndsFor gives crowded LinkWrite seat before now = SendingFailed before now
-EndsFor gives crowded HistoryFull seat before now = HasNoRoom gives seat × NothingFailed before now
-EndsFor gives crowded Full seat before now = (crowded seat.seen ≡ true) × (now ≡ before)
-EndsFor gives crowded (Broken at) seat before now = (seat.mark ≡ Some at) × (NothingFailed before now ⊎ (ReceivingFailed before now ⊎ SendingFailed before now))
-EndsFor gives crowded _ seat before now = NothingFailed before now
+-- leaving, behind any other end, and so may want of memory, where something is run by which a client goes.
+abbrev pub EndsFor : Gives → (List Entry → Bool) → (List Entry → Bool) → Ended → Seated → Wire → Wire → Type 0
+EndsFor gives crowded parting LinkRead seat before now = ReceivingFailed before now
+EndsFor gives crowded parting LinkWrite seat before now = SendingFailed before now
+EndsFor gives crowded parting HistoryFull seat before now = HasNoRoom gives seat × NothingFailed before now
+EndsFor gives crowded parting Full seat before now = (crowded seat.seen ≡ true) × (now ≡ before)
+EndsFor gives crowded parting (Broken at) seat before now = (seat.mark ≡ Some at) × AnyFailed before now
+EndsFor gives crowded parting NoMemory seat before now = NothingFailed before now ⊎ ((parting seat.seen ≡ true) × AnyFailed before now)
+EndsFor gives crowded parting _ seat before now = NothingFailed before now
 
 -- the session isn't seen to be broken, unless that is told, or memory was wanting
 abbrev pub IsUnbroken : Ended → Seated → Type 0

@@ -64,9 +64,9 @@ pub fn serve_over<Q: Reader, R: Wait, S: LiveSeat, L: Link, G: Gate>(
     ensures legal { IsLegalSeat (S.seated seat.new) }
     ensures unbroken { IsUnbroken result (S.seated seat.new) }
     ensures served { WasServedOver (service S.gives Q.reads keys.now) who (S.seated seat.new).seen (L.wire link.old) (L.wire link.new) result }
-    ensures left { HasLeftAt S.gives result who (S.seated seat.new).seen }
+    ensures left { HasLeftAt S.gives S.parting result who (S.seated seat.new).seen }
     ensures drawn { DrawsOnlyMissed who (S.seated seat.new).seen }
-    ensures cause { EndsFor S.gives S.crowded result (S.seated seat.new) (L.wire link.old) (L.wire link.new) }
+    ensures cause { EndsFor S.gives S.crowded S.parting result (S.seated seat.new) (L.wire link.old) (L.wire link.new) }
     ensures no_more { TellsNoMore (L.wire link.old) (L.wire link.new) }
 {
     let let_go = match come(alloc, seat) {
@@ -79,7 +79,7 @@ pub fn serve_over<Q: Reader, R: Wait, S: LiveSeat, L: Link, G: Gate>(
         Ok(()) => ended_of(played),
         Err(Stop::Broken(at)) => Ended::Broken(at),
         Err(Stop::HistoryFull) => unreachable!(),
-        Err(Stop::NoMemory) => unreachable!(),
+        Err(Stop::NoMemory) => Ended::NoMemory,
         Err(Stop::WriteFault) => unreachable!(),
     }
 }

@@ -257,16 +257,16 @@ lost-served u g x y z a b left rest r why is_lost written p f =
     stands (Err stop.WriteFault) w p f = cc
 
 -- a leaving that failed is a loss
-loss-is : (why : Stop) (seat : Seated) → IsLoss why seat → connection_end (Err why) ≡ Lost
-loss-is stop.HistoryFull seat l = absurd l
-loss-is (stop.Broken at) seat l = refl
-loss-is stop.NoMemory seat l = absurd l
-loss-is stop.WriteFault seat l = absurd l
+loss-is : (parting : List Entry → Bool) (why : Stop) (seat : Seated) → IsLoss parting why seat → connection_end (Err why) ≡ Lost
+loss-is parting stop.HistoryFull seat l = absurd l
+loss-is parting (stop.Broken at) seat l = refl
+loss-is parting stop.NoMemory seat l = refl
+loss-is parting stop.WriteFault seat l = absurd l
 
 -- leaving failed behind whatever was played
-pub leaving-lost : (u : Bool) (g : Service) (x y z : Seated) (a b : Outlet) (left rest : Inlet) (r : Result InputEnd Stop) (why : Stop) → x.seen ≡ [] → IsSameSeat x y → is_unwritten r ≡ false → (p : Plays u (Opening ∷ []) g x y a b left rest r) → Sees g.gives y z × IsLoss why z → (w : WasServed u g x.number z.seen a b left rest (Err why)) × (w.bytes ≡ p.bytes)
-leaving-lost u g x y z a b left rest r why none same written p s =
-    lost-served u g x y z a b left rest r why (loss-is why z s.1) written p (lost-stayed g x.number z.seen p.serves.got (stayed g x y z p.serves.got none same p.serves.adds s.0))
+pub leaving-lost : (parting : List Entry → Bool) (u : Bool) (g : Service) (x y z : Seated) (a b : Outlet) (left rest : Inlet) (r : Result InputEnd Stop) (why : Stop) → x.seen ≡ [] → IsSameSeat x y → is_unwritten r ≡ false → (p : Plays u (Opening ∷ []) g x y a b left rest r) → Sees g.gives y z × IsLoss parting why z → (w : WasServed u g x.number z.seen a b left rest (Err why)) × (w.bytes ≡ p.bytes)
+leaving-lost parting u g x y z a b left rest r why none same written p s =
+    lost-served u g x y z a b left rest r why (loss-is parting why z s.1) written p (lost-stayed g x.number z.seen p.serves.got (stayed g x y z p.serves.got none same p.serves.adds s.0))
 
 -- the client left behind whatever was played
 pub all-left : (r : Result InputEnd Stop) (u : Bool) (g : Service) (x y z : Seated) (a b : Outlet) (left rest : Inlet) → g.protocol.leaves ≡ Leave → x.seen ≡ [] → IsSameSeat x y → is_unwritten r ≡ false → (p : Plays u (Opening ∷ []) g x y a b left rest r) → HasGone g.gives y z → (w : WasServed u g x.number z.seen a b left rest r) × (w.bytes ≡ p.bytes)

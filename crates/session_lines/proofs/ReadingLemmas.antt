@@ -15,6 +15,7 @@ use Rattle.session_turns.specs.Growth.{How, Whole, Over, Lost, Fits, IsWhole, Is
 use Rattle.session_turns.specs.Headline.{LinesRead, AreLines}
 use Rattle.session_turns.proofs.Lists.{stays_front, length-events_of}
 use Rattle.session_turns.proofs.TurnLemmas.{flat_map-append}
+use Rattle.session_events.specs.declared.event.Entry.{Entry}
 use Rattle.session_events.specs.declared.event.Event.{Event}
 use Rattle.session_events.specs.Seats.{Seated, IsSameSeat}
 use Rattle.line_reading.specs.declared.limits.TheConstants.{MAX_INPUT, MAX_PIECE}
@@ -28,7 +29,7 @@ use Rattle.session_lines.specs.declared.reading.InputEnd.{InputEnd}
 use Rattle.session_lines.specs.declared.reading.InputEnd.TheVariants.{Left, Ended, ReadFault, Full}
 use Rattle.session_lines.specs.Stops.{IsLoss}
 use Rattle.session_lines.specs.Serving.{Service, Serves, how_of, line_phases}
-use Rattle.session_lines.specs.Reading.{IsDueStill, WasStopped, EndIs, FaultIs}
+use Rattle.session_lines.specs.Reading.{IsDueStill, WasStopped, EndIs, FaultIs, EndFaultIs}
 use Rattle.session_lines.specs.Connections.{connection_end, AreAsked, Plays}
 use Rattle.session_lines.proofs.ServingLemmas.{serves-append, serves-over, serves-stopped, stopped-got, serves-nothing, serves-lost}
 
@@ -595,9 +596,21 @@ fault-met (Err (stop.Broken at)) left rest f = f
 fault-met (Err stop.NoMemory) left rest f = inl f
 fault-met (Err stop.WriteFault) left rest f = inl f
 
+wanting-faults : (goes : Bool) (left rest : Inlet) → goes ≡ true → (rest.faults ≡ left.faults) ⊎ Rose left.faults rest.faults → (rest.faults ≡ left.faults) ⊎ ((goes ≡ true) × Rose left.faults rest.faults)
+wanting-faults goes left rest is (inl same) = inl same
+wanting-faults goes left rest is (inr more) = inr (is, more)
+
 -- a loss behind whatever was read
-pub fault-later : (r : Result InputEnd Stop) (why : Stop) (left rest : Inlet) (seat : Seated) → IsLoss why seat → FaultIs r left rest → FaultIs (Err why) left rest
-fault-later r stop.HistoryFull left rest seat l f = absurd l
-fault-later r (stop.Broken at) left rest seat l f = fault-met r left rest f
-fault-later r stop.NoMemory left rest seat l f = absurd l
-fault-later r stop.WriteFault left rest seat l f = absurd l
+pub fault-later : (parting : List Entry → Bool) (r : Result InputEnd Stop) (why : Stop) (left rest : Inlet) (seat : Seated) → IsLoss parting why seat → FaultIs r left rest → EndFaultIs parting (Err why) seat left rest
+fault-later parting r stop.HistoryFull left rest seat l f = absurd l
+fault-later parting r (stop.Broken at) left rest seat l f = fault-met r left rest f
+fault-later parting r stop.NoMemory left rest seat l f = wanting-faults _ left rest l (fault-met r left rest f)
+fault-later parting r stop.WriteFault left rest seat l f = absurd l
+
+-- what was met while lines were read, behind a leaving that nothing was wanting for
+pub fault-still : (parting : List Entry → Bool) (r : Result InputEnd Stop) (left rest : Inlet) (seat : Seated) → FaultIs r left rest → EndFaultIs parting r seat left rest
+fault-still parting (Ok ending) left rest seat f = f
+fault-still parting (Err stop.HistoryFull) left rest seat f = f
+fault-still parting (Err (stop.Broken at)) left rest seat f = f
+fault-still parting (Err stop.NoMemory) left rest seat f = inl f
+fault-still parting (Err stop.WriteFault) left rest seat f = f

@@ -1,9 +1,10 @@
 -- What stays, and why playing stops, over calls one after another.
-use Rattle.std.proofs.Common.{◌≡◌, ℕ, ◌+◌, ◌<◌, true, false, List, [], ◌∷◌, ◌++◌, length, Ok, Err, refl, ap, ◌∙◌, subst, arith, length-append}
+use Rattle.std.proofs.Common.{◌≡◌, ℕ, ◌+◌, ◌<◌, Bool, true, false, List, [], ◌∷◌, ◌++◌, length, Ok, Err, refl, ap, ◌∙◌, subst, arith, length-append}
 use Rattle.std.specs.Prelude.{Some, IfSome}
 use Rattle.std.specs.declared.option.Option.{Option}
 use Rattle.std.specs.declared.result.Result.{Result}
 use Rattle.kak_ports.specs.Ports.{Outlet, Rose}
+use Rattle.session_events.specs.declared.event.Entry.{Entry}
 use Rattle.session_events.specs.declared.event.Event.TheVariants.{Leave}
 use Rattle.session_events.specs.Entries.{entry_with}
 use Rattle.session_events.specs.Meaning.{Gives}
@@ -91,11 +92,11 @@ unwritten-causes (Err NoMemory) x a b w c = cc
 unwritten-causes (Err WriteFault) x a b w c = c
 
 -- a leaving that failed behind phases in which no write did
-loss-caused : (why : Stop) (y : Seated) (a b : Outlet) → NoneFailed a b → IsLoss why y → EndCauses (Err why) y a b
-loss-caused HistoryFull y a b n l = absurd l
-loss-caused (Broken at) y a b n l = (l, n)
-loss-caused NoMemory y a b n l = absurd l
-loss-caused WriteFault y a b n l = absurd l
+loss-caused : (parting : List Entry → Bool) (why : Stop) (y : Seated) (a b : Outlet) → NoneFailed a b → IsLoss parting why y → EndCauses (Err why) y a b
+loss-caused parting HistoryFull y a b n l = absurd l
+loss-caused parting (Broken at) y a b n l = (l, n)
+loss-caused parting NoMemory y a b n l = n
+loss-caused parting WriteFault y a b n l = absurd l
 
 none-failed : (r : Result InputEnd Stop) (x : Seated) (a b : Outlet) → is_unwritten r ≡ false → Causes r x a b → NoneFailed a b
 none-failed (Ok ending) x a b w c = c
@@ -104,8 +105,8 @@ none-failed (Err (Broken at)) x a b w c = c.1
 none-failed (Err NoMemory) x a b w c = c
 none-failed (Err WriteFault) x a b w c = cc
 
-pub loss-causes : (r : Result InputEnd Stop) (why : Stop) (x y : Seated) (a b : Outlet) → is_unwritten r ≡ false → Causes r x a b → IsLoss why y → EndCauses (Err why) y a b
-loss-causes r why x y a b w c l = loss-caused why y a b (none-failed r x a b w c) l
+pub loss-causes : (parting : List Entry → Bool) (r : Result InputEnd Stop) (why : Stop) (x y : Seated) (a b : Outlet) → is_unwritten r ≡ false → Causes r x a b → IsLoss parting why y → EndCauses (Err why) y a b
+loss-causes parting r why x y a b w c l = loss-caused parting why y a b (none-failed r x a b w c) l
 
 -- a session that isn't broken, behind calls that left it so
 pub whole-still : {x y z : Option ℕ} → IsWholeStill x y → IsWholeStill y z → IsWholeStill x z

@@ -1,5 +1,5 @@
 -- What the reading of a connection's input did.
-use Rattle.std.specs.Prelude.{◌≡◌, ℕ, ◌<◌, ◌≤◌, ◌⊎◌, true, false, List, [], ◌∷◌, ◌++◌, length, flat_map, ⊤, Ok, Err}
+use Rattle.std.specs.Prelude.{◌≡◌, ℕ, ◌<◌, ◌≤◌, ◌⊎◌, Bool, true, false, List, [], ◌∷◌, ◌++◌, length, flat_map, ⊤, Ok, Err}
 use Rattle.std.specs.declared.result.Result.{Result}
 use Rattle.kak_ports.specs.Ports.{Inlet, Rose}
 use Rattle.session_turns.specs.Lines.{whole_lines}
@@ -11,6 +11,7 @@ use Rattle.session_events.specs.declared.event.Event.TheVariants.{Leave}
 use Rattle.session_events.specs.declared.event.Entry.{Entry}
 use Rattle.session_events.specs.Meaning.{Gives, rules}
 use Rattle.session_events.specs.Missing.{has_missed}
+use Rattle.session_events.specs.Seats.{Seated}
 use Rattle.line_reading.specs.declared.limits.TheConstants.{MAX_INPUT, MAX_PIECE}
 use Rattle.line_reading.specs.Reading.{IsAll}
 use Rattle.session_lines.specs.declared.playing.Stop.{Stop}
@@ -117,3 +118,10 @@ FaultIs (Ok ReadFault) left rest = Rose left.faults rest.faults
 FaultIs (Ok _) left rest = rest.faults ≡ left.faults
 FaultIs (Err (stop.Broken at)) left rest = (rest.faults ≡ left.faults) ⊎ Rose left.faults rest.faults
 FaultIs (Err _) left rest = rest.faults ≡ left.faults
+
+-- and behind the client's leaving: where memory was wanting in that, as something is run by which a client goes, a read fault may
+-- have been met before
+abbrev pub EndFaultIs : (List Entry → Bool) → Result InputEnd Stop → Seated → Inlet → Inlet → Type 0
+EndFaultIs parting (Ok ending) seat left rest = FaultIs (Ok ending) left rest
+EndFaultIs parting (Err stop.NoMemory) seat left rest = (rest.faults ≡ left.faults) ⊎ ((parting seat.seen ≡ true) × Rose left.faults rest.faults)
+EndFaultIs parting (Err why) seat left rest = FaultIs (Err why) left rest

@@ -85,9 +85,9 @@ pub record HasGone (gives : Gives) (old new : Seated) : Type 0 where
   pub stands : new.seen ≡ old.seen ++ between ++ entry_with old.number Leave answers ∷ []
 
 -- the client left, or something was lost, and nothing was added
-abbrev pub Leaves : {A : Type 0} → Gives → Seated → Seated → Result A Stop → Type 0
-Leaves gives old new (Ok _) = HasGone gives old new
-Leaves gives old new (Err why) = Sees gives old new × IsLoss why new
+abbrev pub Leaves : {A : Type 0} → Gives → (List Entry → Bool) → Seated → Seated → Result A Stop → Type 0
+Leaves gives parting old new (Ok _) = HasGone gives old new
+Leaves gives parting old new (Err why) = Sees gives old new × IsLoss parting why new
 
 -- how phases got on: the client stays, or may leave; the history was full; a write failed; or something was lost
 abbrev pub how_of : Result Bool Stop → How

@@ -1,8 +1,9 @@
 -- What stays over the playing of phases, and why playing stops.
-use Rattle.std.specs.Prelude.{◌≡◌, ◌≤◌, ℕ, length, ⊤, Some, None, Ok, Err}
+use Rattle.std.specs.Prelude.{◌≡◌, ◌≤◌, ℕ, Bool, true, List, length, ⊤, Some, None, Ok, Err}
 use Rattle.std.specs.declared.option.Option.{Option}
 use Rattle.std.specs.declared.result.Result.{Result}
 use Rattle.kak_ports.specs.Ports.{Outlet, Rose}
+use Rattle.session_events.specs.declared.event.Entry.{Entry}
 use Rattle.session_events.specs.Seats.{Seated, IsSameSeat, IsIn, IsLegalSeat}
 use Rattle.session_lines.specs.declared.playing.Stop.{Stop}
 use Rattle.session_lines.specs.declared.playing.Stop.TheVariants.{HistoryFull, Broken, NoMemory, WriteFault}
@@ -47,10 +48,11 @@ abbrev pub Causes : {A : Type 0} → Result A Stop → Seated → Outlet → Out
 Causes (Ok _) seat before now = NoneFailed before now
 Causes (Err why) seat before now = CausedBy why seat before now
 
--- why a leaving fails: the session is broken
-abbrev pub IsLoss : Stop → Seated → Type 0
-IsLoss (Broken at) seat = seat.mark ≡ Some at
-IsLoss _ seat = ⊥
+-- why a leaving fails: the session is broken; or memory was wanting, where something is run by which a client goes
+abbrev pub IsLoss : (List Entry → Bool) → Stop → Seated → Type 0
+IsLoss parting (Broken at) seat = seat.mark ≡ Some at
+IsLoss parting NoMemory seat = parting seat.seen ≡ true
+IsLoss parting _ seat = ⊥
 
 -- a session that had no mark has none still
 abbrev pub IsWholeStill : Option ℕ → Option ℕ → Type 0

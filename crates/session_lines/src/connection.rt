@@ -4,7 +4,7 @@ ghost use Rattle.std.specs.Prelude.{◌≡◌, ◌∷◌, [], false};
 ghost use Rattle.session_turns.specs.Turns.{Opening};
 ghost use Rattle.session_events.specs.Seats.{IsSameSeat, IsLegalSeat};
 ghost use Rattle.session_lines.specs.Connections.{Plays, WasServed, EndCauses, is_unwritten};
-ghost use Rattle.session_lines.specs.Reading.{FaultIs};
+ghost use Rattle.session_lines.specs.Reading.{FaultIs, EndFaultIs};
 ghost use Rattle.session_lines.specs.Serving.{service, HasOnlyCome, unseen};
 ghost use Rattle.session_lines.specs.Stops.{IsReady, Stays, Causes, StaysWhole};
 
@@ -69,7 +69,7 @@ pub fn serve<Q: Reader, S: Seat, I: Source, K: Sink>(
     ensures whole { StaysWhole result (S.seated seat.old).mark (S.seated seat.new).mark }
     ensures legal { IsLegalSeat (S.seated seat.new) }
     ensures served { WasServed false (service S.gives Q.reads keys.now) (S.seated seat.old).number (S.seated seat.new).seen (K.outlet sink.old) (K.outlet sink.new) (I.inlet source.old) (I.inlet source.new) result }
-    ensures fault { FaultIs result (I.inlet source.old) (I.inlet source.new) }
+    ensures fault { EndFaultIs S.parting result (S.seated seat.new) (I.inlet source.old) (I.inlet source.new) }
     ensures cause { EndCauses result (S.seated seat.new) (K.outlet sink.old) (K.outlet sink.new) }
 {
     let played = play_connection::<Q, S, I, K>(alloc, seat, source, sink, keys, let_go);

@@ -90,7 +90,7 @@ fn take<S: Seat>(alloc: Global, seat: &mut S, event: &Event) -> Result<Output, S
     ensures ok { IfOk result (λ output. Steps S.gives (S.seated seat.old) (S.seated seat.new) event.now output) }
     ensures err { OnErr result (Sees S.gives (S.seated seat.old) (S.seated seat.new)) }
     ensures stops { is_leave event.now ≡ false → Stops result (S.seated seat.new) }
-    ensures leaves { is_leave event.now ≡ true → IfErr result (λ stop. IsLoss stop (S.seated seat.new)) }
+    ensures leaves { is_leave event.now ≡ true → IfErr result (λ stop. IsLoss S.parting stop (S.seated seat.new)) }
     ensures marked { IfSome (S.seated seat.old).mark (λ at. (S.seated seat.new).mark ≡ Some at) }
 {
     match seat.step(alloc, event) {
@@ -193,14 +193,14 @@ pub fn play_event<S: Seat>(alloc: Global, seat: &mut S, event: &Event) -> Result
     Ok(Reply { telling, leaving })
 }
 
-/// Lets the client go.
+/// Lets the client go. Memory is wanting only where something is run by that.
 pub fn leave<S: Seat>(alloc: Global, seat: &mut S) -> Result<(), Stop>
     requires { IsReady (S.seated seat.old) }
     ensures same { IsSameSeat (S.seated seat.old) (S.seated seat.new) }
     ensures kept { S.kept seat.new ≡ S.kept seat.old }
     ensures whole { StaysWhole result (S.seated seat.old).mark (S.seated seat.new).mark }
     ensures legal { IsLegalSeat (S.seated seat.new) }
-    ensures leaves { Leaves S.gives (S.seated seat.old) (S.seated seat.new) result }
+    ensures leaves { Leaves S.gives S.parting (S.seated seat.old) (S.seated seat.new) result }
     ensures marked { IfSome (S.seated seat.old).mark (λ at. (S.seated seat.new).mark ≡ Some at) }
 {
     match take(alloc, seat, &Event::Leave) {

@@ -347,16 +347,13 @@ pub report-at : (clients : List ReplayClient) (who : ℕ) (client : ReplayClient
 report-at clients who client inside is = get_or-map (λ c. c.report.items) clients who client [] inside ∙ ap (λ c. c.report.items) (sym is)
 
 -- what stands where a client couldn't be let go
-pub lost-stands : (g : Setting) (how : How) (why : Stop) (seat : Seated) (who : ℕ) (h : List Entry) (lines : List (List ℕ)) (told : List ℕ) → (why ≡ stop.NoMemory) ⊎ IsLoss why seat → (why ≡ stop.NoMemory → LeftAt g how who h lines told) → (IsLoss why seat → GotTo g how who h lines told)
-    → (how_of (Err why) ≡ Lost) × (GotTo g how who h lines told ⊎ LeftAt g how who h lines told)
-lost-stands g how stop.HistoryFull seat who h lines told (inl is) left got = absurd (cc)
-lost-stands g how (stop.Broken at) seat who h lines told (inl is) left got = (refl, inr (left is))
-lost-stands g how stop.NoMemory seat who h lines told (inl is) left got = (refl, inr (left is))
-lost-stands g how stop.WriteFault seat who h lines told (inl is) left got = absurd (cc)
-lost-stands g how stop.HistoryFull seat who h lines told (inr loss) left got = absurd loss
-lost-stands g how (stop.Broken at) seat who h lines told (inr loss) left got = (refl, inl (got loss))
-lost-stands g how stop.NoMemory seat who h lines told (inr loss) left got = absurd loss
-lost-stands g how stop.WriteFault seat who h lines told (inr loss) left got = absurd loss
+pub lost-stands : (parting : List Entry → Bool) (g : Setting) (how : How) (why : Stop) (seat : Seated) (who : ℕ) (h : List Entry) (lines : List (List ℕ)) (told : List ℕ)
+    → ((why ≡ stop.NoMemory) × LeftAt g how who h lines told) ⊎ (IsLoss parting why seat × GotTo g how who h lines told) → (how_of (Err why) ≡ Lost) × (GotTo g how who h lines told ⊎ LeftAt g how who h lines told)
+lost-stands parting g how why seat who h lines told (inl s) = (ap (λ q. how_of (Err q)) s.0, inr s.1)
+lost-stands parting g how stop.HistoryFull seat who h lines told (inr s) = absurd s.0
+lost-stands parting g how (stop.Broken at) seat who h lines told (inr s) = (refl, inl s.1)
+lost-stands parting g how stop.NoMemory seat who h lines told (inr s) = (refl, inl s.1)
+lost-stands parting g how stop.WriteFault seat who h lines told (inr s) = absurd s.0
 
 -- as many of one thing as elements were passed
 more-of : {A B : Type 0} (a : A) (xs : List B) (i : ℕ) → i < length xs → map (λ x. a) (take (i + 1) xs) ≡ map (λ x. a) (take i xs) ++ a ∷ []

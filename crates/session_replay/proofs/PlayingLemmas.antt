@@ -23,7 +23,7 @@ use Rattle.session_lines.specs.declared.playing.Reply.{Reply}
 use Rattle.session_lines.specs.Sending.{FailsFor}
 use Rattle.session_lines.specs.Session.{protocol, keys_played, played_by, bytes_of_refusal}
 use Rattle.session_lines.specs.Serving.{telling_bytes, HasOnlyCome, AreCut, LeavesOut, IsAnswered, PhaseAnswers, HasGone, Leaves, Serves, service, how_of, unseen}
-use Rattle.session_lines.specs.Stops.{StopsFor, IsLoss}
+use Rattle.session_lines.specs.Stops.{StopsFor}
 use Rattle.session_lines.proofs.ServingLemmas.{answered-told, answered-untold, serves-cut}
 use Rattle.session_lines.proofs.OpeningLemmas.{let_go_or, opening-taken, opening-cut, came-only}
 use Rattle.session_replay.specs.Settings.{Setting}
@@ -107,9 +107,9 @@ gone-grows g who o x z turned same alone s =
 pub sees-grow : (g : Setting) (who : ℕ) (o x z : Seated) → x ≡ turned_to who o → IsSameSeat x z → IsAlone z → Sees g.gives x z → GrowsBy g who o.seen z.seen
 sees-grow g who o x z turned same alone s = grows-by g who o x z s.between turned same alone (seen-is who o x z s.between turned s.stands)
 
-pub leaves-grow : {A : Type 0} (g : Setting) (who : ℕ) (o x z : Seated) (r : Result A Stop) → x ≡ turned_to who o → IsSameSeat x z → IsAlone z → Leaves g.gives x z r → GrowsBy g who o.seen z.seen
-leaves-grow g who o x z (Ok done) turned same alone l = gone-grows g who o x z turned same alone l
-leaves-grow g who o x z (Err why) turned same alone l = sees-grow g who o x z turned same alone l.0
+pub leaves-grow : {A : Type 0} (g : Setting) (parting : List Entry → Bool) (who : ℕ) (o x z : Seated) (r : Result A Stop) → x ≡ turned_to who o → IsSameSeat x z → IsAlone z → Leaves g.gives parting x z r → GrowsBy g who o.seen z.seen
+leaves-grow g parting who o x z (Ok done) turned same alone l = gone-grows g who o x z turned same alone l
+leaves-grow g parting who o x z (Err why) turned same alone l = sees-grow g who o x z turned same alone l.0
 
 -- one growth behind another
 pub grows-then : (g : Setting) (who : ℕ) (a b c : List Entry) → GrowsBy g who a b → GrowsBy g who b c → GrowsBy g who a c
@@ -227,10 +227,6 @@ pub line-told : (g : Setting) (who : ℕ) (o x z : Seated) (s t : Option Shown) 
 line-told g who o x z s t line lines reply turned there answered tells w =
     played-line g (how_of (Ok reply.leaving)) who o x z s t line lines turned there
     (answered-told (service g.gives g.reads []) x z (box_outlet s) (box_outlet t) (During (Line line)) (played_by (g.reads line)) (bytes_of_refusal (g.reads line)) reply answered refl refl tells) w
-
--- a session that is broken is told otherwise than want of memory
-pub loss-memory : (why : Stop) (seat : Seated) → why ≡ stop.NoMemory → IsLoss why seat → ⊥
-loss-memory why seat is loss = subst (λ q. IsLoss q seat) is loss
 
 -- entries of others came
 pub sees-got : (g : Setting) (how : How) (who : ℕ) (o x z : Seated) (lines : List (List ℕ)) (told : List ℕ) → x ≡ turned_to who o → Sees g.gives x z → GotTo g how who o.seen lines told → GotTo g how who z.seen lines told

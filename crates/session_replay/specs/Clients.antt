@@ -1,5 +1,5 @@
 -- Where the clients of a replay stand behind the lines that were played.
-use Rattle.std.specs.Prelude.{◌≡◌, ◌≢◌, ℕ, ◌<◌, ◌≤◌, true, List, [], ◌∷◌, ◌++◌, length, get_or, Option, Some}
+use Rattle.std.specs.Prelude.{◌≡◌, ◌≢◌, ℕ, ◌<◌, ◌≤◌, ◌⊎◌, Bool, true, List, [], ◌∷◌, ◌++◌, length, get_or, Option, Some}
 use Rattle.ui_board.specs.declared.board.Board.{Board}
 use Rattle.ui_board.specs.declared.ui.Kind.{Kind}
 use Rattle.ui_board.specs.declared.ui.Kind.TheVariants.{Silent}
@@ -92,10 +92,11 @@ pub record LeavesAlone (who : ℕ) (old new : List Entry) : Type 0 where
   pub maker : entry.who ≡ who
   pub event : entry.event ≡ Leave
 
--- However far a client got that is to leave: where memory was wanting, it has left; where the session is broken, it hasn't.
-abbrev pub LeavesOrStays : Setting → ℕ → List Entry → Seated → Stop → Type 0
-LeavesOrStays with who old seat why = (how : How) → (lines : List (List ℕ)) → (told : List ℕ) → GotTo with how who old lines told
-    → (why ≡ NoMemory → LeftAt with how who seat.seen lines told) × (IsLoss why seat → GotTo with how who seat.seen lines told)
+-- However far a client got that is to leave: it has left, and memory was wanting behind that; or it hasn't left, as the session
+-- was lost.
+abbrev pub LeavesOrStays : (List Entry → Bool) → Setting → ℕ → List Entry → Seated → Stop → Type 0
+LeavesOrStays parting with who old seat why = (how : How) → (lines : List (List ℕ)) → (told : List ℕ) → GotTo with how who old lines told
+    → ((why ≡ NoMemory) × LeftAt with how who seat.seen lines told) ⊎ (IsLoss parting why seat × GotTo with how who seat.seen lines told)
 
 -- whatever lines a client was played that is here, one more was, and it got so far, as its box on a board was told
 abbrev pub GetsOn : {U : Type 0} → Setting → (U → Shown) → How → ℕ → List ℕ → List Entry → List Entry → Board U → Board U → Type 0

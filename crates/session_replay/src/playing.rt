@@ -26,7 +26,7 @@ use ui_board::{Board, Ui};
 
 // Why a coming is refused. A client comes once, and there are no more clients than may be here.
 fn stop_of(fault: StepFault) -> Stop
-    ensures stops { (crowded : List Entry → Bool) → (seat : Seated) → Refuses crowded fault seat Join → StopsFor result seat }
+    ensures stops { (crowded parting : List Entry → Bool) → (seat : Seated) → Refuses crowded parting fault seat Join → StopsFor result seat }
     ensures whole { (before : Option ℕ) → (seat : Seated) → StaysUnbroken {A = Output} (Err fault) seat → StaysWholeFor result before seat.mark }
 {
     match fault {
@@ -107,8 +107,8 @@ pub fn play<Q: Reader, S: Seats, U: Ui>(
     Ok(reply.leaving)
 }
 
-/// Lets a client go that is here, and gives the report of its box, which stays at its seat. After want of memory it has gone;
-/// where the session is broken it hasn't.
+/// Lets a client go that is here, and gives the report of its box, which stays at its seat. After want of memory it may have
+/// gone; where the session is broken it hasn't.
 pub fn let_go<Q: Reader, S: Seats, U: Ui>(
     alloc: Global,
     seats: &mut S,
@@ -121,8 +121,8 @@ pub fn let_go<Q: Reader, S: Seats, U: Ui>(
     ensures session { IsSessionStill S.seated S.kept result seats.old seats.new }
     ensures grows { GrowsBy (setting S.gives Q.reads) who (S.seated seats.old).seen (S.seated seats.new).seen }
     ensures leaves { OnOk result (LeavesAlone who (S.seated seats.old).seen (S.seated seats.new).seen) }
-    ensures still { IfErr result (LeavesOrStays (setting S.gives Q.reads) who (S.seated seats.old).seen (S.seated seats.new)) }
-    ensures stops { IfErr result (λ why. (why ≡ NoMemory) ⊎ IsLoss why (S.seated seats.new)) }
+    ensures still { IfErr result (LeavesOrStays S.parting (setting S.gives Q.reads) who (S.seated seats.old).seen (S.seated seats.new)) }
+    ensures stops { IfErr result (λ why. (why ≡ NoMemory) ⊎ IsLoss S.parting why (S.seated seats.new)) }
     ensures reports { IfOk result (λ report. report.items ≡ report_at (box_at U.shown who board.now)) }
 {
     seats.turn_to(who);

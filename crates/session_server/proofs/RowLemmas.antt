@@ -16,13 +16,13 @@ use Rattle.link_lines.specs.Drawings.{DrawsOnlyMissed}
 use Rattle.link_lines.specs.Endings.{WasServedOver, HasLeftAt, EndsFor}
 use Rattle.link_lines.proofs.LaterLemmas.{over-later}
 use Rattle.link_lines.proofs.DrawingLemmas.{others-draw}
-use Rattle.kak_engine.specs.Steps.{given_by, crowded_by}
+use Rattle.kak_engine.specs.Steps.{given_by, crowded_by, parting_by}
 use Rattle.engine_desk.specs.Sharing.{Frame}
 use Rattle.session_server.specs.Rows.{opening_keys, seat_by, ServedLink, ServedRow, ServesLink}
 
 -- what the serving of a link and its closing give
 pub link-served : (limit : ℕ) (file : Option (List ℕ)) (pass given : PassView Entry Frame) (e : Ended) (came now closed : Wire) → IsFresh came → IsSamePass pass given → Begins given.seen pass.seen → closed ≡ now → TellsNoMore came now
-    → WasServedOver (service given_by read_request (opening_keys file)) pass.number given.seen came now e → HasLeftAt given_by e pass.number given.seen → DrawsOnlyMissed pass.number given.seen → EndsFor given_by crowded_by e (seat_by limit pass.number given.seen given.mark) came now
+    → WasServedOver (service given_by read_request (opening_keys file)) pass.number given.seen came now e → HasLeftAt given_by parting_by e pass.number given.seen → DrawsOnlyMissed pass.number given.seen → EndsFor given_by crowded_by parting_by e (seat_by limit pass.number given.seen given.mark) came now
     → ServesLink limit file pass e given came closed
 link-served limit file pass given e came now closed fresh same sees is tells served left drawn cause = record {
   same = same;

@@ -16,7 +16,7 @@ use Rattle.session_lines.specs.Serving.{service}
 use Rattle.link_lines.specs.declared.ended.Ended.{Ended}
 use Rattle.link_lines.specs.Drawings.{DrawsOnlyMissed}
 use Rattle.link_lines.specs.Endings.{WasServedOver, EndsFor, HasLeftAt, NeverCame}
-use Rattle.kak_engine.specs.Steps.{given_by, crowded_by}
+use Rattle.kak_engine.specs.Steps.{given_by, crowded_by, parting_by}
 use Rattle.engine_desk.specs.Sharing.{Frame}
 
 -- the keys that are struck before the first drawing: those that open the file, where one is named
@@ -34,9 +34,9 @@ seat_by limit who seen mark = record { number = who; limit = limit; mark = mark;
 pub record ServedLink (limit : ℕ) (file : Option (List ℕ)) (who : ℕ) (seen : List Entry) (mark : Option ℕ) (ended : Ended) (came closed : Wire) : Type 0 where
   pub no_more : TellsNoMore came closed
   pub served : WasServedOver (service given_by read_request (opening_keys file)) who seen came closed ended
-  pub left : HasLeftAt given_by ended who seen
+  pub left : HasLeftAt given_by parting_by ended who seen
   pub drawn : DrawsOnlyMissed who seen
-  pub cause : EndsFor given_by crowded_by ended (seat_by limit who seen mark) came closed
+  pub cause : EndsFor given_by crowded_by parting_by ended (seat_by limit who seen mark) came closed
 
 -- The row of a link that was served, by a history and its mark: all that serving says of it holds by a front of the history,
 -- behind which its client has no entry, and by a mark that is none or this one. The link had just come.

@@ -9,7 +9,7 @@ ghost use Rattle.session_lines.specs.Serving.{service};
 ghost use Rattle.json_ui.specs.Requests.{read_request};
 ghost use Rattle.link_lines.specs.Drawings.{DrawsOnlyMissed};
 ghost use Rattle.link_lines.specs.Endings.{WasServedOver, EndsFor, HasLeftAt, NeverCame};
-ghost use Rattle.kak_engine.specs.Steps.{given_by, crowded_by};
+ghost use Rattle.kak_engine.specs.Steps.{given_by, crowded_by, parting_by};
 ghost use Rattle.session_server.specs.Rows.{opening_keys, seat_by};
 
 use client_links::Link;
@@ -55,9 +55,9 @@ pub fn serve_link<R: Wait, L: Link, G: Gate, O: Outside<P = RegexPattern> + Drop
     ensures sees { Begins result.1.seen pass.seen }
     ensures legal { IsLegal desk.now.frame.limit pass.seen → IsLegal desk.now.frame.limit result.1.seen }
     ensures served { WasServedOver (service given_by read_request (opening_keys (option_map (λ name. name.now) file.entry))) pass.number result.1.seen (L.wire link.old) (L.wire link.new) result.0 }
-    ensures left { HasLeftAt given_by result.0 pass.number result.1.seen }
+    ensures left { HasLeftAt given_by parting_by result.0 pass.number result.1.seen }
     ensures drawn { DrawsOnlyMissed pass.number result.1.seen }
-    ensures cause { EndsFor given_by crowded_by result.0 (seat_by desk.now.frame.limit pass.number result.1.seen result.1.mark) (L.wire link.old) (L.wire link.new) }
+    ensures cause { EndsFor given_by crowded_by parting_by result.0 (seat_by desk.now.frame.limit pass.number result.1.seen result.1.mark) (L.wire link.old) (L.wire link.new) }
     ensures no_more { TellsNoMore (L.wire link.old) (L.wire link.new) }
 {
     let Ok(keys) = opening_keys(alloc, file) else {

@@ -1,4 +1,5 @@
 use Rattle.std.proofs.Common.{refl, ◌∙◌, arith}
+use Rattle.session_lines.specs.declared.playing.Stop.TheVariants as stop
 use Rattle.session_lines.specs.Serving.{service}
 use Rattle.session_lines.proofs.StayingLemmas.{unseen-same}
 use Rattle.link_lines.proofs.ComingLemmas.{refused-over}
@@ -18,7 +19,7 @@ pub returns-in-Err-Broken-clause-served : goal.returns-in-Err-Broken-clause-serv
 returns-in-Err-Broken-clause-served g c =
     let l = rw c.in-Err-Broken.field-0-is at c.in-Err-Broken.ensures.leaves in
     rw c.in-Err-Broken.field-0-is (as-who _ _ _ _ _ _ _ (c.come.ensures.same.number ∙ c.requires.number)
-    (lost-over c.play_link-played.result _ _ _ _ _ _ _ refl (unseen-same c.play_link-played.ensures.stays.same) c.play_link-played.ensures.plays l))
+    (lost-over g.S.Seat.parting c.play_link-played.result _ _ _ _ _ _ (stop.Broken c.in-Err-Broken.at) refl (unseen-same c.play_link-played.ensures.stays.same) c.play_link-played.ensures.plays l))
 
 pub returns-in-Err-clause-drawn : goal.returns-in-Err-clause-drawn
 returns-in-Err-clause-drawn g c = refused-draws g.S.Seat.gives _ _ _ _ (c.come.ensures.same.number ∙ c.requires.number) c.in-Err.ensures.refused
@@ -32,3 +33,14 @@ pub returns-in-Err-Broken-clause-drawn : goal.returns-in-Err-Broken-clause-drawn
 returns-in-Err-Broken-clause-drawn g c =
     let number = c.come.ensures.same.number ∙ c.requires.number in
     sees-draws _ _ _ _ (c.play_link-played.ensures.stays.same.number ∙ number) c.in-Err-Broken.ensures.leaves.0 (draws-as _ _ _ number c.play_link-played.ensures.drawn)
+
+pub returns-in-Err-NoMemory-clause-served : goal.returns-in-Err-NoMemory-clause-served
+returns-in-Err-NoMemory-clause-served g c =
+    let l = rw c.in-Err-NoMemory.field-0-is at c.in-Err-NoMemory.ensures.leaves in
+    as-who _ _ _ _ _ _ _ (c.come.ensures.same.number ∙ c.requires.number)
+    (lost-over g.S.Seat.parting c.play_link-played.result _ _ _ _ _ _ stop.NoMemory refl (unseen-same c.play_link-played.ensures.stays.same) c.play_link-played.ensures.plays l)
+
+pub returns-in-Err-NoMemory-clause-drawn : goal.returns-in-Err-NoMemory-clause-drawn
+returns-in-Err-NoMemory-clause-drawn g c =
+    let number = c.come.ensures.same.number ∙ c.requires.number in
+    sees-draws _ _ _ _ (c.play_link-played.ensures.stays.same.number ∙ number) c.in-Err-NoMemory.ensures.leaves.0 (draws-as _ _ _ number c.play_link-played.ensures.drawn)

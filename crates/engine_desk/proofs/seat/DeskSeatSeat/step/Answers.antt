@@ -1,7 +1,7 @@
 use Rattle.std.proofs.Common.{ℕ, sym, ap, ◌∙◌, subst}
 use Rattle.std.specs.Prelude.{None}
 use Rattle.session_events.specs.Seats.{IsIn, Sees, Steps, Refuses}
-use Rattle.kak_engine.specs.Steps.{given_by, crowded_by}
+use Rattle.kak_engine.specs.Steps.{given_by, crowded_by, parting_by}
 use Rattle.kak_engine.proofs.SeatingLemmas.{given-meaning}
 use Rattle.engine_desk.specs.Sitting.{DeskSeated, desk_seat_of, missed_behind}
 use Rattle.engine_desk.proofs.SeatLemmas.{at_desk, seat-steps, desk-taken, refused-sees, refused-stays}
@@ -38,5 +38,5 @@ returns-in-Err-clause-err g c =
 pub returns-in-Err-clause-why : goal.returns-in-Err-clause-why
 returns-in-Err-clause-why g c =
     let b = c.self.inside.pass in let a = c.step.new.pass in let home = c.self.inside.desk.now in let told = c.told_by-self-inside.result in
-    subst (λ (n : ℕ). Refuses crowded_by c.in-Err.fault (record { number = n; limit = home.frame.limit; mark = told; seen = a.seen; others = None }) c.args.event.now) (sym c.in-Err.ensures.same.number)
+    subst (λ (n : ℕ). Refuses crowded_by parting_by c.in-Err.fault (record { number = n; limit = home.frame.limit; mark = told; seen = a.seen; others = None }) c.args.event.now) (sym c.in-Err.ensures.same.number)
     (seat-refused home b a c.args.event.now c.in-Err.fault c.self.inside.told told c.seen.result c.in-Err.ensures.fault c.self.invariant.met c.seen.ensures c.told_by-self-inside.ensures).why

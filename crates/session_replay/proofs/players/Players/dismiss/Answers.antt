@@ -15,4 +15,4 @@ returns-clause-alone g c = record {
 pub returns-in_err-report-clause-lost : goal.returns-in_err-report-clause-lost
 returns-in_err-report-clause-lost g c =
     let p = err_from_is_err_and c.from_residual.result c.from_residual.ensures.1 in
-    rw (p.1, p.2) (λ how lines told got. let s = c.in_err-report.ensures.still how lines told got in lost-stands _ how _ _ c.args.who _ lines told c.in_err-report.ensures.stops s.0 s.1)
+    rw (p.1, p.2) (λ how lines told got. lost-stands g.S.Seat.parting _ how _ (g.S.Seat.seated c.let_go.new.seats) c.args.who _ lines told (c.in_err-report.ensures.still how lines told got))
