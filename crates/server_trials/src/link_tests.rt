@@ -53,6 +53,8 @@ impl Seat for FragileSeat {
 
     ghost crowded = { λ _. false };
 
+    ghost parting = { λ _. false };
+
     ghost seated = { λ s. record {
       number = s.who;
       limit = 10;
