@@ -129,7 +129,9 @@ def expansions(report):
     listed = [found for cells in rows("COMMANDS.md", "Expansions", "Expansion") for found in re.findall(r"%(\w+)\{(\w*)", cells[0])]
     names = "command_set/src/value_names.rt"
     agree(report, "docs/COMMANDS.md and command_set: expansions", {kind for kind, _ in listed}, arms(body(names, "kind_named"), r'"(\w+)"'))
-    agree(report, "docs/COMMANDS.md and command_set: values", {name for kind, name in listed if kind == "val"}, arms(body(names, "value_named"), r'"(\w+)"'))
+    # the parameter of a hook has its row apart from the values of clients and buffers
+    values = arms(body(names, "value_named"), r'"(\w+)"') + re.findall(r'name == "(\w+)"', body("command_set/src/expansions.rt", "named_value"))
+    agree(report, "docs/COMMANDS.md and command_set: values", {name for kind, name in listed if kind == "val"}, values)
 
 
 def options(report):
