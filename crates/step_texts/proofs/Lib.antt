@@ -1,0 +1,5 @@
+mod TextLemmas
+mod MakingLemmas
+mod LeftLemmas
+mod CourseLemmas
+mod ExampleLemmas

@@ -1,0 +1,5 @@
+pub mod Texts
+pub mod Makings
+pub mod Courses
+pub mod Examples
+pub mod Laws

@@ -1,0 +1,22 @@
+//! The laws of the definitions: each is the contract of a function that does nothing.
+
+ghost use Rattle.step_texts.specs.Examples.{Examples};
+ghost use Rattle.step_texts.specs.Laws.{TextsAreLeftWithin, TextsGoThrough};
+
+/// Where memory was wanting in an event, each text is the one from before it, one behind some of the single changes of the last task
+/// that began, in order, or the one behind that task or behind the event. A file that the step opens may be there or not.
+pub fn texts_are_left_within()
+    ensures { TextsAreLeftWithin }
+{}
+
+/// In a key each task begins with the texts that the one before it left, the first one with those from before the key; and the last
+/// one leaves the texts that stand behind the key.
+pub fn texts_go_through()
+    ensures { TextsGoThrough }
+{}
+
+/// Worked examples.
+#[tactic(auto, unfolding(kak_world::specs::Flat::client_of, kak_world::specs::Flat::shown_of, kak_world::specs::Flat::buffer_of, kak_world::specs::Flat::list_of, kak_world::specs::Flat::own_of, kak_world::specs::Flat::text_of, kak_world::specs::Flat::sels_of, kak_world::specs::Flat::story_of))]
+pub fn worked_examples()
+    ensures { Examples }
+{}
