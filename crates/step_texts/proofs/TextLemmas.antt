@@ -11,7 +11,13 @@ use Rattle.scope_options.specs.declared.options.OptionError.{OptionError}
 use Rattle.scope_options.specs.declared.setting.Setting.{Setting}
 use Rattle.kak_world.specs.declared.own.Own.{Own}
 use Rattle.kak_world.specs.declared.world.Rest.{Rest}
-use Rattle.kak_world.specs.Flat.{Buffer, Flat, changed_at, committed_for, with_own, with_buffers, with_rest, with_list_of, with_list, shown_of, with_corner}
+use Rattle.list_model.specs.Ranges.{Selected}
+use Rattle.kak_world.specs.declared.own.Mode.{Mode}
+use Rattle.kak_world.specs.declared.own.Mode.TheVariants.{Normal, Insert, Prompt}
+use Rattle.kak_world.specs.declared.events.HookEvent.{HookEvent}
+use Rattle.kak_world.specs.Flat.{Buffer, Flat, changed_at, committed_for, with_own, with_buffers, with_rest, with_list_of, with_list, shown_of, with_sels, with_corner, joined_by, left_by_client, left_behind, listed_for, lowest}
+use Rattle.kak_world.specs.Events.{noted, mode_left, WantsEvents}
+use Rattle.kak_world.specs.Showing.{shows}
 use Rattle.list_shelf.specs.Shelves.{Held}
 use Rattle.list_shelf.specs.declared.holder.Holder.TheVariants.{Of}
 use Rattle.window_view.specs.declared.corner.Corner.{Corner}
@@ -84,6 +90,10 @@ pub texts-list : (who : ℕ) (f : Held → Held) (flat : Flat) → HasSameTexts 
 unfolding with_list_of with_buffers
 texts-list who f flat = texts-kept (with_list (Of who) f) (λ b. refl) (shown_of who flat) flat.buffers
 
+pub texts-sels : (who : ℕ) (sels : Selected) (flat : Flat) → HasSameTexts flat (with_sels who sels flat)
+unfolding with_sels
+texts-sels who sels flat = texts-list who _ flat
+
 pub texts-corner : (who : ℕ) (corner : Corner) (flat : Flat) → HasSameTexts flat (with_corner who corner flat)
 unfolding with_corner
 texts-corner who corner flat = texts-list who _ flat
@@ -106,3 +116,28 @@ texts-set (Err e) flat = refl
 pub texts-saved : (n : ℕ) (flat : Flat) → HasSameTexts flat (saved_in n flat)
 unfolding saved_in
 texts-saved n flat = kept-texts n marked_as_saved (λ b. committed-text b.story) flat
+
+-- events that are due, and those that memory was wanting for
+pub texts-noted : (event : HookEvent) (flat : Flat) → HasSameTexts flat (noted event flat)
+texts-noted event flat = texts-rest _ flat
+
+pub texts-left : (mode : Mode) (who : ℕ) (flat : Flat) → HasSameTexts flat (mode_left mode who flat)
+texts-left Normal who flat = refl
+texts-left Insert who flat = texts-noted _ flat
+texts-left Prompt who flat = texts-noted _ flat
+
+pub texts-wanting : (full new : Flat) → WantsEvents full new → HasSameTexts full new
+texts-wanting full new w = ap texts_of w.lacks.is ∙ texts-rest _ full
+
+-- a client that is shown another buffer, one that comes, and one that goes
+pub texts-shows : (who n : ℕ) (flat : Flat) → HasSameTexts flat (shows who n flat)
+unfolding shows
+texts-shows who n flat = texts-kept (listed_for (Of who)) (λ b. refl) n flat.buffers
+
+pub texts-joined : (who : ℕ) (flat : Flat) → HasSameTexts flat (joined_by who flat)
+unfolding joined_by
+texts-joined who flat = texts-kept (listed_for (Of who)) (λ b. refl) (lowest flat.buffers) flat.buffers
+
+pub texts-gone : (who : ℕ) (flat : Flat) → HasSameTexts flat (left_by_client who flat)
+unfolding left_by_client
+texts-gone who flat = texts-mapped (left_behind who) (λ b. committed-own (is_own who b.story.group) b.story) flat.buffers

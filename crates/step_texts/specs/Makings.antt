@@ -1,5 +1,5 @@
 -- The single changes that the tasks of a step make, one after another.
-use Rattle.std.specs.Prelude.{◌≡◌, ◌⊎◌, ℕ, List, [], ◌∷◌, map, take, None, Some, Ok, Err}
+use Rattle.std.specs.Prelude.{◌≡◌, ◌⊎◌, ℕ, ◌<◌, max, List, [], ◌∷◌, map, take, None, Some, Ok, Err}
 use Rattle.std.specs.declared.option.Option.{Option}
 use Rattle.std.specs.declared.result.Result.{Result}
 use Rattle.std.specs.Str.{chars}
@@ -32,7 +32,12 @@ use Rattle.kak_world.specs.Changing.{splice_changes_of, edited_by, traveled_by}
 use Rattle.kak_world.specs.Showing.{buffer_opened}
 use Rattle.key_rows.specs.Naming.{register_named}
 use Rattle.key_rows.specs.Reading.{used, strings_read}
-use Rattle.key_rows.specs.Wanting.{puts_read, ready_for, splices_of, ready_to_enter, splices_before}
+use Rattle.key_rows.specs.declared.edits.Edit.{Edit}
+use Rattle.key_rows.specs.declared.edits.Edit.TheVariants as edit
+use Rattle.key_rows.specs.declared.entries.InsertEntry.{InsertEntry}
+use Rattle.key_rows.specs.declared.entries.InsertEntry.TheVariants as entry
+use Rattle.key_rows.specs.Entering.{place_row}
+use Rattle.key_rows.specs.Wanting.{puts_read, ready_for, splices_of, splices_before}
 use Rattle.normal_keys.specs.declared.prefixes.Prefix.{Prefix}
 use Rattle.normal_keys.specs.declared.actions.Action.{Action}
 use Rattle.normal_keys.specs.declared.actions.Action.TheVariants as action
@@ -43,7 +48,7 @@ use Rattle.normal_keys.specs.Repeating.{once}
 use Rattle.normal_keys.specs.Rows.{character_of, prefix_of, client_cleared}
 use Rattle.normal_keys.specs.Wanting.{before_run, node_beside}
 use Rattle.insert_prompt.specs.Rows.{awaiting}
-use Rattle.kak_engine.specs.Course.{Task, RunsKey, RunsCommand, RunsMacro, UsesPattern, ShowsFile, NotesFile, GrantsLeave, GoesNormal, TakesArguments}
+use Rattle.kak_engine.specs.Course.{Task, RunsKey, ShowsFile}
 use Rattle.kak_engine.specs.Doing.{task_row}
 use Rattle.step_texts.specs.Texts.{HasSameTexts, texts_of, texts_changed}
 
@@ -72,11 +77,24 @@ once_made (repeated.GoesToNode direction) register who flat = traveling (Node (n
 once_made (repeated.Puts how) register who flat = splicing (puts_read how (strings_read (used register) who flat) who flat) who flat
 once_made _ register who flat = nothing_made flat
 
+-- an edit, in the world that is made ready for it
+abbrev pub editing_made : Edit → Option ℕ → ℕ → Flat → Making
+editing_made how register who flat = let ready : Flat = ready_for how register who flat in splicing (splices_of how register who ready) who ready
+
+-- the edit that goes before insert mode
+abbrev pub placing_made : InsertEntry → Option ℕ → ℕ → Flat → Making
+placing_made entry.Cut register who flat = editing_made edit.Cut register who flat
+placing_made how register who flat = splicing (splices_before how who flat) who flat
+
+-- the way into insert mode: that edit, and behind all of it what becomes of the selections there
+abbrev pub entering_made : InsertEntry → Option ℕ → ℕ → Flat → Making
+entering_made how register who flat = record (placing_made how register who flat) { whole = (place_row how register who flat).world }
+
 -- an action, behind so many runs where a count repeats it
 abbrev pub action_made : ℕ → Action → Prefix → ℕ → Flat → Making
 action_made runs (action.Repeats what) prefix who flat = once_made what prefix.register who (before_run runs (once what prefix.register who) flat)
-action_made runs (action.Edits edit) prefix who flat = let ready : Flat = ready_for edit prefix.register who flat in splicing (splices_of edit prefix.register who ready) who ready
-action_made runs (action.Inserts entry) prefix who flat = let ready : Flat = ready_to_enter entry prefix.register who flat in splicing (splices_before entry who ready) who ready
+action_made runs (action.Edits how) prefix who flat = editing_made how prefix.register who flat
+action_made runs (action.Inserts how) prefix who flat = entering_made how prefix.register who flat
 action_made runs _ prefix who flat = nothing_made flat
 
 -- a character that is gone to; one that takes the place of those selected
@@ -149,14 +167,17 @@ file_made name _ flat = nothing_made flat
 -- row is done
 abbrev pub task_made : ℕ → Task → ℕ → Flat → Making
 task_made runs (RunsKey key) who flat = key_made runs (mode_of who flat) key who flat
-task_made runs (RunsCommand command) who flat = nothing_made flat
-task_made runs (RunsMacro macro) who flat = nothing_made flat
-task_made runs (UsesPattern wanted made) who flat = nothing_made flat
 task_made runs (ShowsFile name answer) who flat = file_made name answer flat
-task_made runs (NotesFile saving answer) who flat = nothing_made flat
-task_made runs GrantsLeave who flat = nothing_made flat
-task_made runs GoesNormal who flat = nothing_made flat
-task_made runs (TakesArguments arguments) who flat = nothing_made flat
+task_made runs _ who flat = nothing_made flat
+
+-- how often a task is run: a key of normal mode as often as its count says
+abbrev pub runs_in : Mode → ℕ → Flat → ℕ
+runs_in Normal who flat = max 1 (prefix_of who flat).count
+runs_in _ who flat = 1
+
+abbrev pub task_runs : Task → ℕ → Flat → ℕ
+task_runs (RunsKey key) who flat = runs_in (mode_of who flat) who flat
+task_runs _ who flat = 1
 
 -- a world has the texts that stand behind so many of the single changes, from the first on
 pub record IsBehindSome (who : ℕ) (made : Making) (new : Flat) : Type 0 where
@@ -167,9 +188,11 @@ pub record IsBehindSome (who : ℕ) (made : Making) (new : Flat) : Type 0 where
 abbrev pub IsWithinMaking : ℕ → Making → Flat → Type 0
 IsWithinMaking who made new = IsBehindSome who made new ⊎ HasSameTexts made.whole new
 
--- the texts of a world are those within a task that began in another: behind some of its single changes, in order, or behind its row
+-- the texts of a world are those within a task that began in another: behind some of its single changes, in order, with some of its
+-- runs before them; or they are those behind its row
 pub record IsWithinRuns (task : Task) (who : ℕ) (flat new : Flat) : Type 0 where
   pub runs : ℕ
+  pub few : runs < task_runs task who flat
   pub within : IsWithinMaking who (task_made runs task who flat) new
 
 abbrev pub AreTextsWithin : Task → ℕ → Flat → Flat → Type 0

@@ -9,8 +9,8 @@ pub fn texts_are_left_within()
     ensures { TextsAreLeftWithin }
 {}
 
-/// In a key each task begins with the texts that the one before it left, the first one with those from before the key; and the last
-/// one leaves the texts that stand behind the key.
+/// In an event each task begins with the texts that the one before it left, the first one with those from before the event; and the
+/// last one leaves the texts that stand behind the event.
 pub fn texts_go_through()
     ensures { TextsGoThrough }
 {}

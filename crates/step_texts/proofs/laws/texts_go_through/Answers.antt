@@ -1,4 +1,4 @@
-use Rattle.step_texts.proofs.CourseLemmas.{goes_through}
+use Rattle.step_texts.proofs.EventLemmas.{goes_through}
 use Rattle.step_texts.proofs.laws.texts_go_through.Goals as goal
 
 pub returns : goal.returns
