@@ -1,11 +1,9 @@
 -- The examples hold by computation.
-use Rattle.std.proofs.Common.{refl, inl, inr}
-use Rattle.kak_world.specs.Flat.{with_own}
-use Rattle.step_texts.proofs.ExampleLemmas.{another-text, breaks-off}
+use Rattle.std.proofs.Common.{refl}
+use Rattle.step_texts.proofs.ExampleLemmas.{nothing-made, another-text, goes-on, breaks-off}
 use Rattle.step_texts.proofs.laws.worked_examples.Goals as goal
 
 pub returns : goal.returns
-unfolding with_own
 returns c = record {
   first = refl;
   behind_none = refl;
@@ -15,8 +13,8 @@ returns c = record {
   edited = refl;
   moved = refl;
   none_began = refl;
-  nothing = inr refl;
+  nothing = nothing-made;
   another = another-text;
-  goes_on = (refl, (refl, refl));
+  goes_on = goes-on;
   breaks_off = λ g. breaks-off g.0;
 }
