@@ -1,5 +1,5 @@
 -- The texts of a world that a step left for which memory was wanting.
-use Rattle.std.proofs.Common.{◌≡◌, ℕ, List, [], ◌∷◌, ◌++◌, refl, ap, ◌∙◌, inl, inr}
+use Rattle.std.proofs.Common.{◌≡◌, ℕ, false, List, [], ◌∷◌, ◌++◌, refl, ap, ◌∙◌, inl, inr}
 use Rattle.std.specs.Prelude.{◌⊎◌, None}
 use Rattle.session_turns.specs.Growth.{Begins}
 use Rattle.session_events.specs.declared.event.Event.{Event}

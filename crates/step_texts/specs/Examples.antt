@@ -1,5 +1,5 @@
 -- Worked examples of texts behind single changes.
-use Rattle.std.specs.Prelude.{◌≡◌, ℕ, List, [], ◌∷◌, take, codes, Some, None}
+use Rattle.std.specs.Prelude.{◌≡◌, ℕ, false, List, [], ◌∷◌, take, codes, Some, None}
 use Rattle.std.specs.declared.option.Option.{Option}
 use Rattle.text_model.specs.Changes.{Change, Insertion, Erasure}
 use Rattle.kak_world.specs.Flat.{Buffer, Flat, opening, made_buffer}
