@@ -73,7 +73,7 @@ key-through who key answers flat = by-leaving (is_client_leaving who flat) who k
 
 -- a step in which hooks are to hear something of a client
 heard-through : (who : ℕ) (task : Task) (answers : List Answered) (old begin new : Flat) → HasSameTexts old begin → HasSameTexts (heard_from who task begin answers).moment.world new →
-                GoThrough (texts_of old) (heard_from who task begin answers).moment.course (texts_of new)
+    GoThrough (texts_of old) (heard_from who task begin answers).moment.course (texts_of new)
 heard-through who task answers old begin new same ended =
     let first : Moment = record { world = begin; answers = answers; fit = true; course = [] } in
     through-step first (heard_from who task begin answers).moment old new (goes-settled Do goes-do (top who) task first) refl same ended

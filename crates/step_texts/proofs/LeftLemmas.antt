@@ -54,7 +54,7 @@ stood who event answers old new same = record { answers = answers; course = []; 
 
 -- an event in which tasks may begin, the first of them in a world with the texts that stood
 of-tasks : (who : ℕ) (event : Event) (old first new : Flat) (before now : Outside) (s : IsStepLeft who event old new before now) → HasSameTexts old first →
-           (IsLeftByEvent event who s.course old new → IsLeftBy (λ x. (x ≡ old) ⊎ (x ≡ first)) s.course new) → AreTextsOfStep who event old new
+    (IsLeftByEvent event who s.course old new → IsLeftBy (λ x. (x ≡ old) ⊎ (x ≡ first)) s.course new) → AreTextsOfStep who event old new
 of-tasks who event old first new before now s same f = record { answers = s.answers; course = s.course; begins = s.begins; left = by s.left }
   where
     by : IsLeftByEvent event who s.course old new ⊎ ((s.course ≡ course_of who event s.answers old) × (new ≡ after_event who event s.answers old)) →
