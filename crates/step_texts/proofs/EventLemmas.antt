@@ -1,13 +1,11 @@
 -- The texts go through each event of a client.
-use Rattle.std.proofs.Common.{◌≡◌, ℕ, Bool, true, false, List, [], ◌∷◌, ◌++◌, refl, sym, ap, ◌∙◌, subst}
-use Rattle.std.specs.Prelude.{if◌then◌else◌, nat_lt, Some, None}
-use Rattle.std.specs.declared.option.Option.{Option}
+use Rattle.std.proofs.Common.{◌≡◌, ℕ, Bool, true, false, List, [], ◌++◌, refl, sym, ap, ◌∙◌, subst}
+use Rattle.std.specs.Prelude.{if◌then◌else◌, nat_lt}
 use Rattle.key_names.specs.declared.key.Key.{Key}
-use Rattle.kak_world.specs.declared.events.Fault.{Fault}
 use Rattle.kak_world.specs.declared.own.Mode.{Mode}
 use Rattle.kak_world.specs.declared.own.Mode.TheVariants.{Normal, Insert, Prompt}
 use Rattle.kak_world.specs.Flat.{Flat, mode_of, is_client_leaving, takes_turn, step_ended}
-use Rattle.kak_world.specs.Events.{faults_of, one_more_fault, fault_counted, fault_kept}
+use Rattle.kak_world.specs.Events.{faults_of, one_more_fault, fault_counted}
 use Rattle.draw_model.specs.Boxes.{with_drawn}
 use Rattle.draw_model.specs.Drawings.{gutter_for}
 use Rattle.pointer_rows.specs.Scrolling.{scrolled}
@@ -17,7 +15,7 @@ use Rattle.session_events.specs.declared.event.Answered.{Answered}
 use Rattle.kak_engine.specs.Course.{Task, NotesComing, NotesGoing, Happened}
 use Rattle.kak_engine.specs.Doing.{DoingEnd, Fine, Failed, GivenUp, Moment, Outcome, top, Do}
 use Rattle.kak_engine.specs.Recording.{recorded}
-use Rattle.kak_engine.specs.Steps.{told, step_begun, come, heard_from, coming, going, after_coming, after_going, begun, first_moment, ends_group, group_ended, key_ended, struck, after_key, course_of_key, course_of, shown_to, pointed_by, after_event}
+use Rattle.kak_engine.specs.Steps.{told, step_begun, come, heard_from, coming, going, after_coming, after_going, first_moment, ends_group, group_ended, key_ended, struck, after_key, course_of_key, course_of, shown_to, pointed_by, after_event}
 use Rattle.step_texts.specs.Texts.{texts_of, HasSameTexts}
 use Rattle.step_texts.specs.Courses.{GoThrough}
 use Rattle.step_texts.proofs.TextLemmas.{texts-rest, texts-own, texts-commits, texts-gone}

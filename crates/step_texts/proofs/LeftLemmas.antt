@@ -1,7 +1,6 @@
 -- The texts of a world that a step left for which memory was wanting.
-use Rattle.std.proofs.Common.{◌≡◌, ℕ, false, List, [], ◌∷◌, ◌++◌, refl, ap, ◌∙◌, inl, inr}
+use Rattle.std.proofs.Common.{◌≡◌, ℕ, false, List, [], ◌∷◌, refl, ap, ◌∙◌, inl, inr}
 use Rattle.std.specs.Prelude.{◌⊎◌, None}
-use Rattle.session_turns.specs.Growth.{Begins}
 use Rattle.session_events.specs.declared.event.Event.{Event}
 use Rattle.session_events.specs.declared.event.Event.TheVariants.{Join, Key as Struck, Resize, Scroll, Mouse as Pointed, Refresh, Leave}
 use Rattle.session_events.specs.declared.event.Answered.{Answered}

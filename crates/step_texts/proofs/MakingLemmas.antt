@@ -1,6 +1,6 @@
 -- A key that came part of the way leaves the texts that stand behind some of its single changes.
 use Rattle.std.proofs.Common.{◌≡◌, ℕ, [], ◌∷◌, List, map, take, refl, sym, ap, ◌∙◌, arith, inl, inr}
-use Rattle.std.specs.Prelude.{◌⊎◌, ◌<◌, max, Some, None}
+use Rattle.std.specs.Prelude.{◌<◌, max, Some, None}
 use Rattle.std.specs.declared.option.Option.{Option}
 use Rattle.std.proofs.Math.Nat.{le-max_left}
 use Rattle.undo_model.specs.declared.travel.Travel.{Travel}
@@ -21,7 +21,7 @@ use Rattle.edit_ops.specs.Erasing.{erasures}
 use Rattle.edit_ops.specs.Filling.{fillings}
 use Rattle.kak_world.specs.declared.own.Mode.{Mode}
 use Rattle.kak_world.specs.declared.own.Mode.TheVariants.{Normal, Insert, Prompt}
-use Rattle.kak_world.specs.Flat.{Flat, shown_of, story_of, sels_of, pending_of, purpose_of, node_number_of}
+use Rattle.kak_world.specs.Flat.{Flat, shown_of, story_of, sels_of, pending_of, node_number_of}
 use Rattle.kak_world.specs.Changing.{splice_changes_of, IsMoveCutIn}
 use Rattle.kak_world.specs.Registers.{with_register}
 use Rattle.key_rows.specs.declared.edits.Edit.{Edit}
@@ -41,8 +41,8 @@ use Rattle.normal_keys.specs.Actions.{action_of}
 use Rattle.normal_keys.specs.Repeating.{once}
 use Rattle.normal_keys.specs.Rows.{character_of, prefix_of, client_cleared}
 use Rattle.normal_keys.specs.Wanting.{before_run, node_beside, is_part_of_once, IsPartOfAction, is_part_of_seeking, is_part_of_filling, IsPartOfAnswer, IsPartOfKey, IsPartOfNormal}
-use Rattle.insert_prompt.specs.Rows.{awaiting, typed_strings}
-use Rattle.insert_prompt.specs.Wanting.{is_part_of_typing, is_part_of_erasing, is_part_of_putting, register_for, IsPartOfBase, IsPartOfInsert, IsPartOfPrompt}
+use Rattle.insert_prompt.specs.Rows.{awaiting}
+use Rattle.insert_prompt.specs.Wanting.{is_part_of_typing, is_part_of_erasing, is_part_of_putting, IsPartOfBase, IsPartOfInsert, IsPartOfPrompt}
 use Rattle.kak_engine.specs.Wanting.{IsPartInMode}
 use Rattle.step_texts.specs.Texts.{texts_of, HasSameTexts}
 use Rattle.step_texts.specs.Makings.{Making, nothing_made, splicing, traveling, once_made, editing_made, placing_made, entering_made, action_made, seeking_made, filling_made, answer_made, waited_made, normal_made, typing_made, erasing_made, putting_made, base_made, insert_made, key_made, runs_in, IsBehindSome, IsWithinMaking}

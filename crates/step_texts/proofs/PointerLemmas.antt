@@ -1,5 +1,5 @@
 -- Neither scrolling nor a mouse changes a text.
-use Rattle.std.proofs.Common.{◌≡◌, ℕ, ℤ, Bool, true, false, refl, ◌∙◌}
+use Rattle.std.proofs.Common.{ℕ, ℤ, Bool, true, false, refl, ◌∙◌}
 use Rattle.std.specs.Prelude.{if◌then◌else◌}
 use Rattle.text_model.specs.declared.coords.Coord.{Coord}
 use Rattle.mouse_events.specs.declared.mouse.Button.TheVariants.{Left, Middle, Right}

@@ -1,6 +1,6 @@
 -- A task that came part of the way leaves the texts that stand behind some of its single changes.
-use Rattle.std.proofs.Common.{◌≡◌, ℕ, true, false, [], ◌∷◌, List, refl, ap, ◌∙◌, inl, inr}
-use Rattle.std.specs.Prelude.{◌⊎◌, codes, Ok, Err}
+use Rattle.std.proofs.Common.{ℕ, true, false, [], ◌∷◌, List, ap, ◌∙◌, inl, inr}
+use Rattle.std.specs.Prelude.{codes, Ok, Err}
 use Rattle.std.specs.declared.result.Result.{Result}
 use Rattle.std.specs.Str.{chars}
 use Rattle.text_coding.specs.declared.form.Eol.{Eol}
@@ -8,23 +8,20 @@ use Rattle.text_coding.specs.declared.form.Bom.{Bom}
 use Rattle.text_coding.specs.declared.form.Loaded.{Loaded}
 use Rattle.text_coding.specs.declared.form.DecodeError.{DecodeError}
 use Rattle.text_coding.specs.Coding.{loaded}
-use Rattle.kak_ports.specs.declared.sink.Put.{Put}
 use Rattle.kak_ports.specs.declared.sink.Put.TheVariants as put
 use Rattle.kak_files.specs.declared.files.FileRead.{FileRead}
 use Rattle.kak_files.specs.declared.files.FileRead.TheVariants as read
 use Rattle.scope_options.specs.Changes.{option_set_in}
 use Rattle.scope_options.specs.declared.scope.Scope.{Scope}
 use Rattle.scope_options.specs.declared.scope.Scope.TheVariants.{Buffer as InBuffer}
-use Rattle.kak_world.specs.declared.ask.Saving.{Saving}
 use Rattle.kak_world.specs.Flat.{Flat, options_of, mode_of}
 use Rattle.kak_world.specs.Events.{coming_noted}
 use Rattle.kak_world.specs.Showing.{first_gap, buffer_opened}
 use Rattle.command_set.specs.Buffers.{row_later}
 use Rattle.command_set.specs.Files.{set_to, eol_word, formatted, loaded_as, loaded_noted, made_empty, made_noted, row_saved}
 use Rattle.command_set.specs.Rows.{row_command}
-use Rattle.command_set.specs.Wanting.{IsPartOfFormat, IsPartOfLoad, IsPartOfLoaded, IsPartOfEmpty, IsPartOfRead, IsPartOfSaved}
+use Rattle.command_set.specs.Wanting.{IsPartOfFormat, IsPartOfLoad, IsPartOfLoaded, IsPartOfEmpty, IsPartOfRead}
 use Rattle.kak_engine.specs.Course.{Task, RunsKey, RunsCommand, RunsMacro, UsesPattern, GoesOn, ShowsFile, NotesFile, GrantsLeave, GoesNormal, TakesArguments, NotesComing, NotesGoing, TakesDue, BeginsHook, TakesParameter, KeepsFault}
-use Rattle.kak_engine.specs.Doing.{task_row}
 use Rattle.kak_engine.specs.Wanting.{IsPartOfTask, IsWithinTask}
 use Rattle.step_texts.specs.Texts.{texts_of, HasSameTexts}
 use Rattle.step_texts.specs.Makings.{opening_made, loading_made, file_made, task_made, task_runs, IsWithinMaking, AreTextsWithin}

@@ -1,12 +1,10 @@
 -- Worked examples of texts behind single changes.
-use Rattle.std.specs.Prelude.{◌≡◌, ℕ, false, List, [], ◌∷◌, take, codes, Some, None}
-use Rattle.std.specs.declared.option.Option.{Option}
-use Rattle.text_model.specs.Changes.{Change, Insertion, Erasure}
+use Rattle.std.specs.Prelude.{◌≡◌, false, List, [], ◌∷◌, take, codes, Some, None}
+use Rattle.text_model.specs.Changes.{Change, Insertion}
 use Rattle.kak_world.specs.Flat.{Buffer, Flat, opening, made_buffer}
 use Rattle.kak_world.specs.Changing.{buffer_edited, buffer_broken_off}
-use Rattle.kak_engine.specs.Course.{Happened, Began, GoesNormal, GrantsLeave}
-use Rattle.step_texts.specs.Texts.{text_in, texts_of, texts_changed, HasSameTexts}
-use Rattle.step_texts.specs.Makings.{nothing_made, AreTextsWithin}
+use Rattle.kak_engine.specs.Course.{Began, GoesNormal, GrantsLeave}
+use Rattle.step_texts.specs.Texts.{texts_of, texts_changed, HasSameTexts}
 use Rattle.step_texts.specs.Courses.{GoThrough, AreTextsLeft}
 
 -- an a goes in before each of two lines
