@@ -15,8 +15,7 @@ use std::test::Fail;
 type Files = FilesAndPatterns<MemFiles, NoPatterns>;
 
 // What a client is sent first.
-const OPTIONS: &str =
-    "{\"jsonrpc\":\"2.0\",\"method\":\"set_ui_options\",\"params\":[{}]}\n";
+const OPTIONS: &str = "{\"jsonrpc\":\"2.0\",\"method\":\"set_ui_options\",\"params\":[{}]}\n";
 
 const PLAIN: &str =
     "{\"attributes\":[],\"bg\":\"default\",\"fg\":\"default\",\"underline\":\"default\"}";
