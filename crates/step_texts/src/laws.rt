@@ -3,8 +3,9 @@
 ghost use Rattle.step_texts.specs.Examples.{Examples};
 ghost use Rattle.step_texts.specs.Laws.{TextsAreLeftWithin, TextsGoThrough};
 
-/// Where memory was wanting in an event, each text is the one from before it, one behind some of the single changes of the last task
-/// that began, in order, or the one behind that task or behind the event. A file that the step opens may be there or not.
+/// Where memory was wanting in an event, the texts are those from before it where no task began; else those behind some of the single
+/// changes of the last task that began, in order, or behind that task; or they are those behind the event. A file that the task opens
+/// may be there or not.
 pub fn texts_are_left_within()
     ensures { TextsAreLeftWithin }
 {}
